@@ -1,5 +1,6 @@
 -- Document 01, "Refusal numbers": what each case of an answer says, what a refusal leaves, and the tests that every call makes first.
-use Prim.Native.Nat.{ℕ, zero, suc, _/_, _^_}
+use Prim.Native.Nat.{ℕ, zero, suc, _*_, _/_, _%_, _^_, _≤_, _<_}
+use mathlib.Core.Path.{_≡_}
 use mathlib.Core.Bool.{Bool, true, false, _&&_, not, Bool·beq}
 use mathlib.Core.Option.{Option, none, some}
 use mathlib.Core.List.{List}
@@ -126,6 +127,25 @@ common pages c =
 
 abbrev pub commonTest : Store → Bool
 commonTest s = common (pageCount (s .ctl .n) (s .heap)) (s .ctl)
+
+-- The same as facts, for what is called after the tests: h, t, r, k are the four lengths.
+pub record Paged (n h : ℕ) : Type 0 where
+  pub low : 4 ≤ n
+  pub high : n ≤ 8
+  pub size : h ≤ 65536
+  pub whole : h % 2 ^ n ≡ 0
+
+pub record Admitted (h t r k : ℕ) (c : Control) : Type 0 where
+  pub paged : Paged (c .n) h
+  pub two : 2 * 2 ^ c .n ≤ h
+  pub table : t ≡ 256
+  pub roots : r ≤ 1024
+  pub consts : k ≤ 65535
+  pub regions : c .regions ≤ 64
+  pub first : c .first ≤ h / 2 ^ c .n
+  pub count : c .count ≤ h / 2 ^ c .n
+  pub some-page : 0 < c .count → 0 < c .first
+  pub no-page : c .count ≡ 0 → c .first ≡ 0
 
 -- the rest of a call after these tests; `refuse` is how the call refuses
 abbrev pub admitted : {O : Type 0} → (Refusal → O) → Store → O → O

@@ -4,6 +4,7 @@ use mathlib.Core.Bool.{Bool, true, false, _&&_}
 use mathlib.Core.Option.{Option, none, some}
 use mathlib.Core.List.{List, [], _∷_}
 use lib.ListN.{length, take, drop}
+use lib.Seq.{slice}
 use lib.Dec.{leb, ltb, eqb}
 use Rattle.laws.specs.Choice.{_⇒_∣_}
 use Rattle.laws.specs.Lists.{at, all}
@@ -76,6 +77,10 @@ wordsBy wrong = 1
 unfoldable pub fit : ℕ → ℕ → Option ℕ
 fit h m = elim (lengthBy (headOf h)) [ none ↦ none | some l ↦ elim (leb l m) [ true ↦ some l | false ↦ none ] ]
 
+-- h is the header of a value that fits into the m words that follow it
+unfoldable pub fits : ℕ → ℕ → Bool
+fits h m = elim (fit h m) [ none ↦ false | some l ↦ true ]
+
 -- ---- Values.
 
 -- "A value is a header and L words."
@@ -93,6 +98,10 @@ vals a zero (w ∷ ws) = elim (fit w (length ws)) [
   | none ↦ []
   | some l ↦ record { at = a; isRec = isRecord w; words = take l ws } ∷ vals (suc a) l ws
 ]
+
+-- the values from address a up to address e
+unfoldable pub valsIn : List ℕ → ℕ → ℕ → List Val
+valsIn h a e = vals a 0 (slice a e h)
 
 -- the values of page k, "from that page's third word"; of the constants, "from constant 0"
 unfoldable pub pageVals : ℕ → List ℕ → ℕ → List Val

@@ -1,0 +1,67 @@
+-- Parts of a list, writing into a part, and two parts of one size that lie apart. All hold word by word.
+use Prim.Native.Nat.{ℕ, zero, suc, _+_, _-_, _*_, _≤_, _<_}
+use native.Mathlib.Nat.{zero-add, mul-le-mul-right}
+use native.Mathlib.Omega.{arith}
+use native.Mathlib.Decide.{decLe}
+use mathlib.Core.Path.{_≡_, refl, sym, ap, _∙_}
+use mathlib.Core.Logic.{_≢_, _⊎_, inl, inr}
+use mathlib.Core.List.{List, [], _∷_, _++_}
+use lib.ListN.{length, take, drop, getD, length-append, length-take, length-drop, drop-of-length-le, List·getD-append}
+use lib.Seq.{slice, take-nil, length-take-le, getD-append-add, getD-take, getD-drop}
+use Rattle.laws.specs.Lists.{at, put}
+
+pub drop-take : (m n : ℕ) (l : List ℕ) → drop m (take (m + n) l) ≡ take n (drop m l)
+drop-take zero n l = rw zero-add
+drop-take (suc m) n [] = let q : suc m + n ≡ suc (m + n) = omega arith in rw q (sym (take-nil n))
+drop-take (suc m) n (x ∷ xs) = let q : suc m + n ≡ suc (m + n) = omega arith in rw q (drop-take m n xs)
+
+pub slice-none : (f t : ℕ) (l : List ℕ) → t ≤ f → slice f t l ≡ []
+slice-none f t l b = let q : length (take t l) ≤ f = simp length-take (omega arith) in drop-of-length-le (take t l) q
+
+-- ---- writing words into a list
+
+pub length-put : (h : List ℕ) (a : ℕ) (ws : List ℕ) → a + length ws ≤ length h → length (put h a ws) ≡ length h
+unfolding put
+length-put h a ws fits =
+    let l : length (take a h) ≡ a = length-take-le a h (omega arith) in
+    simp (length-append, length-drop) (omega arith)
+
+-- what stands before the words, and the words: their length
+front : (h : List ℕ) (a : ℕ) (ws : List ℕ) → a + length ws ≤ length h → length (take a h ++ ws) ≡ a + length ws
+front h a ws fits =
+    let l : length (take a h) ≡ a = length-take-le a h (omega arith) in
+    simp length-append (omega arith)
+
+pub at-put-below : (h : List ℕ) (a : ℕ) (ws : List ℕ) (x : ℕ) → a + length ws ≤ length h → x < a → at (put h a ws) x ≡ at h x
+unfolding put
+at-put-below h a ws x fits b =
+    let l : length (take a h) ≡ a = length-take-le a h (omega arith) in
+    List·getD-append (take a h ++ ws) _ 0 x (omega (arith, front h a ws fits)) ∙ List·getD-append (take a h) ws 0 x (omega arith) ∙ getD-take a h x 0 b
+
+pub at-put-in : (h : List ℕ) (a : ℕ) (ws : List ℕ) (i : ℕ) → a + length ws ≤ length h → i < length ws → at (put h a ws) (a + i) ≡ at ws i
+unfolding put
+at-put-in h a ws i fits b =
+    let l : length (take a h) ≡ a = length-take-le a h (omega arith) in
+    List·getD-append (take a h ++ ws) _ 0 (a + i) (omega (arith, front h a ws fits))
+    ∙ ap (λ k. at (take a h ++ ws) (k + i)) (sym l)
+    ∙ getD-append-add (take a h) ws i 0
+
+pub at-put-above : (h : List ℕ) (a : ℕ) (ws : List ℕ) (x : ℕ) → a + length ws ≤ length h → a + length ws ≤ x → at (put h a ws) x ≡ at h x
+unfolding put
+at-put-above h a ws x fits b =
+    let m : ℕ = a + length ws in
+    let e : x ≡ m + (x - m) = omega arith in
+    ap (at (put h a ws)) (e ∙ ap (λ k. k + (x - m)) (sym (front h a ws fits)))
+    ∙ getD-append-add (take a h ++ ws) _ (x - m) 0
+    ∙ getD-drop m h (x - m) 0
+    ∙ ap (at h) (sym e)
+
+-- ---- parts of one size
+
+-- of two parts with different numbers, one lies before the other
+pub apart : (size k l : ℕ) → k ≢ l → (k * size + size ≤ l * size) ⊎ (l * size + size ≤ k * size)
+apart size k l ne = go (decLe (suc k) l)
+  where
+    go : Dec (suc k ≤ l) → (k * size + size ≤ l * size) ⊎ (l * size + size ≤ k * size)
+    go (yes h) = inl (omega (arith, mul-le-mul-right size h))
+    go (no f) = inr (let h : suc l ≤ k = omega arith in omega (arith, mul-le-mul-right size h))

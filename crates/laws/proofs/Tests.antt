@@ -1,0 +1,104 @@
+-- Tests to facts: what a test over a list or over the numbers below a bound says of each; and one turn of such a test.
+use Prim.Native.Nat.{ℕ, zero, suc, _+_, _-_, _≤_, _<_, zero-le}
+use native.Mathlib.Numerals.{sub-one, add-one}
+use native.Mathlib.Omega.{arith}
+use native.Mathlib.Decide.{ℕ-discrete}
+use mathlib.Core.Path.{_≡_, refl, sym, ap, _∙_}
+use mathlib.Core.Logic.{_⊎_, inl, inr}
+use mathlib.Core.Bool.{Bool, true, false, _&&_}
+use mathlib.Core.List.{List, [], _∷_, List·Memᴰ, List·Memᴰ·cases-cons}
+use lib.ListN.{length, getD}
+use lib.Seq.{slice, slice-cons}
+use lib.Dec.{leb, ltb, eqb}
+use borrow.Author.Tests.{lt-ltb, le-ltb, le-leb, lt-leb, eq-eqb, ne-eqb}
+use Rattle.laws.specs.Lists.{all, allFrom, allBelow, zeros}
+use Rattle.laws.proofs.Lists.{slice-none}
+
+-- what turns the tests of a definition into the tests that the code made
+pub ruleset tests = (lt-ltb, le-ltb, le-leb, lt-leb, eq-eqb, ne-eqb)
+
+pub and-left : (a b : Bool) → (a && b) ≡ true → a ≡ true
+and-left true b e = refl
+and-left false b e = e
+
+pub and-right : (a b : Bool) → (a && b) ≡ true → b ≡ true
+and-right true b e = e
+and-right false b e = let z : _≡_ {A = ℕ} 0 1 = cc in absurd (omega arith)
+
+pub both : {a b : Bool} → (a && b) ≡ true → (a ≡ true) × (b ≡ true)
+both {a} {b} e = (and-left a b e, and-right a b e)
+
+module _ {A : Type 0} (p : A → Bool) where
+  pub all-in : (xs : List A) → all p xs ≡ true → (x : A) → List·Memᴰ x xs → p x ≡ true
+  unfolding all
+  all-in [] t x m = elim m [ ]
+  all-in (y ∷ ys) t x m = go (p y) refl (List·Memᴰ·cases-cons m) (λ u. all-in ys u)
+    where
+      go : (b : Bool) → p y ≡ b → (x ≡ y) ⊎ List·Memᴰ x ys → (all p ys ≡ true → (x : A) → List·Memᴰ x ys → p x ≡ true) → p x ≡ true
+      go true e (inl q) rest = ap p q ∙ e
+      go true e (inr q) rest = rest (rw (e, all) at t) x q
+      go false e q rest = let z : false ≡ true = rw (e, all) at t in let w : _≡_ {A = ℕ} 0 1 = cc in absurd (omega arith)
+
+pub from-in : (p : ℕ → Bool) (m j : ℕ) → allFrom p m j ≡ true → (i : ℕ) → j ≤ i → i < j + m → p i ≡ true
+unfolding allFrom
+from-in p zero j t i a b = absurd (omega arith)
+from-in p (suc m) j t i a b = go (p j) refl (ℕ-discrete i j) (λ u. from-in p m (suc j) u)
+  where
+    go : (q : Bool) → p j ≡ q → Dec (i ≡ j) → (allFrom p m (suc j) ≡ true → (i : ℕ) → suc j ≤ i → i < suc j + m → p i ≡ true) → p i ≡ true
+    go true e (yes q) rest = ap p q ∙ e
+    go true e (no ne) rest = rest (rw (e, allFrom) at t) i (omega arith) (omega arith)
+    go false e q rest = let z : false ≡ true = rw (e, allFrom) at t in let w : _≡_ {A = ℕ} 0 1 = cc in absurd (omega arith)
+
+pub below-in : (p : ℕ → Bool) (n : ℕ) → allBelow p n ≡ true → (i : ℕ) → i < n → p i ≡ true
+below-in p n t i b = from-in p n 0 t i zero-le (omega arith)
+
+-- ---- tests of all, with what comes after them
+
+module _ {A : Type 0} (p : A → Bool) where
+  pub all-turn : (x : A) (xs : List A) (r : Bool) → (all p (x ∷ xs) && r) ≡ (p x && (all p xs && r))
+  unfolding all
+  all-turn x xs r = go (p x) refl
+    where
+      go : (b : Bool) → p x ≡ b → (all p (x ∷ xs) && r) ≡ (p x && (all p xs && r))
+      go true e = rw (e, all)
+      go false e = rw (e, all)
+
+pub from-go : (p : ℕ → Bool) (m j : ℕ) → 0 < m → allFrom p m j ≡ (p j && allFrom p (m - 1) (j + 1))
+unfolding allFrom
+from-go p zero j l = absurd (omega arith)
+from-go p (suc m) j l = rw (sub-one (suc m), add-one j) (go (p j) refl)
+  where
+    go : (b : Bool) → p j ≡ b → allFrom p (suc m) j ≡ (p j && allFrom p m (suc j))
+    go true e = rw (e, allFrom)
+    go false e = rw (e, allFrom)
+
+pub from-end : (p : ℕ → Bool) (m j : ℕ) → m ≤ 0 → allFrom p m j ≡ true
+unfolding allFrom
+from-end p zero j l = refl
+from-end p (suc m) j l = absurd (omega arith)
+
+-- fields, from address f up to address e
+module _ (p : ℕ → Bool) (h : List ℕ) (f e : ℕ) (r : Bool) where
+  pub fields-end : e ≤ f → (all p (slice f e h) && r) ≡ r
+  unfolding all
+  fields-end b = rw (slice-none f e h b)
+
+  pub fields-go : f < e → e ≤ length h → p (getD h f 0) ≡ true → (all p (slice f e h) && r) ≡ (all p (slice (f + 1) e h) && r)
+  fields-go b c t = rw (slice-cons f e h 0 b c, all-turn p, t, add-one f)
+
+  pub fields-stop : f < e → e ≤ length h → p (getD h f 0) ≡ false → (all p (slice f e h) && r) ≡ false
+  fields-stop b c t = rw (slice-cons f e h 0 b c, all-turn p, t)
+
+-- zeros, from address z up to address e
+module _ (h : List ℕ) (z e : ℕ) (r : Bool) where
+  pub zeros-end : e ≤ z → (zeros (slice z e h) && r) ≡ r
+  unfolding zeros
+  zeros-end b = rw (slice-none z e h b)
+
+  pub zeros-go : z < e → e ≤ length h → getD h z 0 ≡ 0 → (zeros (slice z e h) && r) ≡ (zeros (slice (z + 1) e h) && r)
+  unfolding zeros
+  zeros-go b c t = rw (slice-cons z e h 0 b c, zeros, eq-eqb _ _ t, add-one z)
+
+  pub zeros-stop : z < e → e ≤ length h → (getD h z 0 ≡ 0 → ⊥) → (zeros (slice z e h) && r) ≡ false
+  unfolding zeros
+  zeros-stop b c t = rw (slice-cons z e h 0 b c, zeros, ne-eqb _ _ t)

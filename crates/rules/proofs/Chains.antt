@@ -1,0 +1,111 @@
+-- The turn laws of chains and pages: a chain at a link is the page and the chain at its link. Each is stated with what the outer levels
+-- still have to test, `&& r`, so that one law serves every nest.
+use Prim.Native.Nat.{ℕ, zero, suc, _+_, _-_, _*_, _/_, _^_, _≤_, _<_}
+use mathlib.Core.Path.{_≡_, refl, sym, ap, _∙_}
+use mathlib.Core.Bool.{Bool, true, false, _&&_}
+use mathlib.Core.List.{List, [], _∷_}
+use mathlib.Core.Logic.{_≢_, _⊎_, inl, inr}
+use native.Mathlib.Omega.{arith}
+use native.Mathlib.Numerals.{sub-one, add-one}
+use borrow.Author.Tests.{lt-ltb, le-ltb}
+use lib.Dec.{ltb}
+use lib.ListN.{length, take, drop, getD, length-drop}
+use lib.Seq.{slice, drop-drop, length-take-le, getD-take, getD-drop, ext-getD}
+use Rattle.laws.specs.Lists.{at, put, all, allFrom}
+use Rattle.laws.proofs.Lists.{drop-take, apart, length-put, at-put-below, at-put-above}
+use Rattle.laws.proofs.Tests.{all-turn, from-go}
+use Rattle.rules.specs.Memory.{pageWords, link, chain, regionPages}
+use Rattle.rules.specs.Words.{vals, valsIn, pageVals}
+
+-- ---- pages as parts of the heap
+
+pub length-page : (n : ℕ) (h : List ℕ) (k : ℕ) → k * 2 ^ n + 2 ^ n ≤ length h → length (pageWords n h k) ≡ 2 ^ n
+unfolding pageWords
+length-page n h k inside = length-take-le (2 ^ n) (drop (k * 2 ^ n) h) (simp length-drop (omega arith))
+
+pub at-page : (n : ℕ) (h : List ℕ) (k i : ℕ) → i < 2 ^ n → at (pageWords n h k) i ≡ at h (k * 2 ^ n + i)
+unfolding pageWords
+at-page n h k i b = getD-take (2 ^ n) (drop (k * 2 ^ n) h) i 0 b ∙ getD-drop (k * 2 ^ n) h i 0
+
+-- two heaps of one length that agree on page l have the same words there
+pub same-page : (n : ℕ) (g h : List ℕ) (l : ℕ) → l * 2 ^ n + 2 ^ n ≤ length g → length g ≡ length h
+    → ((x : ℕ) → l * 2 ^ n ≤ x → x < l * 2 ^ n + 2 ^ n → at g x ≡ at h x) → pageWords n g l ≡ pageWords n h l
+same-page n g h l inside e agree =
+    ext-getD 0 _ _ (length-page n g l inside ∙ sym (length-page n h l (omega arith)))
+    (λ i b.
+    let b′ : i < 2 ^ n = omega (arith, length-page n g l inside) in
+    at-page n g l i b′ ∙ agree (l * 2 ^ n + i) (omega arith) (omega arith) ∙ sym (at-page n h l i b′))
+
+-- a run of words inside page k leaves every other page's words
+pub at-other-page : (n : ℕ) (h : List ℕ) (k o : ℕ) (ws : List ℕ) (l x : ℕ) → k * 2 ^ n + 2 ^ n ≤ length h → o + length ws ≤ 2 ^ n → l ≢ k
+    → l * 2 ^ n ≤ x → x < l * 2 ^ n + 2 ^ n → at (put h (k * 2 ^ n + o) ws) x ≡ at h x
+at-other-page n h k o ws l x inside fits ne lo hi = go (apart (2 ^ n) l k ne)
+  where
+    go : (l * 2 ^ n + 2 ^ n ≤ k * 2 ^ n) ⊎ (k * 2 ^ n + 2 ^ n ≤ l * 2 ^ n) → at (put h (k * 2 ^ n + o) ws) x ≡ at h x
+    go (inl b) = at-put-below h (k * 2 ^ n + o) ws x (omega arith) (omega arith)
+    go (inr b) = at-put-above h (k * 2 ^ n + o) ws x (omega arith) (omega arith)
+
+pub other-page : (n : ℕ) (h : List ℕ) (k o : ℕ) (ws : List ℕ) (l : ℕ) → k * 2 ^ n + 2 ^ n ≤ length h → o + length ws ≤ 2 ^ n → l ≢ k
+    → l * 2 ^ n + 2 ^ n ≤ length h → pageWords n (put h (k * 2 ^ n + o) ws) l ≡ pageWords n h l
+other-page n h k o ws l inside fits ne inside′ =
+    let e : length (put h (k * 2 ^ n + o) ws) ≡ length h = length-put h (k * 2 ^ n + o) ws (omega arith) in
+    same-page n _ h l (omega arith) e (λ x lo hi. at-other-page n h k o ws l x inside fits ne lo hi)
+
+pub page-part : (n : ℕ) (h : List ℕ) (k : ℕ) → drop 2 (pageWords n h k) ≡ slice (k * 2 ^ n + 2) (k * 2 ^ n + 2 ^ n) h
+unfolding pageWords
+page-part n h k = ap (drop 2) (sym (drop-take (k * 2 ^ n) (2 ^ n) h)) ∙ drop-drop 2 (k * 2 ^ n) (take (k * 2 ^ n + 2 ^ n) h)
+
+pub page-vals : (n : ℕ) (h : List ℕ) (k : ℕ) → pageVals n h k ≡ valsIn h (k * 2 ^ n + 2) (k * 2 ^ n + 2 ^ n)
+unfolding pageVals valsIn
+page-vals n h k = ap (λ ws. vals (k * 2 ^ n + 2) 0 ws) (page-part n h k)
+
+-- ---- chains
+
+-- a chain, from the link k on; a broken one ends in a page that is not there
+module _ (n : ℕ) (h : List ℕ) where
+  pub chain-go : (f k : ℕ) → 0 < f → (k ≡ 0 → ⊥) → k ≤ length h / 2 ^ n → chain f n h k ≡ (k - 1) ∷ chain (f - 1) n h (getD h ((k - 1) * 2 ^ n) 0)
+  unfolding chain link
+  chain-go zero k l z b = absurd (omega arith)
+  chain-go (suc f) zero l z b = absurd (z refl)
+  chain-go (suc f) (suc k) l z b = rw (sub-one (suc f), sub-one (suc k), chain, lt-ltb k (length h / 2 ^ n) b)
+
+  -- the ways out: no link, no such page, no page left to pass
+  pub chain-none : (f k : ℕ) → k ≡ 0 → chain f n h k ≡ []
+  unfolding chain
+  chain-none zero k z = refl
+  chain-none (suc f) k z = rw z
+
+  pub chain-bad : (f k : ℕ) → length h / 2 ^ n < k → chain f n h k ≡ []
+  unfolding chain
+  chain-bad zero k b = refl
+  chain-bad (suc f) zero b = refl
+  chain-bad (suc f) (suc k) b = rw (chain, le-ltb k (length h / 2 ^ n) (omega arith))
+
+  pub chain-out : (f k : ℕ) → f ≤ 0 → chain f n h k ≡ []
+  unfolding chain
+  chain-out zero k l = refl
+  chain-out (suc f) k l = absurd (omega arith)
+
+-- pages of a chain, over code that has p for 2 ^ n
+module _ (q : ℕ → Bool) (n p : ℕ) (e : p ≡ 2 ^ n) (h : List ℕ) (f k : ℕ) (r : Bool) where
+  pub pages-go : 0 < f → (k ≡ 0 → ⊥) → k ≤ length h / p → (all q (chain f n h k) && r) ≡ (q (k - 1) && (all q (chain (f - 1) n h (getD h ((k - 1) * p) 0)) && r))
+  pages-go l z b = rw (chain-go n h f k l z (rw e at b), e) (all-turn q (k - 1) _ r)
+
+  pub pages-none : k ≡ 0 → (all q (chain f n h k) && r) ≡ r
+  unfolding all
+  pages-none z = rw (chain-none n h f k z)
+
+  pub pages-bad : length h / p < k → (all q (chain f n h k) && r) ≡ r
+  unfolding all
+  pages-bad b = rw (chain-bad n h f k (rw e at b))
+
+  pub pages-end : f ≤ 0 → (all q (chain f n h k) && r) ≡ r
+  unfolding all
+  pages-end l = rw (chain-out n h f k l)
+
+-- regions
+pub regions-go : (q : ℕ → ℕ → Bool) (n p : ℕ) → p ≡ 2 ^ n → (h t : List ℕ) (m j : ℕ) → 0 < m
+    → allFrom (λ j. all (q j) (regionPages n h t j)) m j
+    ≡ (all (q j) (chain (length h / p) n h (getD t (4 * j + 1) 0 / p + 1)) && allFrom (λ j. all (q j) (regionPages n h t j)) (m - 1) (j + 1))
+unfolding regionPages
+regions-go q n p e h t m j l = rw (e, add-one) (from-go (λ j. all (q j) (regionPages n h t j)) m j l)

@@ -1,0 +1,60 @@
+-- The turn laws of good pointers: each way in which the code decides is what the definition decides.
+use Prim.Native.Nat.{ℕ, zero, suc, _+_, _-_, _*_, _/_, _%_, _^_, _≤_, _<_}
+use mathlib.Core.Path.{_≡_, refl, sym, ap, _∙_}
+use mathlib.Core.Bool.{Bool, true, false}
+use mathlib.Core.List.{List}
+use native.Mathlib.Omega.{arith}
+use native.Mathlib.Nat.{mul-le-mul-right, le-div-iff-mul-le}
+use borrow.Author.Tests.{le-leb, lt-leb}
+use lib.ListN.{length, getD, List·getD-eq-default}
+use lib.Seq.{take-length}
+use Rattle.rules.specs.Memory.{origin}
+use Rattle.rules.specs.Refusals.{Paged}
+use Rattle.rules.specs.Words.{wordOf, pageVals, valsIn, standsAt, goodOn, goodHeap, goodConst, goodIn}
+use Rattle.rules.proofs.Chains.{page-vals}
+use Rattle.rules.proofs.Limits.{page-size, whole-pages}
+
+module _ (n R : ℕ) (h : List ℕ) (a : ℕ) where
+  pub good-out : Paged n (length h) → length h ≤ a → goodHeap n R h a ≡ false
+  unfolding goodHeap goodOn origin
+  good-out g b =
+      let z = page-size n (g .low) (g .high) in
+      let m : length h / 2 ^ n ≤ a / 2 ^ n = le-div-iff-mul-le {k = 2 ^ n} (omega arith) .1 (rw (whole-pages n (length h) g) b) in
+      let o : length h ≤ a / 2 ^ n * 2 ^ n + 1 = omega (arith, whole-pages n (length h) g, mul-le-mul-right (2 ^ n) m) in
+      rw (goodOn, List·getD-eq-default h 0 o)
+
+  module _ (p : ℕ) (e : p ≡ 2 ^ n) where
+    pub good-none : getD h (a / p * p + 1) 0 < 1 → goodHeap n R h a ≡ false
+    unfolding goodHeap goodOn origin
+    good-none b = rw (← e, goodOn, lt-leb 1 (getD h (a / p * p + 1) 0) b)
+
+    pub good-high : R < getD h (a / p * p + 1) 0 → goodHeap n R h a ≡ false
+    unfolding goodHeap goodOn origin
+    good-high b = rw (← e, goodOn, lt-leb (getD h (a / p * p + 1) 0) R b, le-leb 1 (getD h (a / p * p + 1) 0) (omega arith))
+
+    pub good-go : 1 ≤ getD h (a / p * p + 1) 0 → getD h (a / p * p + 1) 0 ≤ R → goodHeap n R h a ≡ standsAt a (valsIn h (a / p * p + 2) (a / p * p + p))
+    unfolding goodHeap goodOn origin
+    good-go b c = rw (← e, goodOn, le-leb 1 (getD h (a / p * p + 1) 0) b, le-leb (getD h (a / p * p + 1) 0) R c) (ap (standsAt a) (ap (λ x. pageVals n h (a / x)) (sym e) ∙ rw (← e) at (page-vals n h (a / p))))
+
+pub const-go : (h : List ℕ) (a : ℕ) → goodConst h a ≡ standsAt a (valsIn h 0 (length h))
+unfolding goodConst valsIn
+const-go h a = rw (take-length h)
+
+module _ (n R : ℕ) (h k : List ℕ) (w : ℕ) where
+  pub word-heap : w % 4 ≡ 0 → goodIn n R h k w ≡ goodHeap n R h (w / 4)
+  unfolding goodIn wordOf
+  word-heap e = rw (goodIn, e)
+
+  pub word-const : w % 4 ≡ 2 → goodIn n R h k w ≡ goodConst k (w / 4)
+  unfolding goodIn wordOf
+  word-const e = rw (goodIn, e)
+
+  pub word-number : (w % 4 ≡ 0 → ⊥) → (w % 4 ≡ 2 → ⊥) → goodIn n R h k w ≡ true
+  unfolding goodIn wordOf
+  word-number a b = go (w % 4) refl
+    where
+      go : (x : ℕ) → w % 4 ≡ x → goodIn n R h k w ≡ true
+      go zero e = absurd (a e)
+      go (suc zero) e = rw (goodIn, e)
+      go (suc (suc zero)) e = absurd (b e)
+      go (suc (suc (suc x))) e = rw (goodIn, e)

@@ -1,0 +1,95 @@
+-- What a header says, from its remainder by 8.
+use Prim.Native.Nat.{ℕ, zero, suc, _/_, _%_, _≤_}
+use mathlib.Core.Path.{_≡_, refl, sym, ap, _∙_}
+use mathlib.Core.Bool.{Bool, true, false}
+use mathlib.Core.Option.{Option, none, some}
+use native.Mathlib.Omega.{arith}
+use borrow.Author.Tests.{leb-true, le-leb, ne-eqb}
+use lib.Dec.{leb, eqb}
+use Rattle.rules.specs.Words.{headBy, headOf, lengthBy, recordBy, isRecord, fit, fits}
+
+pub fit-some : (w m l : ℕ) → fit w m ≡ some l → (lengthBy (headOf w) ≡ some l) × (l ≤ m)
+unfolding fit
+fit-some w m l e = go (lengthBy (headOf w)) refl
+  where
+    test : (k : ℕ) → lengthBy (headOf w) ≡ some k → (b : Bool) → leb k m ≡ b → (lengthBy (headOf w) ≡ some l) × (l ≤ m)
+    test k p true q =
+        let e′ : some k ≡ some l = sym (rw (p, fit, q)) ∙ e in
+        let r : k ≡ l = cc in
+        (cc, (let c = leb-true k m q in omega arith))
+    test k p false q = let e′ : _≡_ {A = Option ℕ} none (some l) = sym (rw (p, fit, q)) ∙ e in let z : _≡_ {A = ℕ} 0 1 = cc in absurd (omega arith)
+
+    go : (o : Option ℕ) → lengthBy (headOf w) ≡ o → (lengthBy (headOf w) ≡ some l) × (l ≤ m)
+    go none p = let e′ : _≡_ {A = Option ℕ} none (some l) = sym (rw (p, fit)) ∙ e in let z : _≡_ {A = ℕ} 0 1 = cc in absurd (omega arith)
+    go (some k) p = test k p (leb k m) refl
+
+pub fit-is : (w m l : ℕ) → lengthBy (headOf w) ≡ some l → l ≤ m → fit w m ≡ some l
+unfolding fit
+fit-is w m l e b = rw (e, fit, le-leb l m b)
+
+no-head : (r q : ℕ) → (r ≡ 1 → ⊥) → (r ≡ 3 → ⊥) → lengthBy (headBy r q) ≡ none
+no-head zero q a b = refl
+no-head (suc zero) q a b = absurd (a refl)
+no-head (suc (suc zero)) q a b = refl
+no-head (suc (suc (suc zero))) q a b = absurd (b refl)
+no-head (suc (suc (suc (suc zero)))) q a b = refl
+no-head (suc (suc (suc (suc (suc r))))) q a b = refl
+
+head-length : (r q l : ℕ) → lengthBy (headBy r q) ≡ some l → l ≡ q
+head-length zero q l e = let z : _≡_ {A = ℕ} 0 1 = cc in absurd (omega arith)
+head-length (suc zero) q l e = cc
+head-length (suc (suc zero)) q l e = let z : _≡_ {A = ℕ} 0 1 = cc in absurd (omega arith)
+head-length (suc (suc (suc zero))) q l e = cc
+head-length (suc (suc (suc (suc zero)))) q l e = let z : _≡_ {A = ℕ} 0 1 = cc in absurd (omega arith)
+head-length (suc (suc (suc (suc (suc r))))) q l e = let z : _≡_ {A = ℕ} 0 1 = cc in absurd (omega arith)
+
+fits-by : (h m l : ℕ) → lengthBy (headOf h) ≡ some l → fits h m ≡ leb l m
+unfolding fits fit
+fits-by h m l e = go (leb l m) refl
+  where
+    go : (b : Bool) → leb l m ≡ b → fits h m ≡ leb l m
+    go true q = rw (e, fits, fit, q)
+    go false q = rw (e, fits, fit, q)
+
+pub fits-rec : (h m : ℕ) → h % 8 ≡ 1 → fits h m ≡ leb (h / 8) m
+unfolding headOf
+fits-rec h m e = fits-by h m (h / 8) (rw (e, headOf))
+
+pub fits-raw : (h m : ℕ) → h % 8 ≡ 3 → fits h m ≡ leb (h / 8) m
+unfolding headOf
+fits-raw h m e = fits-by h m (h / 8) (rw (e, headOf))
+
+pub fits-not : (h m : ℕ) → (h % 8 ≡ 1 → ⊥) → (h % 8 ≡ 3 → ⊥) → fits h m ≡ false
+unfolding fits fit headOf
+fits-not h m a b = rw (no-head (h % 8) (h / 8) a b, fits, fit)
+
+by-record : (r q : ℕ) → recordBy (headBy r q) ≡ eqb r 1
+by-record zero q = refl
+by-record (suc zero) q = refl
+by-record (suc (suc zero)) q = refl
+by-record (suc (suc (suc zero))) q = refl
+by-record (suc (suc (suc (suc zero)))) q = refl
+by-record (suc (suc (suc (suc (suc r))))) q = sym (ne-eqb (suc (suc (suc (suc (suc r))))) 1 (λ (e : suc (suc (suc (suc (suc r)))) ≡ 1). omega arith))
+
+pub record-by : (h : ℕ) → isRecord h ≡ eqb (h % 8) 1
+unfolding isRecord headOf
+record-by h = by-record (h % 8) (h / 8)
+
+pub fit-of : (h m : ℕ) → fits h m ≡ true → (fit h m ≡ some (h / 8)) × (h / 8 ≤ m)
+unfolding fits headOf
+fit-of h m t = go (fit h m) refl
+  where
+    go : (o : Option ℕ) → fit h m ≡ o → (fit h m ≡ some (h / 8)) × (h / 8 ≤ m)
+    go none e = let q : false ≡ true = sym (rw (e, fits)) ∙ t in let z : _≡_ {A = ℕ} 0 1 = cc in absurd (omega arith)
+    go (some l) e =
+        let f = fit-some h m l e in
+        let q : l ≡ h / 8 = head-length (h % 8) (h / 8) l (f .0) in
+        (e ∙ ap some q, rw (← q) (f .1))
+
+pub fit-none : (h m : ℕ) → fits h m ≡ false → fit h m ≡ none
+unfolding fits
+fit-none h m t = go (fit h m) refl
+  where
+    go : (o : Option ℕ) → fit h m ≡ o → fit h m ≡ none
+    go none e = e
+    go (some l) e = let q : true ≡ false = sym (rw (e, fits)) ∙ t in let z : _≡_ {A = ℕ} 0 1 = cc in absurd (omega arith)

@@ -1,0 +1,5 @@
+pub mod Headers
+pub mod Limits
+pub mod Stepping
+pub mod Chains
+pub mod Good

@@ -1,0 +1,88 @@
+-- What the limits and the common test say as facts, and that a page of a heap within them lies inside it.
+use Prim.Native.Nat.{ℕ, suc, _+_, _*_, _/_, _%_, _^_, _≤_, _<_}
+use mathlib.Core.Path.{_≡_, refl}
+use mathlib.Core.Bool.{Bool, true, false, _&&_, Bool·beq}
+use borrow.Author.Tests.{leb-true, eqb-true, eqb-false, eq-eqb}
+use lib.Dec.{leb, eqb}
+use Rattle.laws.proofs.Tests.{both}
+use native.Mathlib.Omega.{arith}
+use native.Mathlib.Nat.{mul-le-mul-right, div-add-mod', div-lt-iff-lt-mul}
+use lib.Pow.{pow-mono}
+use Rattle.rules.specs.declared.Control.{Control}
+use Rattle.rules.specs.Memory.{limits}
+use Rattle.rules.specs.Refusals.{common, Paged, Admitted}
+
+pub page-size : (n : ℕ) → 4 ≤ n → n ≤ 8 → (16 ≤ 2 ^ n) × (2 ^ n ≤ 256)
+page-size n a b = (pow-mono {i = 4} a, pow-mono {j = 8} b)
+
+pub whole-pages : (n h : ℕ) → Paged n h → h / 2 ^ n * 2 ^ n ≡ h
+whole-pages n h g = let w = g .whole in omega (arith, div-add-mod' h (2 ^ n))
+
+pub record Inside (p base h : ℕ) : Type 0 where
+  pub ends : base + p ≤ h
+  pub low : 16 ≤ p
+  pub high : p ≤ 256
+  pub size : h ≤ 65536
+
+-- page k lies inside
+pub page-inside : (n h p k : ℕ) → p ≡ 2 ^ n → Paged n h → k < h / 2 ^ n → Inside p (k * p) h
+page-inside n h p k q g b =
+    let z = page-size n (g .low) (g .high) in
+    rw q
+    (record {
+      ends = omega (arith, whole-pages n h g, mul-le-mul-right (2 ^ n) b);
+      low = z .0;
+      high = z .1;
+      size = g .size;
+    })
+
+-- the page of address a lies inside
+pub in-page : (n h p a : ℕ) → p ≡ 2 ^ n → Paged n h → a < h → Inside p (a / p * p) h
+in-page n h p a q g b =
+    let z = page-size n (g .low) (g .high) in
+    let d : a / 2 ^ n < h / 2 ^ n = div-lt-iff-lt-mul {k = 2 ^ n} (omega arith) .1 (rw (whole-pages n h g) b) in
+    page-inside n h p (a / p) q g (rw q d)
+
+-- ---- the tests of every call, as facts
+
+-- first and count are 0 together
+both-some : (f k : ℕ) → Bool·beq (eqb f 0) (eqb k 0) ≡ true → 0 < k → 0 < f
+both-some f k e b = go (eqb f 0) refl (eqb k 0) refl
+  where
+    go : (x : Bool) → eqb f 0 ≡ x → (y : Bool) → eqb k 0 ≡ y → 0 < f
+    go true p true q = let z = eqb-true k 0 q in absurd (omega arith)
+    go true p false q = let e′ : false ≡ true = rw (p, q) at e in let z : _≡_ {A = ℕ} 0 1 = cc in absurd (omega arith)
+    go false p y q = let z = eqb-false f 0 p in omega arith
+
+both-none : (f k : ℕ) → Bool·beq (eqb f 0) (eqb k 0) ≡ true → k ≡ 0 → f ≡ 0
+both-none f k e b = go (eqb f 0) refl
+  where
+    go : (x : Bool) → eqb f 0 ≡ x → f ≡ 0
+    go true p = eqb-true f 0 p
+    go false p = let e′ : false ≡ true = rw (p, eq-eqb k 0 b) at e in let z : _≡_ {A = ℕ} 0 1 = cc in absurd (omega arith)
+
+pub admits : (h t r k : ℕ) (c : Control) → limits (c .n) h t r k ≡ true → common (h / 2 ^ c .n) c ≡ true → Admitted h t r k c
+unfolding limits common
+admits h t r k c l m =
+    let (l7, k1) = both l in
+    let (l6, r1) = both l7 in
+    let (l5, t1) = both l6 in
+    let (l4, h1) = both l5 in
+    let (l3, w2) = both l4 in
+    let (l2, w1) = both l3 in
+    let (n4, n8) = both l2 in
+    let (m3, fk) = both m in
+    let (m2, c1) = both m3 in
+    let (r64, f1) = both m2 in
+    record {
+      paged = record { low = leb-true _ _ n4; high = leb-true _ _ n8; size = leb-true _ _ h1; whole = eqb-true _ _ w1 };
+      two = leb-true _ _ w2;
+      table = eqb-true _ _ t1;
+      roots = leb-true _ _ r1;
+      consts = leb-true _ _ k1;
+      regions = leb-true _ _ r64;
+      first = leb-true _ _ f1;
+      count = leb-true _ _ c1;
+      some-page = both-some (c .first) (c .count) fk;
+      no-page = both-none (c .first) (c .count) fk;
+    }
