@@ -1,12 +1,16 @@
 // Headers, good pointers, whole numbers, and the value that a pointer names.
+use pages::page_words;
 use rules::Address;
-use rules::Page;
+use rules::Numbered;
+use rules::Refusal;
+use rules::Worded;
 use rules::address_page;
 use rules::page_address;
 use rules::pointer_address;
 ghost use mathlib.Core.Path.{_≡_};
 ghost use Prim.Native.Nat.{_+_, _≤_, _^_};
 ghost use lib.ListN.{length};
+ghost use Rattle.rules.specs.Calls.{wordOfNumber, numberOfWord};
 ghost use Rattle.rules.specs.Refusals.{Paged};
 ghost use Rattle.rules.specs.Words.{fits as fitsIn, isRecord, valsIn, standsAt, goodHeap, goodConst, goodIn};
 
@@ -61,7 +65,6 @@ pub fn good_heap(heap: &[u32], n: u32, regions: u32, a: Address) -> bool
     }
     let page = address_page(a, n);
     let base = page_address(page, n).0;
-    let size = page_address(Page(1), n).0;
     let origin = heap[base + 1];
     if origin < 1 {
         return false;
@@ -69,7 +72,9 @@ pub fn good_heap(heap: &[u32], n: u32, regions: u32, a: Address) -> bool
     if regions < origin {
         return false;
     }
-    stands(heap, Address(base + 2), Address(base + size), a)
+    let start = base + 2;
+    let end = base + page_words(n);
+    stands(heap, Address(start), Address(end), a)
 }
 
 // Whether a pointer to constant address a is good.
@@ -92,4 +97,36 @@ pub fn good_word(heap: &[u32], consts: &[u32], n: u32, regions: u32, w: u32) -> 
         return good_const(consts, pointer_address(w));
     }
     true
+}
+
+// A whole number as a word. Below 0 the bits of i turned over are -1 - i, which is counted from 0 again.
+pub fn word_of_number(i: i32) -> Worded
+    ensures { λ r. ⌜ r ≡ wordOfNumber i ⌝ }
+{
+    if i < 0 {
+        let below = !i as u32;
+        if below < 1073741824 {
+            return Worded::Done(4294967295 - 2 * below);
+        }
+        return Worded::Refused(Refusal::NoNumber);
+    }
+    let above = i as u32;
+    if above < 1073741824 {
+        return Worded::Done(2 * above + 1);
+    }
+    Worded::Refused(Refusal::NoNumber)
+}
+
+// A word as a whole number.
+pub fn number_of_word(w: u32) -> Numbered
+    ensures { λ r. ⌜ r ≡ numberOfWord w ⌝ }
+{
+    if w % 2 == 0 {
+        return Numbered::Refused(Refusal::NoNumber);
+    }
+    if w < 2147483648 {
+        return Numbered::Done((w / 2) as i32);
+    }
+    let below = ((4294967295 - w) / 2) as i32;
+    Numbered::Done(!below)
 }
