@@ -1,10 +1,14 @@
 // Lengths and the common test, clearing a page, taking a page, a page by its number.
 ghost use mathlib.Core.Path.{_≡_};
 ghost use Prim.Native.Nat.{_+_, _-_, _*_, _/_, _^_, _≤_, _<_};
-ghost use Rattle.rules.specs.Memory.{limits};
+ghost use lib.ListN.{length};
+ghost use Rattle.rules.specs.Memory.{limits, lent};
 ghost use Rattle.rules.specs.Refusals.{common};
+ghost use Rattle.rules.specs.Calls.{pageByNumber, pageRefusal};
 ghost use Rattle.pages.specs.First.{firstTests};
 use rules::Control;
+use rules::Page;
+use rules::Plain;
 use rules::Refusal;
 
 // The words of a page.
@@ -87,4 +91,25 @@ pub fn first_tests(heap: usize, table: usize, roots: usize, consts: usize, c: Co
         return Tested::Refused(Refusal::Broken(0));
     }
     Tested::Fine
+}
+
+// Whether a page can be handed back by its number, and why not.
+pub fn page_refusal(
+    heap: &[u32],
+    table: &[u32],
+    roots: &[u32],
+    consts: &[u32],
+    c: Control,
+    k: Page,
+) -> Plain
+    ensures { λ r. ⌜ r ≡ pageRefusal (lent (now (heap .entry)) (now (table .entry)) (now (roots .entry)) (now (consts .entry)) c) (k .0) ⌝ }
+{
+    let tested = first_tests(heap.len(), table.len(), roots.len(), consts.len(), c);
+    if let Tested::Refused(why) = tested {
+        return Plain::Refused(why, c);
+    }
+    if page_count(heap.len(), c.n) <= k.0 {
+        return Plain::Refused(Refusal::NoSuch, c);
+    }
+    Plain::Done(c)
 }
