@@ -4,4 +4,5 @@ pub mod Stepping
 pub mod Chains
 pub mod Good
 pub mod Looks
+pub mod Pages
 pub mod Soundings
