@@ -9,6 +9,7 @@ use lib.Dec.{leb}
 use lib.ListN.{length, take, drop, getD}
 use Rattle.laws.specs.Lists.{at}
 use Rattle.laws.specs.Choice.{_⇒_∣_}
+use Rattle.rules.specs.Calls.{isThere}
 use Rattle.rules.specs.Memory.{origin}
 use Rattle.rules.specs.Refusals.{Paged}
 use Rattle.rules.specs.Words.{wordOf, headOf, wordsBy, fits, valsIn, pageVals, standsAt, goodOn, goodHeap, goodConst, valueAt, look}
@@ -80,3 +81,12 @@ look-number n R h k w a b = go (w % 4) refl
     go (suc zero) e = rw (look, e)
     go (suc (suc zero)) e = absurd (b e)
     go (suc (suc (suc x))) e = rw (look, e)
+
+-- a value is there if it has words
+pub there-none : (v : List ℕ) → length v ≡ 0 → isThere v ≡ false
+there-none [] e = refl
+there-none (h ∷ ws) e = absurd (omega arith)
+
+pub there-some : (v : List ℕ) → (length v ≡ 0 → ⊥) → isThere v ≡ true
+there-some [] e = absurd (e refl)
+there-some (h ∷ ws) e = refl

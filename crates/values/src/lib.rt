@@ -1,8 +1,13 @@
-// Headers, good pointers, whole numbers, and the value that a pointer names.
+// Headers, good pointers, whole numbers, and the calls on one value: fetching it, assigning a field, setting a root, walking a path.
+use pages::Tested;
+use pages::first_tests;
 use pages::page_words;
 use rules::Address;
+use rules::Control;
 use rules::Numbered;
+use rules::Plain;
 use rules::Refusal;
+use rules::Valued;
 use rules::Worded;
 use rules::address_page;
 use rules::page_address;
@@ -13,8 +18,9 @@ ghost use mathlib.Core.List.{[]};
 ghost use Prim.Native.Nat.{_+_, _-_, _≤_, _<_};
 ghost use lib.ListN.{length};
 ghost use Rattle.laws.specs.Lists.{at};
-ghost use Rattle.rules.specs.Calls.{wordOfNumber, numberOfWord};
-ghost use Rattle.rules.specs.Refusals.{Paged};
+ghost use Rattle.rules.specs.Calls.{wordOfNumber, numberOfWord, fetch as fetchOf, fetchRefusal, setRoot};
+ghost use Rattle.rules.specs.Memory.{lent};
+ghost use Rattle.rules.specs.Refusals.{Paged, outcome};
 ghost use Rattle.rules.specs.Words.{fits as fitsIn, isRecord, valsIn, standsAt, goodHeap, goodConst, goodIn, valueAt, look as lookOf};
 
 // Whether h is the header of a value that fits into the m words that follow it.
@@ -170,4 +176,71 @@ pub fn number_of_word(w: u32) -> Numbered
     }
     let below = ((4294967295 - w) / 2) as i32;
     Numbered::Done(!below)
+}
+
+// The value that a word points to, as a part of the heap or of the constants; an empty part where the call is refused.
+pub fn fetch<'a>(
+    heap: &'a [u32],
+    table: &'a [u32],
+    roots: &'a [u32],
+    consts: &'a [u32],
+    c: Control,
+    w: u32,
+) -> &'a [u32]
+    ensures { λ r. ⌜ now r ≡ fetchOf (lent (now (heap .entry)) (now (table .entry)) (now (roots .entry)) (now (consts .entry)) c) w ⌝ }
+{
+    let tested = first_tests(heap.len(), table.len(), roots.len(), consts.len(), c);
+    if let Tested::Refused(_) = tested {
+        return nothing(heap);
+    }
+    look(heap, consts, c.n, c.regions, w)
+}
+
+// Whether a fetch is refused, and why.
+pub fn fetch_refusal<'a>(
+    heap: &'a [u32],
+    table: &'a [u32],
+    roots: &'a [u32],
+    consts: &'a [u32],
+    c: Control,
+    w: u32,
+) -> Plain
+    ensures { λ r. ⌜ r ≡ fetchRefusal (lent (now (heap .entry)) (now (table .entry)) (now (roots .entry)) (now (consts .entry)) c) w ⌝ }
+{
+    let tested = first_tests(heap.len(), table.len(), roots.len(), consts.len(), c);
+    if let Tested::Refused(why) = tested {
+        return Plain::Refused(why, c);
+    }
+    let value = look(heap, consts, c.n, c.regions, w);
+    if value.len() == 0 {
+        return Plain::Refused(Refusal::NotGood, c);
+    }
+    Plain::Done(c)
+}
+
+// Root number `root` becomes the word, which is a number or a good pointer.
+pub fn set_root(
+    heap: &[u32],
+    table: &[u32],
+    roots: &mut [u32],
+    consts: &[u32],
+    c: Control,
+    root: usize,
+    word: u32,
+) -> Plain
+    ensures { λ r. ⌜ outcome r (now (heap .entry)) (now (table .entry)) (now (roots .exit)) (now (consts .entry))
+        ≡ setRoot (lent (now (heap .entry)) (now (table .entry)) (now (roots .entry)) (now (consts .entry)) c) root word ⌝ }
+{
+    let tested = first_tests(heap.len(), table.len(), roots.len(), consts.len(), c);
+    if let Tested::Refused(why) = tested {
+        return Plain::Refused(why, c);
+    }
+    if roots.len() <= root {
+        return Plain::Refused(Refusal::NoSuch, c);
+    }
+    if !good_word(heap, consts, c.n, c.regions, word) {
+        return Plain::Refused(Refusal::NotGood, c);
+    }
+    roots[root] = word;
+    Plain::Done(c)
 }
