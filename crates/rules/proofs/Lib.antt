@@ -4,5 +4,6 @@ pub mod Stepping
 pub mod Chains
 pub mod Good
 pub mod Looks
+pub mod Walks
 pub mod Pages
 pub mod Soundings

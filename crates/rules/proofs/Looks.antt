@@ -12,12 +12,41 @@ use Rattle.laws.specs.Choice.{_⇒_∣_}
 use Rattle.rules.specs.Calls.{isThere}
 use Rattle.rules.specs.Memory.{origin}
 use Rattle.rules.specs.Refusals.{Paged}
-use Rattle.rules.specs.Words.{wordOf, headOf, wordsBy, fits, valsIn, pageVals, standsAt, goodOn, goodHeap, goodConst, valueAt, look}
+use Rattle.rules.specs.Words.{Word, number, inHeap, inConst, wordOf, headOf, wordsBy, fits, valsIn, pageVals, standsAt, goodOn, goodHeap, goodConst, valueAt, look}
 use Rattle.rules.proofs.Chains.{page-vals}
 use Rattle.rules.proofs.Good.{good-out, const-go}
 use Rattle.rules.proofs.Headers.{fits-more, fits-words}
 use Rattle.rules.proofs.Limits.{in-page}
 use Rattle.rules.proofs.Stepping.{stands-fits}
+
+-- ---- what a word is
+
+pub word-is-number : (w : ℕ) → w % 2 ≡ 1 → wordOf w ≡ number
+unfolding wordOf
+word-is-number w odd = go (w % 4) refl
+  where
+    go : (x : ℕ) → w % 4 ≡ x → wordOf w ≡ number
+    go zero e = absurd (omega arith)
+    go (suc zero) e = rw (wordOf, e)
+    go (suc (suc zero)) e = absurd (omega arith)
+    go (suc (suc (suc x))) e = rw (wordOf, e)
+
+-- over code that has the address as a
+pub word-is-const : (w a : ℕ) → a ≡ w / 4 → w % 4 ≡ 2 → wordOf w ≡ inConst a
+unfolding wordOf
+word-is-const w a q e = rw (wordOf, e, q)
+
+pub word-is-heap : (w a : ℕ) → a ≡ w / 4 → (w % 2 ≡ 1 → ⊥) → (w % 4 ≡ 2 → ⊥) → wordOf w ≡ inHeap a
+unfolding wordOf
+word-is-heap w a q even ne = go (w % 4) refl
+  where
+    go : (x : ℕ) → w % 4 ≡ x → wordOf w ≡ inHeap a
+    go zero e = rw (wordOf, e, q)
+    go (suc zero) e = absurd (omega arith)
+    go (suc (suc zero)) e = absurd (ne e)
+    go (suc (suc (suc x))) e = absurd (omega arith)
+
+-- ---- the value that a good pointer names
 
 -- a good pointer's value fits into its memory
 module _ (n R : ℕ) (h : List ℕ) (a : ℕ) where
