@@ -1,4 +1,4 @@
--- `values::walk_from` meets its contract. The path handed on is the path without its first field, so the rest of the walk is the walk of
+-- `paths::walk_from` meets its contract. The path handed on is the path without its first field, so the rest of the walk is the walk of
 -- the rest; the measure is the path's length.
 use mathlib.Core.Path.{sym, ap, _∙_}
 use native.Mathlib.Omega.{arith}
@@ -10,13 +10,13 @@ use Rattle.rules.proofs.Walks.{walk-number-end, walk-number, walk-not-good, wal
 use Prim.Native.Nat.{ℕ, _<_}
 use borrow.Fn.Kinds.{In}
 use borrow.Fn.PlainCycle.{Measures, is, falls, and}
-use Rattle.values.proofs.walk_from.Reads as walk-from
-use Rattle.values.proofs.walk_from.Kinds as walk-from-kinds
-use Rattle.values.proofs.+walk_from.Lts-walk_from as walk-from-lts
+use Rattle.paths.proofs.walk_from.Reads as walk-from
+use Rattle.paths.proofs.walk_from.Kinds as walk-from-kinds
+use Rattle.paths.proofs.+walk_from.Lts-walk_from as walk-from-lts
 use Rattle.values.proofs.is_record.Reads as is-record-reads
 use Rattle.values.proofs.look.Reads as look-reads
-use Rattle.values.proofs.+walk_from.{statement}
-use Rattle.values.proofs.+walk_from.Tie.{close}
+use Rattle.paths.proofs.+walk_from.{statement}
+use Rattle.paths.proofs.+walk_from.Tie.{close}
 
 abbrev μ-walk-from : Measures 2 walk-from-kinds.ps ℕ
 μ-walk-from κs a = length (a .1 .1 .1 .1 .0 .now)

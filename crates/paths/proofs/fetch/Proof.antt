@@ -1,11 +1,11 @@
--- `values::fetch` meets its contract: after the first tests it hands back what `look` does.
+-- `paths::fetch` meets its contract: after the first tests it hands back what `look` does.
 use mathlib.Core.Path.{_∙_}
 use mathlib.Core.List.{[]}
 use borrow.Author.Needs.{needs}
 use Rattle.rules.specs.Calls.{fetch}
 use Rattle.pages.proofs.First.{tests-refuse, tests-pass, tests-admit}
-use Rattle.values.proofs.fetch.Statement.{statement}
-use Rattle.values.proofs.fetch.Tie as tie
+use Rattle.paths.proofs.fetch.Statement.{statement}
+use Rattle.paths.proofs.fetch.Tie as tie
 
 first-tests-requires : tie.Need-first-tests-requires
 first-tests-requires c κs = search needs

@@ -1,4 +1,4 @@
--- `values::set_root` meets its contract: the tests in their order, and one word written inside the roots.
+-- `paths::set_root` meets its contract: the tests in their order, and one word written inside the roots.
 use borrow.Author.Needs.{needs}
 use borrow.Author.Tests.{le-leb, lt-leb}
 use lib.ListN.{length}
@@ -6,8 +6,8 @@ use Rattle.rules.specs.Calls.{setRoot}
 use Rattle.rules.specs.Memory.{lent}
 use Rattle.rules.specs.Refusals.{refused}
 use Rattle.pages.proofs.First.{tests-refuse, tests-pass, tests-admit}
-use Rattle.values.proofs.set_root.Statement.{statement}
-use Rattle.values.proofs.set_root.Tie as tie
+use Rattle.paths.proofs.set_root.Statement.{statement}
+use Rattle.paths.proofs.set_root.Tie as tie
 
 first-tests-requires : tie.Need-first-tests-requires
 first-tests-requires c κs = search needs

@@ -1,16 +1,11 @@
--- `values::walk` meets its contract: the first tests, the root's number, and then the walk from that root's word.
-use mathlib.Core.Path.{sym, _∙_}
+-- `paths::walk` meets its contract: the first tests, the root's number, and then the walk from that root's word.
 use borrow.Author.Tests.{le-leb, lt-leb}
 use Rattle.rules.specs.declared.Valued.{Valued}
 use Rattle.rules.specs.Calls.{walk}
 use Rattle.pages.proofs.First.{tests-refuse, tests-pass, tests-admit}
 use borrow.Author.Needs.{needs}
-use Rattle.values.proofs.walk.Statement.{statement}
-use Rattle.values.proofs.walk.Tie as tie
-use Rattle.values.proofs.walk.Reads as reads
-use Rattle.values.proofs.walk.Lts as lts
-use Rattle.pages.proofs.first_tests.Reads as first-tests-reads
-use Rattle.values.proofs.walk_from.Reads as walk-from-reads
+use Rattle.paths.proofs.walk.Statement.{statement}
+use Rattle.paths.proofs.walk.Tie as tie
 
 first-tests-requires : tie.Need-first-tests-requires
 first-tests-requires c κs = search needs

@@ -1,11 +1,11 @@
--- `values::fetch_refusal` meets its contract: a value that is there has at least its header, so the part is empty only where there is none.
+-- `paths::fetch_refusal` meets its contract: a value that is there has at least its header, so the part is empty only where there is none.
 use borrow.Author.Needs.{needs}
 use Rattle.rules.specs.declared.Plain.{Plain}
 use Rattle.rules.specs.Calls.{fetchRefusal}
 use Rattle.rules.proofs.Looks.{there-none, there-some}
 use Rattle.pages.proofs.First.{tests-refuse, tests-pass, tests-admit}
-use Rattle.values.proofs.fetch_refusal.Statement.{statement}
-use Rattle.values.proofs.fetch_refusal.Tie as tie
+use Rattle.paths.proofs.fetch_refusal.Statement.{statement}
+use Rattle.paths.proofs.fetch_refusal.Tie as tie
 
 first-tests-requires : tie.Need-first-tests-requires
 first-tests-requires c κs = search needs
