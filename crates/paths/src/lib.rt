@@ -124,7 +124,7 @@ pub fn assign(
     assign_into(heap, consts, c, w, field, word)
 }
 
-// Root number `root` becomes the word, which is a number or a good pointer.
+// Root number `root` becomes the word w, which is a number or a good pointer.
 pub fn set_root(
     heap: &[u32],
     table: &[u32],
@@ -132,10 +132,10 @@ pub fn set_root(
     consts: &[u32],
     c: Control,
     root: usize,
-    word: u32,
+    w: u32,
 ) -> Plain
     ensures { λ r. ⌜ outcome r (now (heap .entry)) (now (table .entry)) (now (roots .exit)) (now (consts .entry))
-        ≡ setRoot (lent (now (heap .entry)) (now (table .entry)) (now (roots .entry)) (now (consts .entry)) c) root word ⌝ }
+        ≡ setRoot (lent (now (heap .entry)) (now (table .entry)) (now (roots .entry)) (now (consts .entry)) c) root w ⌝ }
 {
     let tested = first_tests(heap.len(), table.len(), roots.len(), consts.len(), c);
     if let Tested::Refused(why) = tested {
@@ -144,10 +144,10 @@ pub fn set_root(
     if roots.len() <= root {
         return Plain::Refused(Refusal::NoSuch, c);
     }
-    if !good_word(heap, consts, c.n, c.regions, word) {
+    if !good_word(heap, consts, c.n, c.regions, w) {
         return Plain::Refused(Refusal::NotGood, c);
     }
-    roots[root] = word;
+    roots[root] = w;
     Plain::Done(c)
 }
 
@@ -162,21 +162,21 @@ pub fn walk_from<'a>(heap: &'a [u32], consts: &'a [u32], c: Control, w: u32, pat
         }
         return Valued::Refused(Refusal::NoFields, c);
     }
-    let value = look(heap, consts, c.n, c.regions, w);
-    if value.len() == 0 {
+    let met = look(heap, consts, c.n, c.regions, w);
+    if met.len() == 0 {
         return Valued::Refused(Refusal::NotGood, c);
     }
     if path.len() == 0 {
         return Valued::Done(w, c);
     }
-    if !is_record(value[0]) {
+    if !is_record(met[0]) {
         return Valued::Refused(Refusal::NoFields, c);
     }
     let field = path[0] as usize;
-    if value.len() - 1 <= field {
+    if met.len() - 1 <= field {
         return Valued::Refused(Refusal::NoSuch, c);
     }
-    let next = value[field + 1];
+    let next = met[field + 1];
     walk_from(heap, consts, c, next, &path[1..])
 }
 
