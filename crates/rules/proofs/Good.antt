@@ -1,7 +1,7 @@
 -- The turn laws of good pointers: each way in which the code decides is what the definition decides.
 use Prim.Native.Nat.{ℕ, zero, suc, _+_, _-_, _*_, _/_, _%_, _^_, _≤_, _<_}
-use mathlib.Core.Path.{_≡_, refl, sym, ap, _∙_}
-use mathlib.Core.Bool.{Bool, true, false}
+use mathlib.Core.Path.{_≡_, refl, ap}
+use mathlib.Core.Bool.{true, false}
 use mathlib.Core.List.{List}
 use native.Mathlib.Omega.{arith}
 use native.Mathlib.Nat.{mul-le-mul-right, le-div-iff-mul-le}
@@ -10,7 +10,7 @@ use lib.ListN.{length, getD, List·getD-eq-default}
 use lib.Seq.{take-length}
 use Rattle.rules.specs.Memory.{origin}
 use Rattle.rules.specs.Refusals.{Paged}
-use Rattle.rules.specs.Words.{wordOf, pageVals, valsIn, standsAt, goodOn, goodHeap, goodConst, goodIn}
+use Rattle.rules.specs.Words.{wordOf, valsIn, standsAt, goodOn, goodHeap, goodConst, goodIn}
 use Rattle.rules.proofs.Chains.{page-vals}
 use Rattle.rules.proofs.Limits.{page-size, whole-pages}
 
