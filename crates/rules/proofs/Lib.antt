@@ -3,6 +3,8 @@ pub mod Limits
 pub mod Stepping
 pub mod Chains
 pub mod Good
+pub mod Looks
+pub mod Walks
 pub mod Pages
 pub mod Soundings
 pub mod Fresh
