@@ -7,3 +7,4 @@ pub mod Looks
 pub mod Walks
 pub mod Pages
 pub mod Soundings
+pub mod Fresh
