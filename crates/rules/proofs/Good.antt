@@ -23,7 +23,7 @@ module _ (n R : ℕ) (h : List ℕ) (a : ℕ) where
       let o : length h ≤ a / 2 ^ n * 2 ^ n + 1 = omega (arith, whole-pages n (length h) g, mul-le-mul-right (2 ^ n) m) in
       rw (goodOn, List·getD-eq-default h 0 o)
 
-  -- over code that has the address of a's page as base, and p for 2 ^ n
+  -- over code that has the address of a's page as base
   module _ (base : ℕ) (e : base ≡ a / 2 ^ n * 2 ^ n) where
     pub good-none : getD h (base + 1) 0 < 1 → goodHeap n R h a ≡ false
     unfolding goodHeap goodOn origin
@@ -33,11 +33,12 @@ module _ (n R : ℕ) (h : List ℕ) (a : ℕ) where
     unfolding goodHeap goodOn origin
     good-high b = rw (← e, goodOn, lt-leb (getD h (base + 1) 0) R b, le-leb 1 (getD h (base + 1) 0) (omega arith))
 
-    pub good-go : (p : ℕ) → p ≡ 2 ^ n → 1 ≤ getD h (base + 1) 0 → getD h (base + 1) 0 ≤ R → goodHeap n R h a ≡ standsAt a (valsIn h (base + 2) (base + p))
+    pub good-go : (start end : ℕ) → start ≡ base + 2 → end ≡ base + 2 ^ n → 1 ≤ getD h (base + 1) 0 → getD h (base + 1) 0 ≤ R
+        → goodHeap n R h a ≡ standsAt a (valsIn h start end)
     unfolding goodHeap goodOn origin
-    good-go p q b c =
+    good-go start end p q b c =
         rw (← e, goodOn, le-leb 1 (getD h (base + 1) 0) b, le-leb (getD h (base + 1) 0) R c)
-        (ap (standsAt a) (rw (e, q) (page-vals n h (a / 2 ^ n))))
+        (ap (standsAt a) (rw (p, q, e) (page-vals n h (a / 2 ^ n))))
 
 pub const-go : (h : List ℕ) (a : ℕ) → goodConst h a ≡ standsAt a (valsIn h 0 (length h))
 unfolding goodConst valsIn
