@@ -19,18 +19,6 @@ use Rattle.facts.proofs.Steps.{Stands, Steps, here, over, steps-le, Hol
 use Rattle.rules.proofs.Headers.{fit-some}
 use Rattle.facts.proofs.Laid.{Linked, stop, goes}
 
--- a chain that ends with 0 is linked by its pages' links
-pub chain-linked : (f n : ℕ) (h : List ℕ) (x : ℕ) → chainEnd f n h x ≡ 0 → Linked (link n h) x (chain f n h x)
-unfolding chain chainEnd
-chain-linked zero n h x e = rw e stop
-chain-linked (suc f) n h zero e = stop
-chain-linked (suc f) n h (suc k) e = go (ltb k (pageCount n h)) refl (λ u. chain-linked f n h (link n h k) u)
-  where
-    go : (b : Bool) → ltb k (pageCount n h) ≡ b → (chainEnd f n h (link n h k) ≡ 0 → Linked (link n h) (link n h k) (chain f n h (link n h k)))
-        → Linked (link n h) (suc k) (chain (suc f) n h (suc k))
-    go true q rest = rw (chain, q) (goes (rest (rw (q, chainEnd) at e)))
-    go false q rest = let z : suc k ≡ 0 = rw (q, chainEnd) at e in absurd (omega arith)
-
 pub steps-at : {h : List ℕ} {hi a b a′ b′ : ℕ} → a ≡ a′ → b ≡ b′ → Steps h hi a b → Steps h hi a′ b′
 steps-at p q t = rw (← p, ← q) t
 
