@@ -8,3 +8,4 @@ pub mod Sound
 pub mod Filled
 pub mod Goods
 pub mod Means
+pub mod Passing

@@ -68,6 +68,24 @@ pub linked-last : {l : ℕ → ℕ} {x k : ℕ} {ks : List ℕ} → Linked l x k
 linked-last (goes t) only = linked-none t
 linked-last (goes t) (later u) = linked-last t u
 
+-- and a number whose link is 0 is the last
+pub linked-ends : {l : ℕ → ℕ} {x k : ℕ} {ks : List ℕ} → Linked l x ks → List·Memᴰ k ks → l k ≡ 0 → Last ks k
+linked-ends (goes {k} t) (List·Memᴰ·head e) q = head-last (rw (← e) at t) q (sym e)
+  where
+    head-last : {l : ℕ → ℕ} {k j : ℕ} {ks : List ℕ} → Linked l (l k) ks → l k ≡ 0 → j ≡ k → Last (j ∷ ks) k
+    head-last {ks = []} t q e = rw e only
+    head-last {ks = y ∷ ys} t q e = let z = linked-first t .0 in absurd (omega arith)
+linked-ends (goes t) (List·Memᴰ·tail m) q = later (linked-ends t m q)
+
+no-last : {A : Type 0} {l : ℕ} → Last [] l → A
+no-last u = elim u [ ]
+
+pub last-one : {ks : List ℕ} {a b : ℕ} → Last ks a → Last ks b → a ≡ b
+last-one only only = refl
+last-one only (later v) = no-last v
+last-one (later u) only = no-last u
+last-one (later u) (later v) = last-one u v
+
 -- ---- numbers that stand once, and how often a number stands in a list
 
 pub times-head : (k x : ℕ) (xs : List ℕ) → k ≡ x → times k (x ∷ xs) ≡ suc (times k xs)
