@@ -11,13 +11,13 @@ use mathlib.Core.List.{List, [], _∷_, _++_, List·Memᴰ, List·Memᴰ·head, 
 use lib.ListN.{length, getD, set, take, drop, length-set, length-drop}
 use lib.Seq.{getD-set-same, getD-set-other, length-take-le, getD-take, getD-drop}
 use lib.Arith.{digits-div}
-use Rattle.heap.proofs.Stored as S
+use Rattle.working.proofs.Stored as S
 use Rattle.rules.specs.Words.{Head, headOf, lengthBy}
 use Rattle.rules.specs.declared.Control.{Control}
 use Rattle.rules.specs.Memory.{Store, link, origin, endOf, firstOf, topOf, statusOf}
 use Rattle.laws.specs.Lists.{at, put}
 use Rattle.rules.specs.Pages.{Run, withHeap, withTable, withStack, room, store}
-use Rattle.rules.specs.Refusals.{place}
+use Rattle.rules.specs.Pages.{place}
 use Rattle.rules.specs.Collection.{wake}
 use Rattle.laws.proofs.Lists.{apart as pages-apart, length-put, at-put-below, at-put-in, at-put-above}
 use Rattle.facts.proofs.Steps.{Stands, Steps, here, over, steps-le, steps-then, steps-same, apart}

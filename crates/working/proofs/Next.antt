@@ -1,6 +1,7 @@
 -- Where the scan of a region goes on: the values of a region in their order, and the address after each.
 use Prim.Native.Nat.{ℕ, zero, suc, pred, _+_, _-_, _*_, _/_, _%_, _^_, _≤_, _<_, zero-le, suc-le-suc}
 use native.Mathlib.Nat.{le-trans, le-refl, add-zero, mul-le-mul-right, mul-mod-left}
+use native.Mathlib.Numerals.{sub-one}
 use native.Mathlib.Omega.{arith}
 use native.Mathlib.Decide.{ℕ-discrete, decLe}
 use mathlib.Core.Path.{_≡_, refl, sym, ap, _∙_, subst}
@@ -107,7 +108,7 @@ module _ (n N R : ℕ) (own : ℕ → Owner) (fin : ℕ → ℕ) (pages : ℕ �
       let hi = st .ends in
       let e₁ : eqb (s + suc l) (topOf (r .table) j) ≡ false = ne-eqb _ _ (not-top (s + suc l) (omega arith) (omega arith) ne) in
       let e₂ : (eqb ((s + suc l) % 2 ^ n) 0 || eqb (at (r .heap) (s + suc l)) 0) ≡ true = ended (ℕ-discrete (fin k) (k * 2 ^ n + 2 ^ n)) in
-      ap (λ t. nextFrom n j s t r) t-is ∙ rw (e₁, nextFrom, e₂, page-of n k s (omega arith) (omega arith), lk)
+      ap (λ t. nextFrom n j s t r) t-is ∙ rw (e₁, nextFrom, e₂, page-of n k s (omega arith) (omega arith), lk, sub-one (suc k′))
     where
       or-right : (a : Bool) {b : Bool} → b ≡ true → (a || b) ≡ true
       or-right true q = refl

@@ -12,13 +12,13 @@ use lib.ListN.{length, getD, set, length-set}
 use lib.Seq.{getD-set-same, getD-set-other}
 use lib.Dec.{leb}
 use borrow.Author.Tests.{leb-true, leb-false}
-use Rattle.heap.proofs.Taken as T
-use Rattle.heap.proofs.Roomy as Q
+use Rattle.working.proofs.Taken as T
+use Rattle.working.proofs.Roomy as Q
 use Rattle.rules.specs.declared.Control.{Control}
 use Rattle.rules.specs.Memory.{Store, link, origin, endOf, firstOf, topOf, statusOf}
 use Rattle.laws.specs.Lists.{at, put}
 use Rattle.rules.specs.Pages.{Run, withHeap, takePage, join, room, store}
-use Rattle.rules.specs.Refusals.{place}
+use Rattle.rules.specs.Pages.{place}
 use Rattle.laws.proofs.Lists.{apart, at-put-below, at-put-above}
 use Rattle.facts.proofs.Steps.{Stands, Steps, here, over, steps-le}
 use Rattle.facts.proofs.Laid.{upd, upd-same, upd-other, Once, Last, last-in, Linked, linked-same, Owner, old, spare, beyond, mine, Body, Clean, Like, body-like, clean-like, Layout}
