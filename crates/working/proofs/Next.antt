@@ -20,6 +20,7 @@ use Rattle.rules.specs.Collection.{nextFrom, nextScan}
 use Rattle.laws.proofs.Lists.{apart as pages-apart}
 use Rattle.facts.proofs.Steps.{Stands, Steps, here, over, steps-le, steps-then}
 use Rattle.facts.proofs.Laid.{Once, once-more, Last, only, later, last-in, Linked, Owner, mine, Body, Layout}
+use Rattle.facts.proofs.Looked.{words-of}
 use Rattle.rules.proofs.Chains.{page-of}
 use Rattle.working.proofs.Taken.{linked-first, last-one}
 
@@ -37,12 +38,6 @@ pub data Row (n : ℕ) (h : List ℕ) (fin : ℕ → ℕ) : List ℕ → List �
 abbrev pub headOr : ℕ → List ℕ → ℕ
 headOr t [] = t
 headOr t (x ∷ xs) = x
-
-words-of : (x : Head) (l : ℕ) → lengthBy x ≡ some l → wordsBy x ≡ suc l
-words-of (rec m) l e = let q : m ≡ l = cc in ap suc q
-words-of (raw m) l e = let q : m ≡ l = cc in ap suc q
-words-of (moved b) l e = let z : _≡_ {A = ℕ} 0 1 = cc in absurd (omega arith)
-words-of wrong l e = let z : _≡_ {A = ℕ} 0 1 = cc in absurd (omega arith)
 
 -- a header is not 0
 pub head-not-0 : {h : List ℕ} {hi a l : ℕ} → Stands h hi a l → at h a ≢ 0
