@@ -11,15 +11,15 @@ use mathlib.Core.List.{List, [], _∷_, _++_, List·Memᴰ, List·Memᴰ·head, 
 use lib.ListN.{length, set, take, drop, length-drop}
 use lib.Seq.{length-take-le}
 use lib.Dec.{leb}
-use Rattle.heap.proofs.Stored as S
-use Rattle.heap.proofs.Taken as T
-use Rattle.heap.proofs.Moving as M
+use Rattle.working.proofs.Stored as S
+use Rattle.working.proofs.Taken as T
+use Rattle.working.proofs.Moving as M
 use Rattle.rules.specs.Words.{Word, number, inHeap, inConst, wordOf, Head, rec, raw, moved, wrong, headOf, headBy, lengthBy}
 use Rattle.rules.specs.Memory.{Store, origin, endOf, topOf, statusOf}
 use Rattle.laws.specs.Lists.{at, put}
 use Rattle.facts.specs.View.{isNumber, look, Reached}
 use Rattle.rules.specs.Pages.{Run, withHeap, room, store}
-use Rattle.rules.specs.Refusals.{place}
+use Rattle.rules.specs.Pages.{place}
 use Rattle.rules.specs.Collection.{wake, moveTo, regionAt, evacuateAt, evacuate}
 use Rattle.facts.proofs.Steps.{Stands, Steps, steps-le}
 use Rattle.facts.proofs.Laid.{Owner, old, spare, beyond, mine, Layout, Value, upd, upd-other}

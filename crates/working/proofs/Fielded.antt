@@ -10,7 +10,7 @@ use lib.ListN.{length, set, length-set}
 use lib.Seq.{getD-set-same, getD-set-other}
 use Rattle.laws.specs.Lists.{at}
 use Rattle.rules.specs.Memory.{link}
-use Rattle.rules.specs.Pages.{Run}
+use Rattle.rules.specs.Pages.{Run, withHeap}
 use Rattle.laws.proofs.Lists.{apart as pages-apart}
 use Rattle.facts.proofs.Steps.{Stands, Steps, here, over, steps-le, steps-inside}
 use Rattle.facts.proofs.Laid.{Linked, linked-same, Owner, old, spare, beyond, mine, Body, Clean, Like, body-like, clean-like, Layout}
@@ -71,7 +71,7 @@ module _ (n N R : ℕ) (own : ℕ → Owner) (fin : ℕ → ℕ) (pages : ℕ �
   spare-not : (m : ℕ) → own m ≡ spare → m ≢ k
   spare-not m o e = let q : spare ≡ mine j = sym o ∙ ap own e ∙ own-k in let z : _≡_ {A = ℕ} 0 1 = cc in omega arith
 
-  pub field-laid : Layout n N R own fin pages free (leave (d + suc i) v r)
+  pub field-laid : Layout n N R own fin pages free (withHeap r (set (r .heap) (d + suc i) v))
   field-laid =
       record {
         size = length-set (r .heap) (d + suc i) v ∙ L .size;

@@ -11,13 +11,13 @@ use mathlib.Core.List.{List, [], _∷_, _++_, List·Memᴰ, List·Memᴰ·head, 
 use lib.ListN.{length, getD, set, take, drop, length-set, length-drop}
 use lib.Seq.{getD-set-same, getD-set-other, length-take-le, getD-take, getD-drop}
 use lib.Arith.{digits-div}
-use Rattle.heap.proofs.Stored as S
+use Rattle.working.proofs.Stored as S
 use Rattle.rules.specs.Words.{Head, headOf, lengthBy}
 use Rattle.rules.specs.declared.Control.{Control}
-use Rattle.rules.specs.Memory.{Store, link, origin, endOf, firstOf, topOf, statusOf}
+use Rattle.rules.specs.Memory.{Store, link, origin, endOf, firstOf, topOf, statusOf, setStatus}
 use Rattle.laws.specs.Lists.{at, put}
-use Rattle.rules.specs.Pages.{Run, withHeap, withTable, withStack, room, store}
-use Rattle.rules.specs.Refusals.{place}
+use Rattle.rules.specs.Pages.{Scan, Run, withHeap, withTable, withStack, room, store}
+use Rattle.rules.specs.Pages.{place}
 use Rattle.rules.specs.Collection.{wake}
 use Rattle.laws.proofs.Lists.{apart as pages-apart, length-put, at-put-below, at-put-in, at-put-above}
 use Rattle.facts.proofs.Steps.{Stands, Steps, here, over, steps-le, steps-then, steps-same, apart}
@@ -25,43 +25,38 @@ use Rattle.facts.proofs.Laid.{upd, upd-same, upd-other, Once, Last, last-in, Li
 use Rattle.facts.proofs.Copied.{Moved, to}
 use Rattle.working.proofs.Log.{Copy, Log, Evacuated, evacuated-log}
 use Rattle.working.proofs.Placed.{Roomed}
--- the page of an address
-use Rattle.rules.proofs.Chains.{page-of}
 
 module _ (n N R : ℕ) (own : ℕ → Owner) (fin : ℕ → ℕ) (pages : ℕ → List ℕ) (free : List ℕ) (r : Run) (L : Layout n N R own fin pages free r) where
   -- a region's status, or the scan stack, is no part of the layout
+  pub status-laid : (j c : ℕ) (stack : List Scan) → Layout n N R own fin pages free (withStack (withTable r (setStatus (r .table) j c)) stack)
+  status-laid j c stack =
+      record {
+        size = L .size;
+        big = L .big;
+        rows = rw length-set (L .rows);
+        known = L .known;
+        free-own = L .free-own;
+        free-once = L .free-once;
+        free-links = L .free-links;
+        free-last = L .free-last;
+        free-count = L .free-count;
+        free-clean = L .free-clean;
+        mine-own = L .mine-own;
+        mine-once = L .mine-once;
+        mine-links = λ i p. let t = L .mine-links i p in (t .0, row (4 * i + 1) (omega arith) ∙ t .1, t .2);
+        mine-body = L .mine-body;
+        mine-top = λ i p. let t = L .mine-top i p in (t .0, t .1, row (4 * i) (omega arith) ∙ t .2, row (4 * i + 2) (omega arith) ∙ t .3);
+      }
+    where
+      row : (y : ℕ) → y ≢ 4 * j + 3 → at (setStatus (r .table) j c) y ≡ at (r .table) y
+      row y ne = getD-set-other (r .table) (4 * j + 3) y c 0 ne
+
   pub wake-laid : (j b : ℕ) → Layout n N R own fin pages free (wake n j b r)
   unfolding wake
   wake-laid j b = go (statusOf (r .table) j) refl
     where
-      table′ : List ℕ
-      table′ = set (r .table) (4 * j + 3) 1
-
-      row : (y : ℕ) → y ≢ 4 * j + 3 → at table′ y ≡ at (r .table) y
-      row y ne = getD-set-other (r .table) (4 * j + 3) y 1 0 ne
-
-      woken : Layout n N R own fin pages free (withStack (withTable r table′) (b ∷ r .stack))
-      woken =
-          record {
-            size = L .size;
-            big = L .big;
-            rows = rw length-set (L .rows);
-            known = L .known;
-            free-own = L .free-own;
-            free-once = L .free-once;
-            free-links = L .free-links;
-            free-last = L .free-last;
-            free-count = L .free-count;
-            free-clean = L .free-clean;
-            mine-own = L .mine-own;
-            mine-once = L .mine-once;
-            mine-links = λ i p. let t = L .mine-links i p in (t .0, row (4 * i + 1) (omega arith) ∙ t .1, t .2);
-            mine-body = L .mine-body;
-            mine-top = λ i p. let t = L .mine-top i p in (t .0, t .1, row (4 * i) (omega arith) ∙ t .2, row (4 * i + 2) (omega arith) ∙ t .3);
-          }
-
       go : (c : ℕ) → statusOf (r .table) j ≡ c → Layout n N R own fin pages free (wake n j b r)
-      go zero e = rw (e, wake) woken
+      go zero e = rw (e, wake) (status-laid j 1 (record { region = j; address = b } ∷ r .stack))
       go (suc c) e = rw (e, wake) L
 
   -- a word of an old page is no part of the layout
@@ -143,7 +138,7 @@ module _ (n N R : ℕ) (s : Store) (kept : ℕ → Type 0) (own : ℕ → Owner)
     (L : Layout n N R own fin pages free r) (G : Log n s kept own fin (r .heap) log done)
     (j f a l : ℕ) (jR : j < R) (o : own f ≡ old) (whose : at (s .heap) (f * 2 ^ n + 1) ≡ suc j)
     (at-a : Steps (s .heap) (f * 2 ^ n + 2 ^ n) (f * 2 ^ n + 2) a) (st : Stands (s .heap) (f * 2 ^ n + 2 ^ n) a l)
-    (new : (b : ℕ) → List·Memᴰ (to a b) log → ⊥) (r₁ : Run) (M : Roomed n N R own fin (r .heap) j (suc l) r₁) where
+    (new : (b : ℕ) → List·Memᴰ (to a b) log → ⊥) (r₁ : Run) (M : Roomed n N R own fin pages free r j (suc l) r₁) where
   abbrev ws : List ℕ
   ws = take (suc l) (drop a (r .heap))
 

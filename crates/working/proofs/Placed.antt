@@ -12,20 +12,21 @@ use lib.ListN.{length, getD, set, length-set}
 use lib.Seq.{getD-set-same, getD-set-other}
 use lib.Dec.{leb}
 use borrow.Author.Tests.{leb-true, leb-false}
-use Rattle.heap.proofs.Taken as T
-use Rattle.heap.proofs.Roomy as Q
+use Rattle.working.proofs.Taken as T
+use Rattle.working.proofs.Roomy as Q
 use Rattle.rules.specs.declared.Control.{Control}
 use Rattle.rules.specs.Memory.{Store, link, origin, endOf, firstOf, topOf, statusOf}
 use Rattle.laws.specs.Lists.{at, put}
 use Rattle.rules.specs.Pages.{Run, withHeap, takePage, join, room, store}
-use Rattle.rules.specs.Refusals.{place}
+use Rattle.rules.specs.Pages.{place}
 use Rattle.laws.proofs.Lists.{apart, at-put-below, at-put-above}
 use Rattle.facts.proofs.Steps.{Stands, Steps, here, over, steps-le}
 use Rattle.facts.proofs.Laid.{upd, upd-same, upd-other, Once, Last, last-in, Linked, linked-same, Owner, old, spare, beyond, mine, Body, Clean, Like, body-like, clean-like, Layout}
 use Rattle.working.proofs.Taken.{taken, last-is}
+use Rattle.working.proofs.Owned.{Owned, total, total-snoc, taken-owned}
 
 -- what giving region j room for m words does
-pub record Roomed (n N R : ℕ) (own : ℕ → Owner) (fin : ℕ → ℕ) (h : List ℕ) (j m : ℕ) (r : Run) : Type 0 where
+pub record Roomed (n N R : ℕ) (own : ℕ → Owner) (fin : ℕ → ℕ) (pages : ℕ → List ℕ) (free : List ℕ) (r₀ : Run) (j m : ℕ) (r : Run) : Type 0 where
   pub own₁ : ℕ → Owner
   pub fin₁ : ℕ → ℕ
   pub pages₁ : ℕ → List ℕ
@@ -35,13 +36,21 @@ pub record Roomed (n N R : ℕ) (own : ℕ → Owner) (fin : ℕ → ℕ) (h : L
   pub old-kept : (k : ℕ) → (own k ≡ old) ↔ (own₁ k ≡ old)
   pub mine-kept : (k i : ℕ) → own k ≡ mine i → (own₁ k ≡ mine i) × (fin₁ k ≡ fin k)
   pub mine-from : (k i : ℕ) → own₁ k ≡ mine i → (own k ≡ mine i) ⊎ ((own k ≡ spare) × (i ≡ j) × (fin₁ k ≡ k * 2 ^ n + 2) × (endOf (r .table) j ≡ k * 2 ^ n + 2 ^ n))
-  pub words : (k x : ℕ) → own k ≢ spare → own k ≢ beyond → k * 2 ^ n < x → x < k * 2 ^ n + 2 ^ n → at (r .heap) x ≡ at h x
-  pub old-links : (k : ℕ) → own k ≡ old → at (r .heap) (k * 2 ^ n) ≡ at h (k * 2 ^ n)
+  pub words : (k x : ℕ) → own k ≢ spare → own k ≢ beyond → k * 2 ^ n < x → x < k * 2 ^ n + 2 ^ n → at (r .heap) x ≡ at (r₀ .heap) x
+  pub old-links : (k : ℕ) → own k ≡ old → at (r .heap) (k * 2 ^ n) ≡ at (r₀ .heap) (k * 2 ^ n)
+  pub owned : Owned N R own pages free → Owned N R own₁ pages₁ free₁
+  pub pages-other : (i : ℕ) → i ≢ j → pages₁ i ≡ pages i
+  pub pages-own : (pages₁ j ≡ pages j) ⊎ ((k : ℕ) × (pages₁ j ≡ pages j ++ k ∷ []) × (own k ≡ spare) × (fin₁ k ≡ k * 2 ^ n + 2))
+  pub spent : length free₁ + total pages₁ R ≡ length free + total pages R
+  -- of the table only the region's e and a change
+  pub width : length (r .table) ≡ length (r₀ .table)
+  pub row-kept : (x : ℕ) → x ≢ 4 * j → x ≢ 4 * j + 2 → at (r .table) x ≡ at (r₀ .table) x
+  pub stack-kept : r .stack ≡ r₀ .stack
 
 module _ (n N R : ℕ) (own : ℕ → Owner) (fin : ℕ → ℕ) (pages : ℕ → List ℕ) (r : Run) (j m : ℕ) (jR : j < R) (small : m + 2 ≤ 2 ^ n) where
   -- there was room
   pub room-was : (free : List ℕ) → Layout n N R own fin pages free r → leb (topOf (r .table) j + m) (endOf (r .table) j) ≡ true
-      → (room n j m r ≡ some r) × Roomed n N R own fin (r .heap) j m r
+      → (room n j m r ≡ some r) × Roomed n N R own fin pages free r j m r
   unfolding room
   room-was free L e = (
     rw (e, room),
@@ -57,6 +66,13 @@ module _ (n N R : ℕ) (own : ℕ → Owner) (fin : ℕ → ℕ) (pages : ℕ �
       mine-from = λ k i q. inl q;
       words = λ k x a b p q. refl;
       old-links = λ k o. refl;
+      owned = λ W. W;
+      pages-other = λ i ne. refl;
+      pages-own = inl refl;
+      spent = refl;
+      width = refl;
+      row-kept = λ x p q. refl;
+      stack-kept = refl;
     },
   )
 
@@ -148,7 +164,21 @@ module _ (n N R : ℕ) (own : ℕ → Owner) (fin : ℕ → ℕ) (pages : ℕ �
         (λ q. apart-owners (sym (Q.own-z n N R (upd own k (mine j)) (upd fin k (k * 2 ^ n + 2)) pages ks r₀ L₀ j k jR own-new k-new taken-link fin-new) ∙ ap (upd own k (mine j)) (sym q) ∙ upd-other own k (mine j) l ne) o))
         ∙ T.others n N R own fin pages k ks r L j l (l * 2 ^ n) ne (le-refl _) (omega arith)
 
-    pub room-made : leb (topOf (r .table) j + m) (endOf (r .table) j) ≡ false → (room n j m r ≡ some (join n j k r₀)) × Roomed n N R own fin (r .heap) j m (join n j k r₀)
+    same-width : length (join n j k r₀ .table) ≡ length (r .table)
+    unfolding taken join
+    same-width = length-set (set (r .table) (4 * j) (k * 2 ^ n + 2 ^ n)) (4 * j + 2) (k * 2 ^ n + 2) ∙ length-set (r .table) (4 * j) (k * 2 ^ n + 2 ^ n)
+
+    same-row : (x : ℕ) → x ≢ 4 * j → x ≢ 4 * j + 2 → at (join n j k r₀ .table) x ≡ at (r .table) x
+    unfolding taken join
+    same-row x p q =
+        getD-set-other (set (r .table) (4 * j) (k * 2 ^ n + 2 ^ n)) (4 * j + 2) x (k * 2 ^ n + 2) 0 q
+        ∙ getD-set-other (r .table) (4 * j) x (k * 2 ^ n + 2 ^ n) 0 p
+
+    same-stack : join n j k r₀ .stack ≡ r .stack
+    unfolding taken join
+    same-stack = refl
+
+    pub room-made : leb (topOf (r .table) j + m) (endOf (r .table) j) ≡ false → (room n j m r ≡ some (join n j k r₀)) × Roomed n N R own fin pages (k ∷ ks) r j m (join n j k r₀)
     unfolding room
     room-made e = (
       rw (e, room, T.takes n j k r (T.linked-first (L .free-links) .0)),
@@ -166,5 +196,12 @@ module _ (n N R : ℕ) (own : ℕ → Owner) (fin : ℕ → ℕ) (pages : ℕ �
         mine-from = from;
         words = same-words;
         old-links = same-links;
+        owned = taken-owned N R own pages k ks j jR spare-k;
+        pages-other = λ i ne. upd-other pages j (pages j ++ k ∷ []) i ne;
+        pages-own = inr (k, upd-same pages j (pages j ++ k ∷ []) j refl, spare-k, fin-new);
+        spent = let t = total-snoc pages j k R jR in omega arith;
+        width = same-width;
+        row-kept = same-row;
+        stack-kept = same-stack;
       },
     )

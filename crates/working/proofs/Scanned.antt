@@ -157,5 +157,6 @@ module _ (n : ℕ) (s : Store) (kept : ℕ → Type 0) (own : ℕ → Owner) (fi
         one-new = L .one-new;
         one-old = L .one-old;
         live = L .live;
+        once = L .once;
         every = λ k j b o t u. let q = inside k j o in L .every k j b o (steps-back k b t (omega arith)) u;
       }

@@ -11,7 +11,7 @@ use mathlib.Core.List.{List, [], _∷_, _++_, List·Memᴰ, List·Memᴰ·head, 
 use lib.ListN.{length, getD, set, length-set}
 use lib.Seq.{getD-set-same, getD-set-other}
 use Rattle.rules.specs.declared.Control.{Control}
-use Rattle.rules.specs.Memory.{Store, link, origin, endOf, firstOf, topOf, statusOf}
+use Rattle.rules.specs.Memory.{Store, link, setLink, setOrigin, origin, endOf, firstOf, topOf, statusOf}
 use Rattle.laws.specs.Lists.{at, lastOr, put}
 use Rattle.rules.specs.Audit.{lastLink}
 use Rattle.rules.specs.Pages.{Run, takePage, withFree, lastIf}
@@ -22,7 +22,7 @@ use Rattle.facts.proofs.Laid.{upd, upd-same, upd-other, Once, once-none, once-m
 -- the run after page k is taken
 unfoldable pub taken : ℕ → ℕ → ℕ → Run → Run
 taken n j k r =
-    withFree r (put (r .heap) (k * 2 ^ n) (0 ∷ suc j ∷ [])) (link n (r .heap) k) (lastIf (link n (r .heap) k) (r .last)) (pred (r .count))
+    withFree r (setOrigin n (setLink n (r .heap) k 0) k (suc j)) (link n (r .heap) k) (lastIf (r .count - 1) (r .last)) (r .count - 1)
 
 pub takes : (n j k : ℕ) (r : Run) → r .first ≡ suc k → takePage n j r ≡ some (k, taken n j k r)
 unfolding takePage taken
@@ -65,14 +65,22 @@ module _ (n N R : ℕ) (own : ℕ → Owner) (fin : ℕ → ℕ) (pages : ℕ �
   k-in = in-heap k (λ q. spare≢beyond (sym own-k ∙ q))
 
   abbrev pub h′ : List ℕ
-  h′ = put (r .heap) (k * P) (0 ∷ suc j ∷ [])
+  h′ = set (set (r .heap) (k * P) 0) (k * P + 1) (suc j)
 
   fits : k * P + 2 ≤ length (r .heap)
   fits = let a = k-in in let b = L .big in omega arith
 
+  -- only link and origin change
+  keep : (x : ℕ) → x ≢ k * P → x ≢ k * P + 1 → at h′ x ≡ at (r .heap) x
+  keep x p q = getD-set-other (set (r .heap) (k * P) 0) (k * P + 1) x (suc j) 0 q ∙ getD-set-other (r .heap) (k * P) x 0 0 p
+
   -- other pages keep all their words, their links too
   pub others : (l x : ℕ) → l ≢ k → l * P ≤ x → x < l * P + P → at h′ x ≡ at (r .heap) x
-  others l x ne p q = let b = L .big in put-elsewhere (n) (r .heap) k (k * P) (0 ∷ suc j ∷ []) l x fits (le-refl _) (omega arith) ne p q
+  others l x ne p q = go (apart P l k ne)
+    where
+      go : (l * P + P ≤ k * P) ⊎ (k * P + P ≤ l * P) → at h′ x ≡ at (r .heap) x
+      go (inl t) = keep x (omega arith) (omega arith)
+      go (inr t) = let b = L .big in keep x (omega arith) (omega arith)
 
   like : (l : ℕ) → l ≢ k → Like (n) (r .heap) h′ l
   like l ne = record { word = λ x p q. sym (others l x ne (omega arith) q) }
@@ -85,15 +93,17 @@ module _ (n N R : ℕ) (own : ℕ → Owner) (fin : ℕ → ℕ) (pages : ℕ �
   k-body =
       let b = L .big in
       record {
-        whose = at-put-in (r .heap) (k * P) (0 ∷ suc j ∷ []) 1 fits (omega arith);
+        whose = getD-set-same (set (r .heap) (k * P) 0) (k * P + 1) (suc j) 0 (rw (length-set (r .heap) (k * P) 0) (let a = fits in omega arith));
         filled = here;
         inside = omega arith;
-        rest = λ x p q. at-put-above (r .heap) (k * P) (0 ∷ suc j ∷ []) x fits p ∙ L .free-clean k own-k .rest x (omega arith) q;
+        rest = λ x p q. keep x (omega arith) (omega arith) ∙ L .free-clean k own-k .rest x (omega arith) q;
       }
 
   pub k-link : link (n) h′ k ≡ 0
   unfolding link
-  k-link = ap (at h′) (sym (add-zero (k * P))) ∙ at-put-in (r .heap) (k * P) (0 ∷ suc j ∷ []) 0 fits (omega arith)
+  k-link =
+      let a = fits in
+      getD-set-other (set (r .heap) (k * P) 0) (k * P + 1) (k * P) (suc j) 0 (omega arith) ∙ getD-set-same (r .heap) (k * P) 0 0 (omega arith)
 
   abbrev pub own′ : ℕ → Owner
   own′ = upd own k (mine j)
@@ -116,10 +126,10 @@ module _ (n N R : ℕ) (own : ℕ → Owner) (fin : ℕ → ℕ) (pages : ℕ �
   rest-not-k : (l : ℕ) → List·Memᴰ l ks → l ≢ k
   rest-not-k l m q = once-head (L .free-once) (rw q at m)
 
-  last-left : (x y : ℕ) (ls : List ℕ) → Linked (link (n) (r .heap)) x ls → y ≡ lastLink (k ∷ ls) → lastIf x y ≡ lastLink ls
+  last-left : (c y : ℕ) (ls : List ℕ) → c ≡ length ls → y ≡ lastLink (k ∷ ls) → lastIf c y ≡ lastLink ls
   unfolding lastLink lastOr
-  last-left x y [] t e = rw (linked-none t)
-  last-left x y (l ∷ ls) t e = rw (linked-first t .0) e
+  last-left c y [] t e = rw t
+  last-left c y (l ∷ ls) t e = rw t e
 
   bodies : (i l : ℕ) → own′ l ≡ mine i → Body (n) h′ l i (fin′ l)
   bodies i l o = go (ℕ-discrete l k)
@@ -149,7 +159,7 @@ module _ (n N R : ℕ) (own : ℕ → Owner) (fin : ℕ → ℕ) (pages : ℕ �
   mine-not-k : (i l : ℕ) → i < R → List·Memᴰ l (pages i) → l ≢ k
   mine-not-k i l b m = not-k (mine i) (λ q. spare≢mine (sym q)) l (L .mine-own i l b m)
 
-  counts : pred (r .count) ≡ length ks
+  counts : r .count - 1 ≡ length ks
   counts = let c = L .free-count in omega arith
 
   pub taken-laid : Layout n N R own′ fin′ pages ks (taken n j k r)
@@ -157,14 +167,14 @@ module _ (n N R : ℕ) (own : ℕ → Owner) (fin : ℕ → ℕ) (pages : ℕ �
   taken-laid =
       let f = linked-first (L .free-links) in
       record {
-        size = length-put (r .heap) (k * P) (0 ∷ suc j ∷ []) fits ∙ L .size;
+        size = length-set (set (r .heap) (k * P) 0) (k * P + 1) (suc j) ∙ length-set (r .heap) (k * P) 0 ∙ L .size;
         big = L .big;
         rows = L .rows;
         known = knowns;
         free-own = λ l m. own-other l (rest-not-k l m) ∙ L .free-own l (List·Memᴰ·tail m);
         free-once = once-tail (L .free-once);
         free-links = linked-same (λ l m. links l (rest-not-k l m)) (f .1);
-        free-last = last-left _ _ ks (f .1) (L .free-last);
+        free-last = last-left _ _ ks counts (L .free-last);
         free-count = counts;
         free-clean = cleans;
         mine-own = λ i l b m. own-other l (mine-not-k i l b m) ∙ L .mine-own i l b m;
