@@ -1,13 +1,12 @@
 -- Values back to back and then zeros, as a test and as facts; and the fields of the records among them. Both ways by stepping: the list of
 -- values ends where stepping ends, since a 0 is no header.
-use Prim.Native.Nat.{ℕ, zero, suc, _+_, _-_, _*_, _/_, _%_, _^_, _≤_, _<_, zero-le, suc-le-suc}
-use native.Mathlib.Nat.{le-refl, add-zero, add-assoc}
+use Prim.Native.Nat.{ℕ, zero, suc, _+_, _-_, _≤_, _<_}
+use native.Mathlib.Nat.{le-refl, add-zero}
 use native.Mathlib.Omega.{arith}
-use mathlib.Core.Path.{_≡_, refl, sym, ap, _∙_, subst}
-use mathlib.Core.Logic.{_≢_, _⊎_, inl, inr}
-use mathlib.Core.Bool.{Bool, true, false, _&&_, false≢true}
+use mathlib.Core.Path.{_≡_, refl, sym, ap, _∙_}
+use mathlib.Core.Bool.{Bool, true, false}
 use mathlib.Core.Option.{Option, none, some}
-use mathlib.Core.List.{List, [], _∷_, List·Memᴰ, List·Memᴰ·head, List·Memᴰ·tail}
+use mathlib.Core.List.{List, [], _∷_}
 use lib.ListN.{length, take, drop, length-drop}
 use lib.Seq.{getD-take, getD-drop, length-take-le}
 use Rattle.laws.specs.Lists.{at, all, zeros}
@@ -15,7 +14,7 @@ use Rattle.laws.proofs.Facts.{all-cons, cons-all, all-at, at-all, zeros-in, zer
 use Rattle.rules.specs.Words.{headOf, lengthBy, fit, isRecord, Val, vals, usedOf, fieldsPass}
 use Rattle.rules.specs.Audit.{filled}
 use Rattle.rules.proofs.Headers.{fit-some}
-use Rattle.facts.proofs.Steps.{Stands, Steps, here, over, steps-le, Holds, holds-head, holds-tail, holds-drop, vals-first}
+use Rattle.facts.proofs.Steps.{Stands, Steps, here, over, Holds, holds-head, holds-tail, holds-drop, vals-first}
 use Rattle.facts.proofs.Audited.{vals-steps, steps-at}
 
 pub steps-end : {h : List ℕ} {hi a b : ℕ} → Steps h hi a b → a ≤ hi → b ≤ hi

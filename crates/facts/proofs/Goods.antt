@@ -1,14 +1,13 @@
 -- Good pointers as tests and as facts: the list of values has an address exactly when stepping comes to it.
-use Prim.Native.Nat.{ℕ, zero, suc, _+_, _-_, _*_, _/_, _%_, _^_, _≤_, _<_, zero-le}
+use Prim.Native.Nat.{ℕ, suc, _+_, _-_, _*_, _/_, _^_, _≤_, _<_}
 use native.Mathlib.Nat.{mul-le-mul-right}
 use native.Mathlib.Omega.{arith}
 use native.Mathlib.Decide.{decLe}
-use mathlib.Core.Path.{_≡_, refl, sym, ap, _∙_}
-use mathlib.Core.Logic.{_≢_, _⊎_, inl, inr}
+use mathlib.Core.Path.{_≡_, refl, ap}
+use mathlib.Core.Logic.{_≢_}
 use mathlib.Core.Bool.{Bool, true, false, _&&_, false≢true}
-use mathlib.Core.Option.{Option, none, some}
-use mathlib.Core.List.{List, [], _∷_}
-use lib.ListN.{length, drop, length-drop, List·getD-eq-default}
+use mathlib.Core.List.{List}
+use lib.ListN.{length, length-drop, List·getD-eq-default}
 use lib.Dec.{leb}
 use borrow.Author.Tests.{leb-true, le-leb}
 use Rattle.laws.specs.Lists.{at}
@@ -19,7 +18,7 @@ use Rattle.rules.specs.Audit.{constField}
 use Rattle.rules.specs.Refusals.{Paged}
 use Rattle.rules.proofs.Limits.{page-size, whole-pages, page-inside}
 use Rattle.rules.proofs.Chains.{length-page, page-of}
-use Rattle.facts.proofs.Steps.{Stands, Steps, steps-le, Holds, stands-from, stands-to}
+use Rattle.facts.proofs.Steps.{steps-le, Holds, stands-from, stands-to}
 use Rattle.facts.proofs.Looked.{page-holds}
 use Rattle.facts.proofs.Sound.{InHeap, InConst, Good, a-number, to-heap, to-const, GoodConst, number-there, const-there}
 

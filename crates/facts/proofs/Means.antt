@@ -1,34 +1,33 @@
 -- From the audit's tests to facts: a heap within the limits whose rules hold is `Sound`. A page's owner is what its origin says, and its
 -- values end where the list of them ends.
-use Prim.Native.Nat.{ℕ, zero, suc, _+_, _-_, _*_, _/_, _%_, _^_, _≤_, _<_, zero-le}
-use native.Mathlib.Nat.{le-refl, div-add-mod'}
+use Prim.Native.Nat.{ℕ, zero, suc, _+_, _-_, _*_, _%_, _^_, _≤_, _<_}
+use native.Mathlib.Nat.{div-add-mod'}
 use native.Mathlib.Omega.{arith}
 use mathlib.Core.Path.{_≡_, refl, sym, ap, _∙_}
 use mathlib.Core.Logic.{_≢_, _⊎_, inl, inr}
-use mathlib.Core.Bool.{Bool, true, false, _&&_, false≢true}
-use mathlib.Core.List.{List, [], _∷_, _++_, List·Memᴰ, List·Memᴰ·append-cases}
+use mathlib.Core.Bool.{Bool, true, false, _&&_}
+use mathlib.Core.List.{List, [], _∷_, List·Memᴰ, List·Memᴰ·append-cases}
 use lib.ListN.{length, drop, length-drop}
 use lib.Seq.{getD-drop}
 use lib.Dec.{leb, ltb, eqb}
-use borrow.Author.Tests.{ltb-true, lt-ltb, leb-true, eqb-true}
+use borrow.Author.Tests.{ltb-true, lt-ltb, eqb-true}
 use Rattle.laws.specs.Lists.{at, all, allBelow, zeros, times}
 use Rattle.laws.proofs.Tests.{both, all-in, below-in}
 use Rattle.laws.proofs.Facts.{all-at, zeros-in}
-use Rattle.laws.proofs.Once.{Once, Last, only, later, last-in, Linked, stop, goes, linked-first, linked-once, linked-last, each-once}
-use Rattle.rules.specs.declared.Control.{Control}
-use Rattle.rules.specs.Memory.{Store, pageCount, addressPage, pageLink, regionOrigin, pageWords, bodyWords, bodyAddress, pageEnd, link, origin, row, endOf, firstOf, topOf, statusOf, chain, firstLink, regionPages, freePages, pagesFrom}
-use Rattle.rules.specs.Words.{isRecord, vals, pageVals, constVals, usedOf, fieldsPass}
-use Rattle.rules.specs.Audit.{eachPage, ifLast, rule2, opens, endsWell, lastLink, allChains, rule3, endsAt, topFits, rule4, filled, pageFilled, rule5, goodWord, rule6, rule7, constField, rule8, clean, rule9, firstFailing, brokenRule}
+use Rattle.laws.proofs.Once.{Last, only, later, last-in, Linked, goes, linked-once, linked-last, each-once}
+use Rattle.rules.specs.Memory.{Store, pageCount, addressPage, regionOrigin, pageWords, bodyWords, bodyAddress, pageEnd, link, origin, row, endOf, firstOf, topOf, statusOf, chain, firstLink, regionPages, freePages, pagesFrom}
+use Rattle.rules.specs.Words.{isRecord, vals, pageVals, usedOf, fieldsPass}
+use Rattle.rules.specs.Audit.{eachPage, ifLast, rule2, opens, endsWell, lastLink, allChains, rule3, endsAt, rule4, filled, pageFilled, rule5, goodWord, rule6, rule7, constField, rule8, clean, rule9, firstFailing, brokenRule}
 use Rattle.rules.specs.Pages.{begun}
 use Rattle.rules.specs.Refusals.{Admitted, withinLimits, commonTest}
 use Rattle.rules.proofs.Limits.{admits, page-size, whole-pages}
 use Rattle.rules.proofs.Chains.{length-page, at-page}
 use Rattle.rules.proofs.Whole as W
-use Rattle.facts.proofs.Steps.{Stands, Steps, steps-le, Holds}
-use Rattle.facts.proofs.Laid.{Owner, old, spare, beyond, mine, Body, Clean, Layout}
+use Rattle.facts.proofs.Steps.{Stands, Steps, Holds}
+use Rattle.facts.proofs.Laid.{Owner, spare, beyond, mine, Body, Clean, Layout}
 use Rattle.facts.proofs.Filled.{steps-end, filled-steps, filled-rest, fields-in}
 use Rattle.facts.proofs.Goods.{page-ends, body-holds, body-ends, good-of, const-of}
-use Rattle.facts.proofs.Sound.{Within, Good, GoodConst, Constants, Chained, in-free, in-region, Sound}
+use Rattle.facts.proofs.Sound.{Within, Good, Constants, Chained, in-free, in-region, Sound}
 
 -- ---- the rules, each by itself
 

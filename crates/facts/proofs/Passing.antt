@@ -1,37 +1,34 @@
 -- From facts to the audit's tests: a `Sound` heap passes, so that `Sound` is exactly what the audit's yes means. The chains are the lists
 -- that `Sound` names, since linked pages of which each stands once are at most N.
-use Prim.Native.Nat.{ℕ, zero, suc, _+_, _-_, _*_, _/_, _%_, _^_, _≤_, _<_, zero-le, suc-le-suc}
-use native.Mathlib.Nat.{le-refl, mul-div-left, mul-mod-left}
+use Prim.Native.Nat.{ℕ, zero, suc, _+_, _*_, _/_, _%_, _^_, _≤_, _<_, zero-le}
+use native.Mathlib.Nat.{mul-div-left, mul-mod-left}
 use native.Mathlib.Omega.{arith}
 use mathlib.Core.Path.{_≡_, refl, sym, ap, _∙_}
-use mathlib.Core.Logic.{_≢_, _↔_, _⊎_, inl, inr}
-use mathlib.Core.Bool.{Bool, true, false, _&&_, not, Bool·beq, false≢true}
-use mathlib.Core.List.{List, [], _∷_, _++_, List·Memᴰ, List·Memᴰ·head, List·Memᴰ·tail, Memᴰ·append-left, Memᴰ·append-right}
+use mathlib.Core.Logic.{_≢_, _↔_}
+use mathlib.Core.Bool.{Bool, true, false, Bool·beq}
+use mathlib.Core.List.{List, List·Memᴰ, List·Memᴰ·head, Memᴰ·append-left, Memᴰ·append-right}
 use lib.ListN.{length, drop, length-drop}
 use lib.Seq.{getD-drop}
-use lib.Dec.{leb, ltb, eqb}
-use borrow.Author.Tests.{ltb-true, lt-ltb, leb-true, le-leb, eqb-true, eq-eqb, ne-eqb, not-false}
-use Rattle.laws.specs.Choice.{_⇒_∣_}
-use Rattle.laws.specs.Lists.{at, all, allBelow, zeros, times}
+use lib.Dec.{eqb}
+use borrow.Author.Tests.{lt-ltb, le-leb, eq-eqb, ne-eqb}
+use Rattle.laws.specs.Lists.{at, all}
 use Rattle.laws.proofs.Facts.{and-of, all-of, at-all, below-of, zeros-of}
-use Rattle.laws.proofs.Once.{Once, Last, last-in, last-one, Linked, stop, goes, linked-first, linked-none, linked-once, linked-ends, once-most, once-each}
+use Rattle.laws.proofs.Once.{Once, last-in, last-one, Linked, stop, goes, linked-ends, once-most, once-each}
 use Rattle.rules.specs.declared.Control.{Control}
 use Rattle.rules.specs.declared.Refusal.{Refusal}
 use Rattle.rules.specs.declared.Plain.{Plain}
-use Rattle.rules.specs.Memory.{Store, limits, pageCount, addressPage, pageLink, regionOrigin, pageWords, bodyWords, bodyAddress, pageEnd, link, origin, row, endOf, firstOf, topOf, statusOf, chain, chainEnd, firstLink, regionPages, freePages, pagesFrom}
-use Rattle.rules.specs.Words.{isRecord, vals, pageVals, constVals, usedOf, fieldsPass}
+use Rattle.rules.specs.Memory.{Store, limits, pageCount, regionOrigin, pageWords, bodyWords, link, origin, endOf, firstOf, topOf, statusOf, chain, chainEnd, firstLink, regionPages, freePages, pagesFrom}
+use Rattle.rules.specs.Words.{pageVals, usedOf, fieldsPass}
 use Rattle.rules.specs.Audit.{eachPage, ifLast, rule2, opens, endsWell, lastLink, allChains, rule3, endsAt, topFits, rule4, filled, pageFilled, rule5, goodWord, rule6, rule7, constField, rule8, clean, rule9, firstFailing, brokenRule}
-use Rattle.rules.specs.Pages.{begun}
 use Rattle.rules.specs.Refusals.{Paged, common, withinLimits, commonTest}
 use Rattle.rules.specs.Calls.{audit}
-use Rattle.rules.proofs.Limits.{page-size, whole-pages}
 use Rattle.rules.proofs.Chains.{length-page, at-page}
 use Rattle.rules.proofs.Whole.{linked-chain, chains-once, of-pages}
-use Rattle.facts.proofs.Steps.{Stands, Steps, steps-le, Holds}
-use Rattle.facts.proofs.Laid.{Owner, spare, beyond, mine, Body, Clean, Layout}
+use Rattle.facts.proofs.Steps.{steps-le, Holds}
+use Rattle.facts.proofs.Laid.{spare, beyond, mine, Body}
 use Rattle.facts.proofs.Filled.{vals-used, filled-of, fields-of}
 use Rattle.facts.proofs.Goods.{page-ends, body-holds, body-ends, of-good, of-const}
-use Rattle.facts.proofs.Sound.{Within, Good, GoodConst, Constants, Chained, in-free, in-region, Sound, Passes}
+use Rattle.facts.proofs.Sound.{Within, Chained, in-free, in-region, Sound, Passes}
 use Rattle.facts.proofs.Means.{Rules, sound-of}
 
 pub hold-rules : (s : Store) → Rules s → brokenRule s ≡ 0

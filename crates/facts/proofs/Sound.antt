@@ -1,15 +1,14 @@
 -- What the audit's yes means: the rules of document 01 as facts about words. `Sound` is the record of them; that it and the audit's tests
 -- say the same is proved beside it.
-use Prim.Native.Nat.{ℕ, zero, suc, _+_, _*_, _/_, _^_, _≤_, _<_}
+use Prim.Native.Nat.{ℕ, zero, suc, _+_, _*_, _^_, _≤_, _<_}
 use native.Mathlib.Omega.{arith}
 use mathlib.Core.Path.{_≡_, sym, _∙_}
-use mathlib.Core.Bool.{Bool, true, false}
-use mathlib.Core.List.{List, [], _∷_, List·Memᴰ}
+use mathlib.Core.Bool.{true}
+use mathlib.Core.List.{List, List·Memᴰ}
 use lib.ListN.{length}
 use Rattle.laws.specs.Lists.{at}
-use Rattle.rules.specs.declared.Control.{Control}
 use Rattle.rules.specs.Memory.{Store, pageCount, endOf, topOf, statusOf}
-use Rattle.rules.specs.Words.{Word, number, inHeap, inConst, wordOf, isRecord}
+use Rattle.rules.specs.Words.{number, inHeap, inConst, wordOf, isRecord}
 use Rattle.rules.specs.Pages.{begun}
 use Rattle.rules.specs.Audit.{brokenRule}
 use Rattle.rules.specs.Refusals.{Paged, withinLimits, commonTest}
