@@ -1,11 +1,13 @@
 pub mod Owned
 pub mod Stored
-pub mod Log
-pub mod Scanned
 pub mod Taken
 pub mod Roomy
+pub mod Placed
+pub mod Log
+pub mod Scanned
+pub mod Fielded
 pub mod Next
 pub mod Rows
 pub mod Moving
-pub mod Placed
-pub mod Fielded
+pub mod Invariant
+pub mod Waking
