@@ -11,3 +11,7 @@ pub mod Rows
 pub mod Moving
 pub mod Invariant
 pub mod Waking
+pub mod Evacuating
+pub mod Tallied
+pub mod Copying
+pub mod Evacuation
