@@ -352,13 +352,24 @@ module _ (s : Store) (S : Sound s) (g : Ghost) (r : Run) (I : Inv s S g r)
         half = refl;
         past = λ i. refl;
         todo = λ i. go i (ℕ-discrete i j);
-        count = λ {a = c} {b = d} q. upd-other (g .count) b 0 d (elsewhere q);
+        waits = λ {a = c} {b = d} q i m. by i d (elsewhere q) (ℕ-discrete i j) m;
         cost = omega arith;
       }
     where
       go : (i : ℕ) → Dec (i ≡ j) → (ts : List ℕ) × (ghost .todo i ≡ g .todo i ++ ts)
       go i (yes e) = (b ∷ [], upd-same (g .todo) j (g .todo j ++ b ∷ []) i e ∙ ap (λ x. g .todo x ++ b ∷ []) (sym e))
       go i (no ne) = ([], todo-other i ne ∙ sym (append-nil (g .todo i)))
+
+      earlier : (d : ℕ) → d ≢ b → List·Memᴰ d (g .todo j) ⊎ List·Memᴰ d (b ∷ []) → List·Memᴰ d (g .todo j)
+      earlier d ne (inl m) = m
+      earlier d ne (inr m) = absurd (ne (List·Memᴰ·eq-of-singleton m))
+
+      by : (i d : ℕ) → d ≢ b → Dec (i ≡ j) → List·Memᴰ d (ghost .todo i) → List·Memᴰ d (g .todo i)
+      by i d ne (yes e) m = rw e (earlier d ne (List·Memᴰ·append-cases (g .todo j) (rw (upd-same (g .todo) j (g .todo j ++ b ∷ []) i e) at m)))
+      by i d ne (no nj) m = rw (todo-other i nj) at m
+
+  pub copied-count : {c d : ℕ} → List·Memᴰ (to c d) (g .log) → ghost .count d ≡ g .count d
+  copied-count {c} {d} q = upd-other (g .count) b 0 d (elsewhere q)
 
   pub copied-moves : room n j (suc l) r ≡ some r₁ → moveTo n j a l r ≡ some (4 * b, after)
   unfolding moveTo place moveOn

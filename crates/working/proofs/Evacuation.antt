@@ -29,7 +29,7 @@ use Rattle.working.proofs.Placed.{Roomed}
 use Rattle.working.proofs.Moving.{still, still-whose}
 use Rattle.working.proofs.Invariant.{Ghost, Kept, Inv, Later, later-refl, Lacking, Became}
 use Rattle.working.proofs.Evacuating.{forward-head, in-log, in-pointers, room-or}
-use Rattle.working.proofs.Copying.{ghost, copied-inv, copied-later, copied-moves}
+use Rattle.working.proofs.Copying.{ghost, copied-inv, copied-later, copied-count, copied-moves}
 
 module _ (s : Store) (S : Sound s) (g : Ghost) (r : Run) (I : Inv s S g r) where
   abbrev n : ℕ
@@ -43,7 +43,7 @@ module _ (s : Store) (S : Sound s) (g : Ghost) (r : Run) (I : Inv s S g r) where
 
   -- nothing changes
   stays : (w v : ℕ) → Rel (Kept s) (pointers (g .log)) w v → Became s S g r w v r
-  stays w v rel = record { ghost = g; inv = I; later = later-refl R g r; rel = rel }
+  stays w v rel = record { ghost = g; inv = I; later = later-refl R g r; rel = rel; count = λ q. refl }
 
   -- the page of a good pointer is an old one
   old-page : (a : ℕ) (x : InHeap n R (s .heap) a) → g .own (x .page) ≡ old
@@ -130,6 +130,7 @@ module _ (s : Store) (S : Sound s) (g : Ghost) (r : Run) (I : Inv s S g r) where
                   inv = copied-inv s S g r I j f a l (x .known) o (x .whose) (x .steps) (x .stands) reached new r₁ K;
                   later = copied-later s S g r I j f a l (x .known) o (x .whose) (x .steps) (x .stands) reached new r₁ K;
                   rel = went (List·Memᴰ·head refl);
+                  count = copied-count s S g r I j f a l (x .known) o (x .whose) (x .steps) (x .stands) reached new r₁ K;
                 },
               )
 

@@ -99,12 +99,12 @@ pub record Later (R : ℕ) (g : Ghost) (r : Run) (g′ : Ghost) (r′ : Run) : T
   pub half : g′ .half ≡ g .half
   pub past : (j : ℕ) → g′ .past j ≡ g .past j
   pub todo : (j : ℕ) → (ts : List ℕ) × (g′ .todo j ≡ g .todo j ++ ts)
-  pub count : {a b : ℕ} → List·Memᴰ (to a b) (g .log) → g′ .count b ≡ g .count b
+  pub waits : {a b : ℕ} → List·Memᴰ (to a b) (g .log) → (j : ℕ) → List·Memᴰ b (g′ .todo j) → List·Memᴰ b (g .todo j)
   pub cost : total (g′ .todo) R + length (r′ .stack) + 2 * length (g .log) ≤ total (g .todo) R + length (r .stack) + 2 * length (g′ .log)
 
 pub later-refl : (R : ℕ) (g : Ghost) (r : Run) → Later R g r g r
 later-refl R g r =
-    record { log = λ m q. q; cur = refl; half = refl; past = λ j. refl; todo = λ j. ([], sym (append-nil (g .todo j))); count = λ q. refl; cost = le-refl _ }
+    record { log = λ m q. q; cur = refl; half = refl; past = λ j. refl; todo = λ j. ([], sym (append-nil (g .todo j))); waits = λ q j m. m; cost = le-refl _ }
 
 pub later-trans : {R : ℕ} {g : Ghost} {r : Run} {g₁ : Ghost} {r₁ : Run} {g₂ : Ghost} {r₂ : Run} → Later R g r g₁ r₁ → Later R g₁ r₁ g₂ r₂ → Later R g r g₂ r₂
 later-trans {R} {g} {r} {g₁} {r₁} {g₂} {r₂} p q =
@@ -119,7 +119,7 @@ later-trans {R} {g} {r} {g₁} {r₁} {g₂} {r₂} p q =
           let t = p .todo j in
           let u = q .todo j in
           (t .0 ++ u .0, u .1 ∙ ap (λ xs. xs ++ u .0) (t .1) ∙ append-assoc (g .todo j) (t .0) (u .0));
-      count = λ {a} {b} t. q .count (p .log (to a b) t) ∙ p .count t;
+      waits = λ {a} {b} t j m. p .waits t j (q .waits (p .log (to a b) t) j m);
       cost = omega arith;
     }
 
@@ -142,6 +142,7 @@ pub record Became (s : Store) (S : Sound s) (g : Ghost) (r : Run) (w v : ℕ) (r
   pub inv : Inv s S ghost r′
   pub later : Later (s .ctl .regions) g r ghost r′
   pub rel : Rel (Kept s) (pointers (ghost .log)) w v
+  pub count : {a b : ℕ} → List·Memᴰ (to a b) (g .log) → ghost .count b ≡ g .count b
 
 -- f steps are enough: two for each word of the heap that is not yet the header of a copied value, one for each copy to be scanned, one for
 -- each region on the stack, and one

@@ -15,3 +15,5 @@ pub mod Evacuating
 pub mod Tallied
 pub mod Copying
 pub mod Evacuation
+pub mod Fielding
+pub mod Scanning

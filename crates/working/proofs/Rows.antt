@@ -5,7 +5,7 @@ use native.Mathlib.Omega.{arith}
 use native.Mathlib.Decide.{ℕ-discrete}
 use mathlib.Core.Path.{_≡_, refl, sym, ap, _∙_, subst}
 use mathlib.Core.Logic.{_≢_, _⊎_, inl, inr}
-use mathlib.Core.List.{List, [], _∷_, _++_, append-assoc, List·Memᴰ, List·Memᴰ·head, List·Memᴰ·tail, List·Memᴰ·append-cases, List·Memᴰ·eq-of-singleton}
+use mathlib.Core.List.{List, [], _∷_, _++_, append-assoc, List·Memᴰ, List·Memᴰ·head, List·Memᴰ·tail, List·Memᴰ·append-cases, Memᴰ·append-left, Memᴰ·append-right, List·Memᴰ·eq-of-singleton}
 use Rattle.laws.specs.Lists.{at}
 use Rattle.laws.proofs.Lists.{apart as pages-apart}
 use Rattle.laws.proofs.Once.{once-none, once-append}
@@ -38,6 +38,16 @@ row-same {n} {g} {h} {fin} {fin′} agree ends (row-last {k} v) =
 row-same {n} {g} {h} {fin} {fin′} agree ends (row-more {k} {k′} v ne t) =
     row-more (vals-to (ends k (List·Memᴰ·head refl)) (vals-same (λ x p q. agree k x (List·Memᴰ·head refl) p q) v))
     (subst (λ b. k′ * 2 ^ n + 2 < b) (ends k′ (List·Memᴰ·tail (List·Memᴰ·head refl))) ne) (row-same (λ m x p. agree m x (List·Memᴰ·tail p)) (λ m p. ends m (List·Memᴰ·tail p)) t)
+
+-- only the headers matter
+vals-headers : {g h : List ℕ} {hi a b : ℕ} {vs : List ℕ} → ((x : ℕ) → List·Memᴰ x vs → at g x ≡ at h x) → Vals g hi a b vs → Vals h hi a b vs
+vals-headers agree vals-none = vals-none
+vals-headers agree (vals-more {a} st t) = vals-more (stands-same (agree a (List·Memᴰ·head refl)) st) (vals-headers (λ x m. agree x (List·Memᴰ·tail m)) t)
+
+pub row-headers : {n : ℕ} {g h : List ℕ} {fin : ℕ → ℕ} {ks vs : List ℕ} → ((x : ℕ) → List·Memᴰ x vs → at g x ≡ at h x) → Row n g fin ks vs → Row n h fin ks vs
+row-headers agree (row-last v) = row-last (vals-headers agree v)
+row-headers agree (row-more {vs = vs} {bs = bs} v ne t) =
+    row-more (vals-headers (λ x m. agree x (Memᴰ·append-left bs m)) v) ne (row-headers (λ x m. agree x (Memᴰ·append-right vs m)) t)
 
 -- one value more in the last page z
 pub row-snoc : {n : ℕ} {h : List ℕ} {fin fin′ : ℕ → ℕ} {ks vs : List ℕ} {z l : ℕ} → Row n h fin ks vs → Last ks z → Once ks → Stands h (z * 2 ^ n + 2 ^ n) (fin z) l
