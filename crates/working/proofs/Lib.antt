@@ -17,3 +17,4 @@ pub mod Copying
 pub mod Evacuation
 pub mod Fielding
 pub mod Scanning
+pub mod Turn
