@@ -86,3 +86,14 @@ seen-plain s = record { no-value = λ v e. none v (wordOf v) refl e; no-home = �
     homeless v number q e = unfold homeIn in (rw (q, homeIn))
     homeless v (inHeap a) q e = let z : false ≡ true = rw q at e in let z′ : _≡_ {A = ℕ} 0 1 = cc in absurd (omega arith)
     homeless v (inConst a) q e = let z : false ≡ true = rw q at e in let z′ : _≡_ {A = ℕ} 0 1 = cc in absurd (omega arith)
+
+-- a word that points to the heap is the pointer to its address
+pub pointer-is : (w a : ℕ) → wordOf w ≡ inHeap a → w ≡ 4 * a
+unfolding wordOf
+pointer-is w a e = go (w % 4) refl
+  where
+    go : (x : ℕ) → w % 4 ≡ x → w ≡ 4 * a
+    go zero q = let t : inHeap (w / 4) ≡ inHeap a = rw q at e in let u : w / 4 ≡ a = cc in omega arith
+    go (suc zero) q = let t : number ≡ inHeap a = rw q at e in let z : _≡_ {A = ℕ} 0 1 = cc in absurd (omega arith)
+    go (suc (suc zero)) q = let t : inConst (w / 4) ≡ inHeap a = rw q at e in let z : _≡_ {A = ℕ} 0 1 = cc in absurd (omega arith)
+    go (suc (suc (suc x))) q = let t : number ≡ inHeap a = rw q at e in let z : _≡_ {A = ℕ} 0 1 = cc in absurd (omega arith)

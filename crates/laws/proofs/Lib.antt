@@ -3,3 +3,4 @@ pub mod Lists
 pub mod Tests
 pub mod Once
 pub mod Facts
+pub mod Sums

@@ -75,7 +75,7 @@ total-tail f j x xs (suc m) b e = go (ℕ-discrete m j) (λ q. total-tail f j x 
         let u : upd f j xs m ≡ xs = upd-same f j xs m q in
         let v : total (upd f j xs) m ≡ total f m = total-same _ f m (λ i t. upd-other f j xs i (omega arith)) in
         let w : f m ≡ x ∷ xs = ap f q ∙ e in
-        rw (u, v, w)
+        rw (u, v, w) (omega arith)
     go (no ne) rest =
         let u : upd f j xs m ≡ f m = upd-other f j xs m ne in
         let v = rest (omega arith) in
