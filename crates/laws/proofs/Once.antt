@@ -86,6 +86,44 @@ last-one only (later v) = no-last v
 last-one (later u) only = no-last u
 last-one (later u) (later v) = last-one u v
 
+-- ---- one number more, behind the last
+
+pub linked-snoc : {l m : ℕ → ℕ} {x z k : ℕ} {ks : List ℕ} → Linked l x ks → Last ks z → Once ks → m z ≡ suc k → m k ≡ 0
+    → ((y : ℕ) → List·Memᴰ y ks → y ≢ z → l y ≡ m y) → Linked m x (ks ++ k ∷ [])
+linked-snoc {m = m} {k = k} (goes {k = z} t) only o e e′ same =
+    let t₀ : Linked m (m k) [] = rw e′ stop in
+    let t₁ : Linked m (suc k) (k ∷ []) = goes t₀ in
+    let t₂ : Linked m (m z) (k ∷ []) = rw e t₁ in
+    goes t₂
+linked-snoc {m = m} {z = z} (goes {k = y} t) (later u) (once-more f o) e e′ same =
+    let rest = linked-snoc t u o e e′ (λ w p ne. same w (List·Memᴰ·tail p) ne) in
+    goes (rw (same y (List·Memᴰ·head refl) (λ q. f (rw (← q) at (last-in u)))) at rest)
+
+pub last-snoc : {k : ℕ} (ks : List ℕ) → Last (ks ++ k ∷ []) k
+last-snoc [] = only
+last-snoc (y ∷ ys) = later (last-snoc ys)
+
+pub last-is : {k l : ℕ} (ks : List ℕ) → Last (ks ++ k ∷ []) l → l ≡ k
+last-is ks u = last-one u (last-snoc ks)
+
+pub in-snoc : {k y : ℕ} (ks : List ℕ) → List·Memᴰ y (ks ++ k ∷ []) → List·Memᴰ y ks ⊎ (y ≡ k)
+in-snoc [] (List·Memᴰ·head e) = inr e
+in-snoc [] (List·Memᴰ·tail m) = absurd (List·Memᴰ·not-nil m)
+in-snoc (x ∷ xs) (List·Memᴰ·head e) = inl (List·Memᴰ·head e)
+in-snoc {k} {y} (x ∷ xs) (List·Memᴰ·tail m) = go (in-snoc xs m)
+  where
+    go : List·Memᴰ y xs ⊎ (y ≡ k) → List·Memᴰ y (x ∷ xs) ⊎ (y ≡ k)
+    go (inl p) = inl (List·Memᴰ·tail p)
+    go (inr e) = inr e
+
+pub once-snoc : {k : ℕ} {ks : List ℕ} → Once ks → (List·Memᴰ k ks → ⊥) → Once (ks ++ k ∷ [])
+once-snoc once-none f = once-more (λ m. List·Memᴰ·not-nil m) once-none
+once-snoc {k} (once-more {k = y} {ks} g o) f = once-more (λ m. go (in-snoc ks m)) (once-snoc o (λ m. f (List·Memᴰ·tail m)))
+  where
+    go : List·Memᴰ y ks ⊎ (y ≡ k) → ⊥
+    go (inl p) = g p
+    go (inr e) = f (List·Memᴰ·head (sym e))
+
 -- ---- numbers that stand once, and how often a number stands in a list
 
 pub times-head : (k x : ℕ) (xs : List ℕ) → k ≡ x → times k (x ∷ xs) ≡ suc (times k xs)
