@@ -9,3 +9,4 @@ pub mod Filled
 pub mod Goods
 pub mod Means
 pub mod Passing
+pub mod Given
