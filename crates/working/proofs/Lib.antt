@@ -18,3 +18,5 @@ pub mod Evacuation
 pub mod Fielding
 pub mod Scanning
 pub mod Turn
+pub mod Leaving
+pub mod Work
