@@ -20,3 +20,4 @@ pub mod Scanning
 pub mod Turn
 pub mod Leaving
 pub mod Work
+pub mod Roots
