@@ -21,3 +21,5 @@ pub mod Turn
 pub mod Leaving
 pub mod Work
 pub mod Roots
+pub mod Fresh
+pub mod Freshening
