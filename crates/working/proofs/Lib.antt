@@ -23,3 +23,4 @@ pub mod Work
 pub mod Roots
 pub mod Fresh
 pub mod Freshening
+pub mod Running
