@@ -6,7 +6,7 @@ use native.Mathlib.Nat.{le-refl}
 use native.Mathlib.Decide.{ℕ-discrete}
 use mathlib.Core.Path.{_≡_, refl, sym, ap, _∙_}
 use mathlib.Core.Logic.{_≢_, _⊎_, inl, inr}
-use mathlib.Core.Bool.{Bool, true, false}
+use mathlib.Core.Bool.{true, false}
 use mathlib.Core.List.{List, [], _∷_, _++_, List·Memᴰ, List·Memᴰ·head, List·Memᴰ·tail, List·Memᴰ·cases-cons, List·Memᴰ·not-nil, List·Memᴰ·append-cases}
 use lib.ListN.{length}
 use lib.Dec.{eqb}
@@ -67,6 +67,62 @@ linked-once (goes t) =
 pub linked-last : {l : ℕ → ℕ} {x k : ℕ} {ks : List ℕ} → Linked l x ks → Last ks k → l k ≡ 0
 linked-last (goes t) only = linked-none t
 linked-last (goes t) (later u) = linked-last t u
+
+-- and a number whose link is 0 is the last
+pub linked-ends : {l : ℕ → ℕ} {x k : ℕ} {ks : List ℕ} → Linked l x ks → List·Memᴰ k ks → l k ≡ 0 → Last ks k
+linked-ends (goes {k} t) (List·Memᴰ·head e) q = head-last (rw (← e) at t) q (sym e)
+  where
+    head-last : {l : ℕ → ℕ} {k j : ℕ} {ks : List ℕ} → Linked l (l k) ks → l k ≡ 0 → j ≡ k → Last (j ∷ ks) k
+    head-last {ks = []} t q e = rw e only
+    head-last {ks = y ∷ ys} t q e = let z = linked-first t .0 in absurd (omega arith)
+linked-ends (goes t) (List·Memᴰ·tail m) q = later (linked-ends t m q)
+
+no-last : {A : Type 0} {l : ℕ} → Last [] l → A
+no-last u = elim u [ ]
+
+pub last-one : {ks : List ℕ} {a b : ℕ} → Last ks a → Last ks b → a ≡ b
+last-one only only = refl
+last-one only (later v) = no-last v
+last-one (later u) only = no-last u
+last-one (later u) (later v) = last-one u v
+
+-- ---- one number more, behind the last
+
+pub linked-snoc : {l m : ℕ → ℕ} {x z k : ℕ} {ks : List ℕ} → Linked l x ks → Last ks z → Once ks → m z ≡ suc k → m k ≡ 0
+    → ((y : ℕ) → List·Memᴰ y ks → y ≢ z → l y ≡ m y) → Linked m x (ks ++ k ∷ [])
+linked-snoc {m = m} {k = k} (goes {k = z} t) only o e e′ same =
+    let t₀ : Linked m (m k) [] = rw e′ stop in
+    let t₁ : Linked m (suc k) (k ∷ []) = goes t₀ in
+    let t₂ : Linked m (m z) (k ∷ []) = rw e t₁ in
+    goes t₂
+linked-snoc {m = m} {z = z} (goes {k = y} t) (later u) (once-more f o) e e′ same =
+    let rest = linked-snoc t u o e e′ (λ w p ne. same w (List·Memᴰ·tail p) ne) in
+    goes (rw (same y (List·Memᴰ·head refl) (λ q. f (rw (← q) at (last-in u)))) at rest)
+
+pub last-snoc : {k : ℕ} (ks : List ℕ) → Last (ks ++ k ∷ []) k
+last-snoc [] = only
+last-snoc (y ∷ ys) = later (last-snoc ys)
+
+pub last-is : {k l : ℕ} (ks : List ℕ) → Last (ks ++ k ∷ []) l → l ≡ k
+last-is ks u = last-one u (last-snoc ks)
+
+pub in-snoc : {k y : ℕ} (ks : List ℕ) → List·Memᴰ y (ks ++ k ∷ []) → List·Memᴰ y ks ⊎ (y ≡ k)
+in-snoc [] (List·Memᴰ·head e) = inr e
+in-snoc [] (List·Memᴰ·tail m) = absurd (List·Memᴰ·not-nil m)
+in-snoc (x ∷ xs) (List·Memᴰ·head e) = inl (List·Memᴰ·head e)
+in-snoc {k} {y} (x ∷ xs) (List·Memᴰ·tail m) = go (in-snoc xs m)
+  where
+    go : List·Memᴰ y xs ⊎ (y ≡ k) → List·Memᴰ y (x ∷ xs) ⊎ (y ≡ k)
+    go (inl p) = inl (List·Memᴰ·tail p)
+    go (inr e) = inr e
+
+pub once-snoc : {k : ℕ} {ks : List ℕ} → Once ks → (List·Memᴰ k ks → ⊥) → Once (ks ++ k ∷ [])
+once-snoc once-none f = once-more (λ m. List·Memᴰ·not-nil m) once-none
+once-snoc {k} (once-more {k = y} {ks} g o) f = once-more (λ m. go (in-snoc ks m)) (once-snoc o (λ m. f (List·Memᴰ·tail m)))
+  where
+    go : List·Memᴰ y ks ⊎ (y ≡ k) → ⊥
+    go (inl p) = g p
+    go (inr e) = f (List·Memᴰ·head (sym e))
 
 -- ---- numbers that stand once, and how often a number stands in a list
 

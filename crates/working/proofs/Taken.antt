@@ -10,6 +10,7 @@ use mathlib.Core.Option.{Option, none, some}
 use mathlib.Core.List.{List, [], _∷_, _++_, List·Memᴰ, List·Memᴰ·head, List·Memᴰ·tail, List·Memᴰ·not-nil}
 use lib.ListN.{length, getD, set, length-set}
 use lib.Seq.{getD-set-same, getD-set-other}
+pub use Rattle.laws.proofs.Once.{linked-first, linked-none, linked-snoc, last-snoc, last-one, last-is, in-snoc, once-snoc}
 use Rattle.rules.specs.declared.Control.{Control}
 use Rattle.rules.specs.Memory.{Store, link, setLink, setOrigin, origin, endOf, firstOf, topOf, statusOf}
 use Rattle.laws.specs.Lists.{at, lastOr, put}
@@ -31,13 +32,6 @@ takes n j k r e = rw (e, takePage)
 pub takes-none : (n j : ℕ) (r : Run) → r .first ≡ 0 → takePage n j r ≡ none
 unfolding takePage
 takes-none n j r e = rw (e, takePage)
-
--- what a free list begins with
-pub linked-first : {l : ℕ → ℕ} {x k : ℕ} {ks : List ℕ} → Linked l x (k ∷ ks) → (x ≡ suc k) × Linked l (l k) ks
-linked-first (goes t) = (refl, t)
-
-pub linked-none : {l : ℕ → ℕ} {x : ℕ} → Linked l x [] → x ≡ 0
-linked-none stop = refl
 
 spare≢mine : {i : ℕ} → spare ≢ mine i
 spare≢mine e = let z : _≡_ {A = ℕ} 0 1 = cc in omega arith
@@ -185,50 +179,3 @@ module _ (n N R : ℕ) (own : ℕ → Owner) (fin : ℕ → ℕ) (pages : ℕ �
             let t = L .mine-top i b in
             (t .0, t .1, t .2, t .3 ∙ sym (upd-other fin k (k * P + 2) (t .0) (mine-not-k i (t .0) b (last-in (t .1)))));
       }
-
--- ---- a page linked behind the last
-
-pub linked-snoc : {l m : ℕ → ℕ} {x z k : ℕ} {ks : List ℕ} → Linked l x ks → Last ks z → Once ks → m z ≡ suc k → m k ≡ 0
-    → ((y : ℕ) → List·Memᴰ y ks → y ≢ z → l y ≡ m y) → Linked m x (ks ++ k ∷ [])
-linked-snoc {m = m} {k = k} (goes {k = z} t) only o e e′ same =
-    let t₀ : Linked m (m k) [] = rw e′ stop in
-    let t₁ : Linked m (suc k) (k ∷ []) = goes t₀ in
-    let t₂ : Linked m (m z) (k ∷ []) = rw e t₁ in
-    goes t₂
-linked-snoc {m = m} {z = z} (goes {k = y} t) (later u) (once-more f o) e e′ same =
-    let rest = linked-snoc t u o e e′ (λ w p ne. same w (List·Memᴰ·tail p) ne) in
-    goes (rw (same y (List·Memᴰ·head refl) (λ q. f (rw (← q) at (last-in u)))) at rest)
-
-pub last-snoc : {k : ℕ} (ks : List ℕ) → Last (ks ++ k ∷ []) k
-last-snoc [] = only
-last-snoc (y ∷ ys) = later (last-snoc ys)
-
-no-last : {A : Type 0} {l : ℕ} → Last [] l → A
-no-last u = elim u [ ]
-
-pub last-one : {ks : List ℕ} {a b : ℕ} → Last ks a → Last ks b → a ≡ b
-last-one only only = refl
-last-one only (later v) = no-last v
-last-one (later u) only = no-last u
-last-one (later u) (later v) = last-one u v
-
-pub last-is : {k l : ℕ} (ks : List ℕ) → Last (ks ++ k ∷ []) l → l ≡ k
-last-is ks u = last-one u (last-snoc ks)
-
-pub in-snoc : {k y : ℕ} (ks : List ℕ) → List·Memᴰ y (ks ++ k ∷ []) → List·Memᴰ y ks ⊎ (y ≡ k)
-in-snoc [] (List·Memᴰ·head e) = inr e
-in-snoc [] (List·Memᴰ·tail m) = absurd (List·Memᴰ·not-nil m)
-in-snoc (x ∷ xs) (List·Memᴰ·head e) = inl (List·Memᴰ·head e)
-in-snoc {k} {y} (x ∷ xs) (List·Memᴰ·tail m) = go (in-snoc xs m)
-  where
-    go : List·Memᴰ y xs ⊎ (y ≡ k) → List·Memᴰ y (x ∷ xs) ⊎ (y ≡ k)
-    go (inl p) = inl (List·Memᴰ·tail p)
-    go (inr e) = inr e
-
-pub once-snoc : {k : ℕ} {ks : List ℕ} → Once ks → (List·Memᴰ k ks → ⊥) → Once (ks ++ k ∷ [])
-once-snoc once-none f = once-more (λ m. List·Memᴰ·not-nil m) once-none
-once-snoc {k} (once-more {k = y} {ks} g o) f = once-more (λ m. go (in-snoc ks m)) (once-snoc o (λ m. f (List·Memᴰ·tail m)))
-  where
-    go : List·Memᴰ y ks ⊎ (y ≡ k) → ⊥
-    go (inl p) = g p
-    go (inr e) = f (List·Memᴰ·head (sym e))
