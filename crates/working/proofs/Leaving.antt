@@ -87,6 +87,7 @@ module _ (s : Store) (S : Sound s) (g : Ghost) (r : Run) (I : Inv s S g r) (j : 
           rows = P .rows;
           untouched = P .untouched;
           scanned = P .scanned;
+          raws = P .raws;
           stacked = waits;
           once = once;
           at-work = λ i e. let t = next i e in (t .0, rw (same i (t .2)) (t .1));

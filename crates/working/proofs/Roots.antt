@@ -12,12 +12,12 @@ use Rattle.rules.specs.Memory.{Store, pageCount, topOf}
 use Rattle.rules.specs.Pages.{Scan, Run, withStack}
 use Rattle.rules.specs.Collection.{Ended, finished, lacksPage, evacuate, evacuateAll, work, workStack}
 use Rattle.facts.specs.View.{seen, Reached}
-use Rattle.facts.proofs.Laid.{Layout}
 use Rattle.facts.proofs.Copied.{Moved, to, Rel, num, stay, went}
 use Rattle.facts.proofs.Sound.{Good, Sound}
 use Rattle.working.proofs.Owned.{total}
 use Rattle.working.proofs.Log.{pointers}
 use Rattle.working.proofs.Next.{headOr}
+use Rattle.working.proofs.Moving.{stack-laid}
 use Rattle.working.proofs.Invariant.{Ghost, Kept, regionsOf, Waits, Pending, Inv, Later, later-refl, later-trans, Lacking, Became, Enough}
 use Rattle.working.proofs.Waking.{in-regions}
 use Rattle.working.proofs.Evacuating.{in-pointers, of-pointers}
@@ -104,6 +104,7 @@ module _ (s : Store) (S : Sound s) where
           rows = P .rows;
           untouched = P .untouched;
           scanned = P .scanned;
+          raws = P .raws;
           stacked = λ u m.
               let W = P .stacked u (rw e (List·Memᴰ·tail m)) in
               record {
@@ -133,30 +134,10 @@ module _ (s : Store) (S : Sound s) where
         go i (inl m) = by i (List·Memᴰ·cases-cons (rw e at m))
         go i (inr q) = let z : none ≡ some i = sym none-cur ∙ q in let z′ : _≡_ {A = ℕ} 0 1 = cc in absurd (omega arith)
 
-    same-laid : {own : _} {fin : _} {pages : _} {free : _} → Layout n (pageCount n (s .heap)) R own fin pages free r → Layout n (pageCount n (s .heap)) R own fin pages free (withStack r ts)
-    same-laid L =
-        record {
-          size = L .size;
-          big = L .big;
-          rows = L .rows;
-          known = L .known;
-          free-own = L .free-own;
-          free-once = L .free-once;
-          free-links = L .free-links;
-          free-last = L .free-last;
-          free-count = L .free-count;
-          free-clean = L .free-clean;
-          mine-own = L .mine-own;
-          mine-once = L .mine-once;
-          mine-links = L .mine-links;
-          mine-body = L .mine-body;
-          mine-top = L .mine-top;
-        }
-
     entered-inv : Inv s S (scanning g (some (t .region))) (withStack r ts)
     entered-inv =
         record {
-          laid = same-laid (I .laid);
+          laid = stack-laid n (pageCount n (s .heap)) R (g .own) (g .fin) (g .pages) (g .free) r (I .laid) ts;
           logged = I .logged;
           pending = entered-pending;
           from-space = I .from-space;

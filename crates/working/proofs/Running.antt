@@ -94,6 +94,7 @@ module _ (s : Store) (S : Sound s) (r : Run) (F : Fresh s S (s .ctl .regions) r)
         rows = rows;
         untouched = λ j b jR m. elim m [ ];
         scanned = λ m gone ne l e. elim m [ ];
+        raws = λ m l e. elim m [ ];
         stacked = λ t m. let m′ : List·Memᴰ t [] = rw (F .stack) at m in elim m′ [ ];
         once = rw (F .stack) once-none;
         at-work = λ j e. let z : _≡_ {A = ℕ} 0 1 = cc in absurd (omega arith);

@@ -127,6 +127,7 @@ module _ (s : Store) (S : Sound s) (g : Ghost) (r : Run) (I : Inv s S g r) (j b 
         scanned = λ {b = c} m gone ne l e.
             P .scanned m (λ i iR q. gone i iR (still i c (λ t. ne (ap some (sym t))) (ℕ-discrete i j) q))
             (λ q. let z : none ≡ some c = sym none-open ∙ q in let z′ : _≡_ {A = ℕ} 0 1 = cc in omega arith) l e;
+        raws = P .raws;
         stacked = λ t m. waits t (P .stacked t m);
         once = P .once;
         at-work = P .at-work;
@@ -170,6 +171,7 @@ module _ (s : Store) (S : Sound s) (g : Ghost) (r : Run) (I : Inv s S g r) (d : 
         rows = P .rows;
         untouched = P .untouched;
         scanned = λ {b = c} m gone ne l e. go c (ℕ-discrete c d) l e (λ q. P .scanned m gone q l e);
+        raws = P .raws;
         stacked = λ t m. let W = P .stacked t m in record { known = W .known; awake = W .awake; other = W .other; rest = W .rest; begins = W .begins };
         once = P .once;
         at-work = P .at-work;
