@@ -17,7 +17,7 @@ use Rattle.laws.specs.Sums.{sumOver}
 use Rattle.laws.proofs.Sums.{sum-same, sum-append, sum-more}
 use Rattle.laws.proofs.Once.{last-in}
 use Rattle.rules.specs.Memory.{Store, pageCount, endOf, topOf, statusOf}
-use Rattle.rules.specs.Words.{rec, headOf}
+use Rattle.rules.specs.Words.{rec, raw, headOf}
 use Rattle.rules.specs.Pages.{Run, withHeap, store, room, place}
 use Rattle.rules.specs.Collection.{wake, moveOn, moveTo}
 use Rattle.facts.specs.View.{seen, Reached}
@@ -254,6 +254,17 @@ module _ (s : Store) (S : Sound s) (g : Ghost) (r : Run) (I : Inv s S g r)
           let w : at h′ d ≡ at (r .heap) d = E .mine-words (C .into) (C .region) d (C .into-mine) (steps-le (C .into-steps)) (omega arith) in
           rw (upd-other (g .count) b 0 d (elsewhere u)) (I .pending .scanned u (λ i iR t. gone i iR (still-waits i d t)) ne m (ap headOf (sym w) ∙ e))
 
+  raws : {c d : ℕ} → List·Memᴰ (to c d) (ghost .log) → (m : ℕ) → headOf (at h′ d) ≡ raw m → ghost .count d ≡ 0
+  raws {c} {d} q m e = go (List·Memᴰ·cases-cons q)
+    where
+      go : (to c d ≡ to a b) ⊎ List·Memᴰ (to c d) (g .log) → ghost .count d ≡ 0
+      go (inl u) = upd-same (g .count) b 0 d (ap (λ (x : Moved). x .new) u)
+      go (inr u) =
+          let C = I .logged .copies u in
+          let below = C .into-below in
+          let w : at h′ d ≡ at (r .heap) d = E .mine-words (C .into) (C .region) d (C .into-mine) (steps-le (C .into-steps)) (omega arith) in
+          upd-other (g .count) b 0 d (elsewhere u) ∙ I .pending .raws u m (ap headOf (sym w) ∙ e)
+
   row-any : (i : ℕ) → i < R → Dec (i ≡ j) → Row n h′ fin₂ (K .pages₁ i) (g .past i ++ ghost .todo i)
   row-any i iR (yes e) = rw e row-own
   row-any i iR (no ne) = row-other i iR ne
@@ -264,6 +275,7 @@ module _ (s : Store) (S : Sound s) (g : Ghost) (r : Run) (I : Inv s S g r)
         rows = λ i iR. rw heap-is (row-any i iR (ℕ-discrete i j));
         untouched = untouched;
         scanned = λ {a = c} {b = d} q gone ne m e. scanned q gone ne m (ap (λ h. headOf (at h d)) (sym heap-is) ∙ e);
+        raws = λ {a = c} {b = d} q m e. raws q m (ap (λ h. headOf (at h d)) (sym heap-is) ∙ e);
         stacked = woken-stacked n R g ghost r after (I .pending) j b jR refl todo-own todo-other rows (W .awake) how;
         once = woken-once n R g ghost r after (I .pending) j b jR refl todo-own todo-other rows (W .awake) how;
         at-work = woken-at-work n R g ghost r after (I .pending) j b jR refl todo-own todo-other rows (W .awake) how;

@@ -12,7 +12,7 @@ use lib.Seq.{getD-set-other}
 use Rattle.laws.specs.Lists.{at}
 use Rattle.laws.proofs.Lists.{apart as pages-apart}
 use Rattle.rules.specs.Memory.{Store, pageCount}
-use Rattle.rules.specs.Words.{headOf}
+use Rattle.rules.specs.Words.{rec, raw, headOf}
 use Rattle.rules.specs.Pages.{Run, withHeap}
 use Rattle.facts.proofs.Steps.{Stands, Steps, steps-le, apart}
 use Rattle.facts.proofs.Laid.{upd, upd-same, upd-other}
@@ -43,7 +43,7 @@ counted g d i =
 
 module _ (s : Store) (S : Sound s) (g : Ghost) (r : Run) (I : Inv s S g r) (c d i v : ℕ) (m : List·Memᴰ (to c d) (g .log))
     (i-in : i < I .logged .copies m .len) (i-next : g .count d ≡ i) (rel : Rel (Kept s) (pointers (g .log)) (at (s .heap) (c + suc i)) v)
-    (mid : g .half ≡ some d) (gone : (j : ℕ) → j < s .ctl .regions → List·Memᴰ d (g .todo j) → ⊥) where
+    (kind : ℕ) (head : headOf (at (r .heap) d) ≡ rec kind) (mid : g .half ≡ some d) (gone : (j : ℕ) → j < s .ctl .regions → List·Memᴰ d (g .todo j) → ⊥) where
   abbrev n : ℕ
   n = s .ctl .n
 
@@ -106,6 +106,12 @@ module _ (s : Store) (S : Sound s) (g : Ghost) (r : Run) (I : Inv s S g r) (c d 
             let D = I .logged .copies q in
             rw (upd-other (g .count) d (suc i) b (λ t. ne (mid ∙ ap some (sym t))))
             (P .scanned q away ne l (ap headOf (keep b (no-header (D .into) b (D .len) (D .into-steps) (D .into-stands))) ∙ e));
+        raws = λ {b = b} q l e.
+            let D = I .logged .copies q in
+            let e′ : headOf (at (r .heap) b) ≡ raw l = ap headOf (keep b (no-header (D .into) b (D .len) (D .into-steps) (D .into-stands))) ∙ e in
+            upd-other (g .count) d (suc i) b
+            (λ t. let z : rec kind ≡ raw l = sym head ∙ ap (λ y. headOf (at (r .heap) y)) (sym t) ∙ e′ in let z′ : _≡_ {A = ℕ} 0 1 = cc in omega arith)
+            ∙ P .raws q l e′;
         stacked = λ t q. waits t (P .stacked t q);
         once = P .once;
         at-work = P .at-work;

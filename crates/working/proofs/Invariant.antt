@@ -13,7 +13,7 @@ use Rattle.laws.specs.Lists.{at}
 use Rattle.laws.specs.Sums.{sumOver}
 use Rattle.laws.proofs.Once.{Once}
 use Rattle.rules.specs.Memory.{Store, pageCount, bodyAddress, endOf, topOf, statusOf}
-use Rattle.rules.specs.Words.{inConst, wordOf, rec, headOf}
+use Rattle.rules.specs.Words.{inConst, wordOf, rec, raw, headOf}
 use Rattle.rules.specs.Pages.{Scan, Run}
 use Rattle.facts.specs.View.{seen}
 use Rattle.facts.proofs.Laid.{Owner, old, Layout}
@@ -65,6 +65,7 @@ pub record Pending (n R : ℕ) (g : Ghost) (r : Run) : Type 0 where
   pub untouched : (j b : ℕ) → j < R → List·Memᴰ b (g .todo j) → g .count b ≡ 0
   pub scanned : {a b : ℕ} → List·Memᴰ (to a b) (g .log) → ((j : ℕ) → j < R → List·Memᴰ b (g .todo j) → ⊥) → g .half ≢ some b
       → (l : ℕ) → headOf (at (r .heap) b) ≡ rec l → l ≤ g .count b
+  pub raws : {a b : ℕ} → List·Memᴰ (to a b) (g .log) → (l : ℕ) → headOf (at (r .heap) b) ≡ raw l → g .count b ≡ 0
   pub stacked : (t : Scan) → List·Memᴰ t (r .stack) → Waits R g (r .table) t
   pub once : Once (regionsOf (r .stack))
   pub at-work : (j : ℕ) → g .cur ≡ some j → (j < R) × (statusOf (r .table) j ≢ 0)

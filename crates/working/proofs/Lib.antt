@@ -18,3 +18,9 @@ pub mod Evacuation
 pub mod Fielding
 pub mod Scanning
 pub mod Turn
+pub mod Leaving
+pub mod Work
+pub mod Roots
+pub mod Fresh
+pub mod Freshening
+pub mod Running

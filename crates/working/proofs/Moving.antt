@@ -27,6 +27,26 @@ use Rattle.working.proofs.Log.{Copy, Log, Evacuated, evacuated-log}
 use Rattle.working.proofs.Placed.{Roomed}
 
 module _ (n N R : ℕ) (own : ℕ → Owner) (fin : ℕ → ℕ) (pages : ℕ → List ℕ) (free : List ℕ) (r : Run) (L : Layout n N R own fin pages free r) where
+  pub stack-laid : (stack : List Scan) → Layout n N R own fin pages free (withStack r stack)
+  stack-laid stack =
+      record {
+        size = L .size;
+        big = L .big;
+        rows = L .rows;
+        known = L .known;
+        free-own = L .free-own;
+        free-once = L .free-once;
+        free-links = L .free-links;
+        free-last = L .free-last;
+        free-count = L .free-count;
+        free-clean = L .free-clean;
+        mine-own = L .mine-own;
+        mine-once = L .mine-once;
+        mine-links = L .mine-links;
+        mine-body = L .mine-body;
+        mine-top = L .mine-top;
+      }
+
   -- a region's status, or the scan stack, is no part of the layout
   pub status-laid : (j c : ℕ) (stack : List Scan) → Layout n N R own fin pages free (withStack (withTable r (setStatus (r .table) j c)) stack)
   status-laid j c stack =

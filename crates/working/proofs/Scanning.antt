@@ -117,7 +117,7 @@ module _ (s : Store) (S : Sound s) (g₀ : Ghost) (r₀ : Run) (c d l : ℕ) whe
         let L = later-trans (Q .later) (O .later) in
         record {
           ghost = counted (O .ghost) d (suc i);
-          inv = field-inv s S (O .ghost) r′ (O .inv) c d i v m (omega arith) (O .count (Q .entry) ∙ Q .next) (O .rel) mid gone;
+          inv = field-inv s S (O .ghost) r′ (O .inv) c d i v m (omega arith) (O .count (Q .entry) ∙ Q .next) (O .rel) l (ap headOf (O .inv .logged .copies m .head) ∙ head) mid gone;
           later = record { log = L .log; cur = L .cur; half = L .half; past = L .past; todo = L .todo; waits = L .waits; cost = L .cost };
           entry = m;
           next = upd-same (O .ghost .count) d (suc i) d refl;

@@ -15,7 +15,7 @@ use Rattle.rules.specs.Words.{Head, rec, raw, moved, wrong, headOf, lengthBy}
 use Rattle.rules.specs.Pages.{Scan, Run}
 use Rattle.rules.specs.Collection.{scanFields, scanValue}
 use Rattle.facts.proofs.Laid.{mine, upd, upd-same, upd-other}
-use Rattle.facts.proofs.Copied.{to}
+use Rattle.facts.proofs.Copied.{Moved, to}
 use Rattle.facts.proofs.Sound.{Sound}
 use Rattle.working.proofs.Owned.{mine-inj, total, total-tail}
 use Rattle.working.proofs.Next.{Row}
@@ -127,6 +127,7 @@ module _ (s : Store) (S : Sound s) (g : Ghost) (r : Run) (I : Inv s S g r) (j b 
         scanned = λ {b = c} m gone ne l e.
             P .scanned m (λ i iR q. gone i iR (still i c (λ t. ne (ap some (sym t))) (ℕ-discrete i j) q))
             (λ q. let z : none ≡ some c = sym none-open ∙ q in let z′ : _≡_ {A = ℕ} 0 1 = cc in omega arith) l e;
+        raws = P .raws;
         stacked = λ t m. waits t (P .stacked t m);
         once = P .once;
         at-work = P .at-work;
@@ -170,6 +171,7 @@ module _ (s : Store) (S : Sound s) (g : Ghost) (r : Run) (I : Inv s S g r) (d : 
         rows = P .rows;
         untouched = P .untouched;
         scanned = λ {b = c} m gone ne l e. go c (ℕ-discrete c d) l e (λ q. P .scanned m gone q l e);
+        raws = P .raws;
         stacked = λ t m. let W = P .stacked t m in record { known = W .known; awake = W .awake; other = W .other; rest = W .rest; begins = W .begins };
         once = P .once;
         at-work = P .at-work;
@@ -204,6 +206,7 @@ pub record Turned (s : Store) (S : Sound s) (g : Ghost) (r : Run) (j b : ℕ) (r
   pub cur : ghost .cur ≡ some j
   pub none-open : ghost .half ≡ none
   pub past : ghost .past j ≡ g .past j ++ b ∷ []
+  pub log : (x : Moved) → List·Memᴰ x (g .log) → List·Memᴰ x (ghost .log)
   pub cost : total (ghost .todo) (s .ctl .regions) + length (r′ .stack) + suc (2 * length (g .log)) ≤ total (g .todo) (s .ctl .regions) + length (r .stack) + 2 * length (ghost .log)
 
 module _ (s : Store) (S : Sound s) (g : Ghost) (r : Run) (I : Inv s S g r) (j b : ℕ) (ts : List ℕ) (cur : g .cur ≡ some j) (todo : g .todo j ≡ b ∷ ts) (none-open : g .half ≡ none) where
@@ -230,6 +233,7 @@ module _ (s : Store) (S : Sound s) (g : Ghost) (r : Run) (I : Inv s S g r) (j b 
         cur = L .cur ∙ cur;
         none-open = refl;
         past = L .past j ∙ upd-same (g .past) j (g .past j ++ b ∷ []) j refl;
+        log = L .log;
         cost = omega arith;
       }
 
