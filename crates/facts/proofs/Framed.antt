@@ -1,17 +1,15 @@
 -- Values of a page under a change behind its end: what stood there stands there still, and what stands there now stood there before or lies
 -- behind the old end. A 0 is no header, so no value reaches over the end.
-use Prim.Native.Nat.{ℕ, zero, suc, _+_, _*_, _^_, _≤_, _<_}
-use native.Mathlib.Nat.{le-refl}
+use Prim.Native.Nat.{ℕ, suc, _+_, _*_, _^_, _≤_, _<_}
 use native.Mathlib.Omega.{arith}
 use mathlib.Core.Path.{_≡_, refl, sym, ap, _∙_}
 use mathlib.Core.Logic.{_≢_, _⊎_, inl, inr}
-use mathlib.Core.Option.{Option, none, some}
-use mathlib.Core.List.{List, []}
+use mathlib.Core.Option.{none, some}
+use mathlib.Core.List.{List}
 use lib.ListN.{length}
 use Rattle.laws.specs.Lists.{at}
-use Rattle.rules.specs.Memory.{pageCount}
 use Rattle.rules.specs.Words.{headOf, lengthBy}
-use Rattle.facts.proofs.Steps.{Stands, Steps, here, over, steps-le, steps-same, stands-same, apart}
+use Rattle.facts.proofs.Steps.{Stands, Steps, over, steps-le, steps-same, stands-same, apart}
 use Rattle.facts.proofs.Sound.{InHeap}
 
 zero-head : lengthBy (headOf 0) ≡ none

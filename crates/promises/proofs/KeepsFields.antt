@@ -1,36 +1,32 @@
 -- Setting a root and assigning a field keep a heap sound: the word offered is good, and a field is no part of the layout.
-use Prim.Native.Nat.{ℕ, zero, suc, _+_, _-_, _*_, _/_, _^_, _≤_, _<_}
+use Prim.Native.Nat.{ℕ, suc, _+_, _*_, _/_, _^_, _≤_, _<_}
 use native.Mathlib.Nat.{le-refl}
 use native.Mathlib.Omega.{arith}
 use native.Mathlib.Decide.{ℕ-discrete}
-use mathlib.Core.Path.{_≡_, refl, sym, ap, _∙_}
+use mathlib.Core.Path.{_≡_, sym, ap, _∙_}
 use mathlib.Core.Logic.{_≢_, _⊎_, inl, inr}
-use mathlib.Core.Bool.{Bool, true, false, not}
-use mathlib.Core.Option.{Option, none, some}
+use mathlib.Core.Bool.{true, not}
+use mathlib.Core.Option.{some}
 use mathlib.Core.List.{List, List·Memᴰ}
 use lib.ListN.{length, set, length-set}
 use lib.Seq.{getD-set-same, getD-set-other}
 use lib.Dec.{leb}
 use borrow.Author.Tests.{leb-false, not-false}
-use Rattle.laws.specs.Choice.{_⇒_∣_}
 use Rattle.laws.specs.Lists.{at}
 use Rattle.laws.proofs.Loops.{choice-keeps}
 use Rattle.laws.proofs.Lists.{apart as pages-apart}
-use Rattle.rules.specs.declared.Control.{Control}
-use Rattle.rules.specs.declared.Refusal.{Refusal}
-use Rattle.rules.specs.declared.Plain.{Plain}
 use Rattle.rules.specs.Memory.{Store, lent, pageCount}
 use Rattle.rules.specs.Words.{Word, number, inHeap, inConst, wordOf, headOf, lengthBy, fit, fits, isRecord, goodHeap, goodConst}
 use Rattle.rules.specs.Audit.{goodWord}
-use Rattle.rules.specs.Refusals.{Outcome, outcome, refused}
+use Rattle.rules.specs.Refusals.{refused}
 use Rattle.rules.specs.Pages.{begun}
 use Rattle.rules.specs.Calls.{assignAt, assignBy, assign, setRoot}
 use Rattle.rules.proofs.Headers.{fit-is, fit-of}
-use Rattle.facts.proofs.Steps.{Stands, Steps, here, over, steps-le, steps-same, stands-same, steps-inside, same-length, apart}
-use Rattle.facts.proofs.Laid.{Owner, mine, Layout}
+use Rattle.facts.proofs.Steps.{Stands, Steps, here, steps-le, steps-same, stands-same, steps-inside, apart}
+use Rattle.facts.proofs.Laid.{mine, Layout}
 use Rattle.facts.proofs.Framed.{below-end, good-in}
 use Rattle.facts.proofs.Goods.{page-ends, good-of, in-heap}
-use Rattle.facts.proofs.Sound.{Within, InHeap, Good, a-number, to-heap, to-const, Sound}
+use Rattle.facts.proofs.Sound.{InHeap, Good, a-number, to-heap, to-const, Sound}
 use Rattle.working.proofs.Fielded.{field-laid}
 use Rattle.promises.specs.Left.{leftPlain}
 use Rattle.promises.proofs.KeepsGood.{admitted-keeps, good-page}

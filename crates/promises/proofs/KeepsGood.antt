@@ -2,23 +2,21 @@
 -- values. Good pointers name values before that end.
 use Prim.Native.Nat.{ℕ, zero, suc, _+_, _*_, _^_, _≤_, _<_}
 use native.Mathlib.Omega.{arith}
-use mathlib.Core.Path.{_≡_, refl, sym, ap, _∙_}
-use mathlib.Core.Logic.{_≢_, _⊎_, inl, inr}
-use mathlib.Core.Bool.{Bool, true, false, not}
+use mathlib.Core.Path.{_≡_, refl, sym, _∙_}
+use mathlib.Core.Logic.{_≢_, _⊎_}
+use mathlib.Core.Bool.{true, not}
 use mathlib.Core.List.{List, List·Memᴰ}
 use lib.ListN.{length}
 use borrow.Author.Tests.{not-false}
-use Rattle.laws.specs.Choice.{_⇒_∣_}
 use Rattle.laws.specs.Lists.{at}
 use Rattle.laws.proofs.Loops.{choice-keeps}
-use Rattle.rules.specs.declared.Control.{Control}
 use Rattle.rules.specs.declared.Refusal.{Refusal}
 use Rattle.rules.specs.Memory.{Store, pageCount}
-use Rattle.rules.specs.Words.{Word, number, inHeap, inConst, wordOf, isRecord}
+use Rattle.rules.specs.Words.{inHeap, wordOf}
 use Rattle.rules.specs.Audit.{brokenRule}
 use Rattle.rules.specs.Refusals.{withinLimits, commonTest, admitted, unbroken, audited}
 use Rattle.facts.proofs.Steps.{Stands, Steps, steps-le}
-use Rattle.facts.proofs.Laid.{Owner, old, spare, beyond, mine, Body, Clean, Layout}
+use Rattle.facts.proofs.Laid.{Owner, old, spare, beyond, mine, Body}
 use Rattle.facts.proofs.Framed.{value-kept, value-was, good-in}
 use Rattle.facts.proofs.Sound.{InHeap, Good, a-number, to-heap, to-const, Chained, in-free, in-region, Sound}
 use Rattle.working.proofs.Owned.{Owned}

@@ -1,33 +1,27 @@
 -- Pushing a region keeps a heap sound: the page taken becomes the only page of a new region, holds no value, and no other page changes.
-use Prim.Native.Nat.{ℕ, zero, suc, _+_, _-_, _*_, _^_, _≤_, _<_}
-use native.Mathlib.Nat.{le-refl}
+use Prim.Native.Nat.{ℕ, suc, _+_, _-_, _*_, _^_, _≤_, _<_}
 use native.Mathlib.Omega.{arith}
 use native.Mathlib.Decide.{ℕ-discrete}
 use mathlib.Core.Path.{_≡_, refl, sym, ap, _∙_, subst}
 use mathlib.Core.Logic.{_≢_, _⊎_, inl, inr}
-use mathlib.Core.Bool.{Bool, true, false, not}
-use mathlib.Core.Option.{Option, none, some}
-use mathlib.Core.List.{List, [], _∷_, List·Memᴰ, List·Memᴰ·head, List·Memᴰ·tail, List·Memᴰ·cases-cons, List·Memᴰ·not-nil, List·Memᴰ·eq-of-singleton}
+use mathlib.Core.Bool.{true, false, not}
+use mathlib.Core.List.{List, [], _∷_, List·Memᴰ, List·Memᴰ·head, List·Memᴰ·cases-cons, List·Memᴰ·not-nil, List·Memᴰ·eq-of-singleton}
 use lib.ListN.{length}
 use lib.Dec.{leb, eqb}
 use borrow.Author.Tests.{leb-false, eqb-false}
-use Rattle.laws.specs.Choice.{_⇒_∣_}
 use Rattle.laws.specs.Lists.{at}
 use Rattle.laws.proofs.Loops.{choice-keeps}
-use Rattle.laws.proofs.Once.{Once, once-none, once-more, Last, only, last-in, Linked, stop, goes, linked-first, linked-none}
-use Rattle.rules.specs.declared.Control.{Control}
-use Rattle.rules.specs.declared.Refusal.{Refusal}
-use Rattle.rules.specs.declared.Plain.{Plain}
-use Rattle.rules.specs.Memory.{Store, lent, control, pageCount, pageEnd, pageAddress, bodyAddress, link, endOf, firstOf, topOf, statusOf, setRow}
+use Rattle.laws.proofs.Once.{Once, once-none, once-more, Last, only, Linked, stop, goes, linked-first}
+use Rattle.rules.specs.Memory.{Store, lent, pageCount, pageEnd, pageAddress, bodyAddress, link, endOf, firstOf, topOf, statusOf, setRow}
 use Rattle.rules.specs.Words.{isRecord}
 use Rattle.rules.specs.Refusals.{refused}
-use Rattle.rules.specs.Pages.{Run, begun, recordAfter, linkFits, takePage}
+use Rattle.rules.specs.Pages.{Run, begun, recordAfter, linkFits}
 use Rattle.rules.specs.Calls.{pushOn, push}
 use Rattle.facts.proofs.Steps.{Stands, Steps, steps-le}
-use Rattle.facts.proofs.Laid.{upd, upd-same, upd-other, Owner, old, spare, beyond, mine, Body, Layout}
+use Rattle.facts.proofs.Laid.{upd, upd-same, upd-other, Owner, old, spare, beyond, mine, Layout}
 use Rattle.facts.proofs.Framed.{below-end}
-use Rattle.facts.proofs.Sound.{Within, Good, Sound}
-use Rattle.working.proofs.Owned.{Owned, mine-inj, spare≢mine, mine≢beyond, spare≢beyond}
+use Rattle.facts.proofs.Sound.{Good, Sound}
+use Rattle.working.proofs.Owned.{Owned, mine-inj, spare≢mine, mine≢beyond}
 use Rattle.working.proofs.Taken.{taken, takes, taken-laid, others, k-link}
 use Rattle.working.proofs.Fresh.{row-width, row-else, row-end, row-first, row-top, row-status}
 use Rattle.promises.specs.Left.{leftPlain}

@@ -2,3 +2,4 @@ pub mod Outcomes
 pub mod KeepsGood
 pub mod KeepsFields
 pub mod KeepsPush
+pub mod KeepsAllocate
