@@ -3,3 +3,4 @@ pub mod KeepsGood
 pub mod KeepsFields
 pub mod KeepsPush
 pub mod KeepsAllocate
+pub mod KeepsPop
