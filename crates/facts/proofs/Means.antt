@@ -10,12 +10,12 @@ use mathlib.Core.List.{List, [], _∷_, List·Memᴰ, List·Memᴰ·append-cases
 use lib.ListN.{length, drop, length-drop}
 use lib.Seq.{getD-drop}
 use lib.Dec.{leb, ltb, eqb}
-use borrow.Author.Tests.{ltb-true, lt-ltb, eqb-true}
+use borrow.Author.Tests.{ltb-true, lt-ltb, leb-true, eqb-true}
 use Rattle.laws.specs.Lists.{at, all, allBelow, zeros, times}
 use Rattle.laws.proofs.Tests.{both, all-in, below-in}
 use Rattle.laws.proofs.Facts.{all-at, zeros-in}
 use Rattle.laws.proofs.Once.{Last, only, later, last-in, Linked, goes, linked-once, linked-last, each-once}
-use Rattle.rules.specs.Memory.{Store, pageCount, addressPage, regionOrigin, pageWords, bodyWords, bodyAddress, pageEnd, link, origin, row, endOf, firstOf, topOf, statusOf, chain, firstLink, regionPages, freePages, pagesFrom}
+use Rattle.rules.specs.Memory.{Store, limits, pageCount, addressPage, regionOrigin, pageWords, bodyWords, bodyAddress, pageEnd, link, origin, row, endOf, firstOf, topOf, statusOf, chain, firstLink, regionPages, freePages, pagesFrom}
 use Rattle.rules.specs.Words.{isRecord, vals, pageVals, usedOf, fieldsPass}
 use Rattle.rules.specs.Audit.{eachPage, ifLast, rule2, opens, endsWell, lastLink, allChains, rule3, endsAt, rule4, filled, pageFilled, rule5, goodWord, rule6, rule7, constField, rule8, clean, rule9, firstFailing, brokenRule}
 use Rattle.rules.specs.Pages.{begun}
@@ -103,6 +103,42 @@ last-of k (y ∷ ys) = let r = last-of y ys in (r .0, later (r .1))
 pub has-last : {l : ℕ → ℕ} {k : ℕ} {ks : List ℕ} → Linked l (suc k) ks → (z : ℕ) × Last ks z
 has-last (goes {k} {ks} t) = last-of k ks
 
+-- ---- the limits
+
+pub within-of : (s : Store) → withinLimits s ≡ true → Within s
+unfolding limits
+within-of s l =
+    let (l₇, k₁) = both l in
+    let (l₆, r₁) = both l₇ in
+    let (l₅, t₁) = both l₆ in
+    let (l₄, h₁) = both l₅ in
+    let (l₃, w₂) = both l₄ in
+    let (l₂, w₁) = both l₃ in
+    let (n₄, n₈) = both l₂ in
+    record {
+      paged = record { low = leb-true _ _ n₄; high = leb-true _ _ n₈; size = leb-true _ _ h₁; whole = eqb-true _ _ w₁ };
+      two = leb-true _ _ w₂;
+      table = eqb-true _ _ t₁;
+      roots = leb-true _ _ r₁;
+      consts = leb-true _ _ k₁;
+    }
+
+-- ---- 8, which asks for the constants alone
+
+pub constants-of : (s : Store) → rule8 s ≡ true → Constants (s .consts)
+unfolding rule8
+constants-of s t =
+    let (f, g) = both {a = filled 0 (s .consts)} t in
+    let whole : Holds (s .consts) 0 (s .consts) = record { word = λ i q. ap (at (s .consts)) (omega arith) } in
+    record {
+      fin = 0 + usedOf (vals 0 0 (s .consts));
+      filled = filled-steps (s .consts) (length (s .consts)) 0 (s .consts) whole (omega arith);
+      rest = filled-rest (s .consts) (length (s .consts)) 0 (s .consts) whole (omega arith) f;
+      fields = λ a l i steps st r q.
+          const-of (s .consts) (at (s .consts) (a + suc i))
+          (fields-in (constField (s .consts)) (s .consts) (length (s .consts)) steps l st r (s .consts) whole (omega arith) g i q);
+    }
+
 -- ---- the facts, rule by rule
 
 module _ (s : Store) (lim : withinLimits s ≡ true) (comm : commonTest s ≡ true) (rules : Rules s) where
@@ -117,9 +153,6 @@ module _ (s : Store) (lim : withinLimits s ≡ true) (comm : commonTest s ≡ tr
 
   adm : Admitted (length (s .heap)) (length (s .table)) (length (s .roots)) (length (s .consts)) (s .ctl)
   adm = admits (length (s .heap)) (length (s .table)) (length (s .roots)) (length (s .consts)) (s .ctl) lim comm
-
-  within : Within s
-  within = record { paged = adm .paged; two = adm .two; table = adm .table; roots = adm .roots; consts = adm .consts }
 
   big : 16 ≤ 2 ^ n
   big = page-size n (adm .paged .low) (adm .paged .high) .0
@@ -333,27 +366,10 @@ module _ (s : Store) (lim : withinLimits s ≡ true) (comm : commonTest s ≡ tr
   unfolding rule7
   roots i b = good-of n R (s .heap) (s .consts) (adm .paged) (at (s .roots) i) (all-at (goodWord s) (s .roots) (rules .seven) i b)
 
-  -- 8
-  whole : Holds (s .consts) 0 (s .consts)
-  whole = record { word = λ i q. ap (at (s .consts)) (omega arith) }
-
-  constants : Constants (s .consts)
-  unfolding rule8
-  constants =
-      let (f, g) = both {a = filled 0 (s .consts)} (rules .eight) in
-      record {
-        fin = 0 + usedOf (vals 0 0 (s .consts));
-        filled = filled-steps (s .consts) (length (s .consts)) 0 (s .consts) whole (omega arith);
-        rest = filled-rest (s .consts) (length (s .consts)) 0 (s .consts) whole (omega arith) f;
-        fields = λ a l i steps st r q.
-            const-of (s .consts) (at (s .consts) (a + suc i))
-            (fields-in (constField (s .consts)) (s .consts) (length (s .consts)) steps l st r (s .consts) whole (omega arith) g i q);
-      }
-
   pub sound : Sound s
   sound =
       record {
-        within = within;
+        within = within-of s lim;
         own = ownerIn n (s .heap);
         fin = endIn n (s .heap);
         pages = pages;
@@ -365,7 +381,7 @@ module _ (s : Store) (lim : withinLimits s ≡ true) (comm : commonTest s ≡ tr
         chained = chained;
         fields = fields;
         roots = roots;
-        consts = constants;
+        consts = constants-of s (rules .eight);
       }
 
 pub sound-of : (s : Store) → withinLimits s ≡ true → commonTest s ≡ true → brokenRule s ≡ 0 → Sound s
