@@ -24,3 +24,4 @@ pub mod Roots
 pub mod Fresh
 pub mod Freshening
 pub mod Running
+pub mod Ending
