@@ -25,3 +25,4 @@ pub mod Fresh
 pub mod Freshening
 pub mod Running
 pub mod Ending
+pub mod Views
