@@ -26,3 +26,4 @@ pub mod Freshening
 pub mod Running
 pub mod Ending
 pub mod Views
+pub mod Counting
