@@ -10,3 +10,4 @@ pub mod Goods
 pub mod Means
 pub mod Passing
 pub mod Given
+pub mod Observing

@@ -23,7 +23,8 @@ use Rattle.rules.specs.Collection.{wake, moveOn, moveTo}
 use Rattle.facts.specs.View.{seen, Reached}
 use Rattle.facts.proofs.Steps.{Stands, Steps, steps-le}
 use Rattle.facts.proofs.Laid.{Owner, old, spare, mine, Last, Layout, Body, upd, upd-same, upd-other}
-use Rattle.facts.proofs.Copied.{Moved, to, wordsAt}
+use Rattle.facts.proofs.Copied.{Moved, to}
+use Rattle.facts.specs.Observed.{wordsAt}
 use Rattle.facts.proofs.Looked.{look-at, home-at}
 use Rattle.facts.proofs.Sound.{Sound}
 use Rattle.working.proofs.Owned.{mine-inj, old≢beyond, spare≢mine, total-snoc}

@@ -21,7 +21,8 @@ use Rattle.rules.specs.Audit.{usedOn, usedBy}
 use Rattle.facts.specs.View.{View, homeIn, seen}
 use Rattle.facts.proofs.Steps.{Stands, Steps, here, over, steps-le, steps-then, apart}
 use Rattle.facts.proofs.Laid.{mine, beyond, Body}
-use Rattle.facts.proofs.Copied.{Moved, to, wordsAt}
+use Rattle.facts.proofs.Copied.{Moved, to}
+use Rattle.facts.specs.Observed.{wordsAt}
 use Rattle.facts.proofs.Looked.{page-holds, page-ends, look-at, home-at}
 use Rattle.facts.proofs.Filled.{vals-used}
 use Rattle.facts.proofs.Sound.{Sound}
