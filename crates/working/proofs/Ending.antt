@@ -10,6 +10,7 @@ use mathlib.Core.Option.{Option, none, some}
 use mathlib.Core.List.{List, [], _∷_, _++_, List·Memᴰ, Memᴰ·append-left, Memᴰ·append-right}
 use lib.ListN.{length}
 use Rattle.laws.specs.Lists.{at}
+use Rattle.laws.specs.Sums.{sumOver}
 use Rattle.laws.proofs.Once.{Once, member?}
 use Rattle.rules.specs.declared.Control.{Control}
 use Rattle.rules.specs.Memory.{Store, lent, control, pageCount, origin, statusOf, pagesFrom, regionPages}
@@ -30,7 +31,7 @@ use Rattle.working.proofs.Owned.{old≢mine, mine≢beyond}
 use Rattle.working.proofs.Log.{pointers, Copy}
 use Rattle.working.proofs.Next.{head-not-0}
 use Rattle.working.proofs.Moving.{stack-laid}
-use Rattle.working.proofs.Invariant.{Ghost, Kept, Inv}
+use Rattle.working.proofs.Invariant.{Ghost, Kept, filledTo, Inv}
 use Rattle.working.proofs.Evacuating.{of-pointers}
 use Rattle.working.proofs.Work.{Finished, asleep, none-waits}
 use Rattle.working.proofs.Running.{Ran}
@@ -263,3 +264,12 @@ module _ (s : Store) (S : Sound s) (roots : List ℕ) (r : Run) (A : Ran s S roo
         roots = λ i b. rel-good (A .rels i (rw (A .count) b));
         consts = S .consts;
       }
+
+  -- its chains, and what they hold, are those of the run
+  pub left-pages : (j : ℕ) → left-sound .pages j ≡ g .pages j
+  unfolding left-sound
+  left-pages j = refl
+
+  pub left-filled : (j : ℕ) → sumOver (filledTo n (left-sound .fin)) (left-sound .pages j) ≡ sumOver (filledTo n (g .fin)) (g .pages j)
+  unfolding left-sound
+  left-filled j = refl

@@ -27,3 +27,4 @@ pub mod Running
 pub mod Ending
 pub mod Views
 pub mod Counting
+pub mod Collecting

@@ -135,7 +135,7 @@ module _ (s : Store) (S : Sound s) (roots : List ℕ) (r : Run) (A : Ran s S roo
         look-at s′ (D .into) b (D .len) big (copy-inside s S roots r A a b m) (copy-steps s S roots r A a b m) (copy-stands s S roots r A a b m)
         (D .region) (copy-known s S roots r A a b m) (copy-whose s S roots r A a b m)
 
-    home-before : homeIn s (4 * a) ≡ suc (D .region)
+    pub home-before : homeIn s (4 * a) ≡ suc (D .region)
     home-before = home-at s (D .from) a (D .len) big old-inside (D .from-steps) (D .from-stands) (D .region) (copy-known s S roots r A a b m) (D .from-whose)
 
     home-after : homeIn s′ (4 * b) ≡ suc (D .region)
