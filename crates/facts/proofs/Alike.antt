@@ -1,21 +1,19 @@
 -- Two views that mean the same: every path reads the same, and meets the same. Step by step both walks make the same tests, because the
 -- values that they are at have one header, one length, and fields that mean the same.
-use Prim.Native.Nat.{ℕ, zero, suc, _+_, _-_, _≤_, _<_, zero-le, suc-le-suc}
+use Prim.Native.Nat.{ℕ, suc, _-_, _<_, zero-le, suc-le-suc}
 use native.Mathlib.Omega.{arith}
 use mathlib.Core.Path.{_≡_, refl, sym, ap, _∙_}
-use mathlib.Core.Logic.{_≢_, _↔_, _⊎_, inl, inr}
-use mathlib.Core.Bool.{Bool, true, false, not}
-use mathlib.Core.Option.{Option, none, some}
+use mathlib.Core.Logic.{_↔_}
+use mathlib.Core.Bool.{Bool, true, false}
 use mathlib.Core.List.{List, [], _∷_}
 use lib.ListN.{length, drop}
 use lib.Dec.{leb}
-use borrow.Author.Tests.{leb-true, leb-false}
-use Rattle.laws.specs.Choice.{_⇒_∣_}
+use borrow.Author.Tests.{leb-false}
 use Rattle.laws.specs.Lists.{at}
 use Rattle.rules.specs.declared.Refusal.{Refusal}
 use Rattle.rules.specs.Words.{wordOf, isRecord}
 use Rattle.rules.specs.Calls.{headerIn, fieldsIn, isThere, isNumber, Walked, ends, stops, stepInto, walkFrom}
-use Rattle.facts.specs.View.{View, Reading, refusal, whole, ofRecord, ofRaw, masked, readValue, readBy, path, reading, Reached, root, field}
+use Rattle.facts.specs.View.{View, whole, ofRecord, masked, readValue, readBy, path, reading, Reached, root, field}
 
 -- two values alike: header and length are one; a record's fields are related, a raw value's words are the same
 pub record Alike (R : ℕ → ℕ → Type 0) (x y : List ℕ) : Type 0 where

@@ -1,5 +1,5 @@
 -- What a caller sees on a heap that passes is what the view has: the tests before a walk or a fetch pass.
-use Prim.Native.Nat.{ℕ, zero, suc, _≤_, _<_}
+use Prim.Native.Nat.{ℕ, _<_}
 use mathlib.Core.Path.{_≡_, refl, sym, ap, _∙_}
 use mathlib.Core.Logic.{_↔_}
 use mathlib.Core.Bool.{Bool, true, false}
@@ -10,14 +10,12 @@ use native.Mathlib.Omega.{arith}
 use borrow.Author.Tests.{lt-leb, leb-false}
 use Rattle.laws.specs.Choice.{_⇒_∣_}
 use Rattle.laws.specs.Lists.{at}
-use Rattle.rules.specs.declared.Control.{Control}
 use Rattle.rules.specs.declared.Refusal.{Refusal}
 use Rattle.rules.specs.declared.Valued.{Valued}
 use Rattle.rules.specs.Memory.{Store}
-use Rattle.rules.specs.Words.{wordOf}
 use Rattle.rules.specs.Audit.{usedBy}
-use Rattle.rules.specs.Calls.{isNumber, lookIn, Walked, ends, stops, walkFrom, walkSays, walk, fetch, usedWords}
-use Rattle.facts.specs.View.{seen, Reading, readValue, readBy, path, reading}
+use Rattle.rules.specs.Calls.{lookIn, Walked, ends, stops, walkFrom, walkSays, walk, fetch, usedWords}
+use Rattle.facts.specs.View.{seen, readBy, path, reading}
 use Rattle.facts.specs.Observed.{readAt, Meet}
 use Rattle.facts.proofs.Alike.{MeetIn}
 use Rattle.facts.proofs.Sound.{Passes}

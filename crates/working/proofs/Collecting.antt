@@ -1,13 +1,11 @@
 -- Demand 3, about the definition of the collection: on a heap that passes it is refused for want of a page, or leaves a heap that passes, on
 -- which every path reads and meets as before, and each region's used words are those of its values that a root reached.
-use Prim.Native.Nat.{ℕ, zero, suc, _+_, _-_, _*_, _^_, _≤_, _<_}
+use Prim.Native.Nat.{ℕ, suc, _+_, _*_, _^_, _≤_, _<_}
 use native.Mathlib.Omega.{arith}
 use native.Mathlib.Decide.{ℕ-discrete}
-use mathlib.Core.Path.{_≡_, refl, sym, ap, _∙_, subst}
+use mathlib.Core.Path.{_≡_, sym, ap, _∙_}
 use mathlib.Core.Logic.{_≢_, _↔_, _⊎_, inl, inr}
-use mathlib.Core.Bool.{Bool, true, false}
-use mathlib.Core.List.{List, [], _∷_, List·Memᴰ, List·Memᴰ·head, List·Memᴰ·tail, List·Memᴰ·cases-cons, List·Memᴰ·not-nil}
-use lib.ListN.{length}
+use mathlib.Core.List.{List, [], _∷_, List·Memᴰ}
 use borrow.Author.Tests.{ne-eqb}
 use Rattle.laws.specs.Lists.{at}
 use Rattle.laws.specs.Sums.{sumOver}
@@ -19,19 +17,18 @@ use Rattle.rules.specs.Memory.{Store}
 use Rattle.rules.specs.Audit.{usedBy}
 use Rattle.rules.specs.Pages.{Run}
 use Rattle.rules.specs.Collection.{finished, leaves, ending, collected, collect}
-use Rattle.rules.specs.Calls.{audit, usedWords}
+use Rattle.rules.specs.Calls.{audit}
 use Rattle.rules.specs.Refusals.{Outcome, outcome, refused}
 use Rattle.facts.specs.View.{homeIn, seen, Reached}
 use Rattle.facts.specs.Observed.{wordsAt, Counted, Demand3}
 use Rattle.facts.proofs.Steps.{Stands, Steps}
 use Rattle.facts.proofs.Alike.{readings, meetings}
 use Rattle.facts.proofs.Copied.{Moved, to, Rel, copied-same, reached-moved}
-use Rattle.facts.proofs.Looked.{home-at}
 use Rattle.facts.proofs.Observing.{read-is, meet-is, used-is, used-known}
 use Rattle.facts.proofs.Sound.{Sound, Passes}
 use Rattle.facts.proofs.Passing.{meaning, audit-yes}
-use Rattle.working.proofs.Log.{pointers, olds, in-olds, olds-in, Copy}
-use Rattle.working.proofs.Invariant.{Ghost, Kept, filledTo, Inv}
+use Rattle.working.proofs.Log.{pointers, olds, in-olds, olds-in}
+use Rattle.working.proofs.Invariant.{Kept}
 use Rattle.working.proofs.Evacuating.{of-pointers}
 use Rattle.working.proofs.Running.{Ran, Refusing, runs}
 use Rattle.working.proofs.Ending.{left-store, left-sound, left-filled}

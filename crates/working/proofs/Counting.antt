@@ -1,27 +1,25 @@
 -- Used words. On a sound heap a region's used words are what its pages hold; after a collection that is the words of the values that a root
 -- reaches, each once, and so no more than before.
-use Prim.Native.Nat.{ℕ, zero, suc, _+_, _-_, _*_, _^_, _≤_, _<_, zero-le}
-use native.Mathlib.Nat.{mul-le-mul-right, le-refl}
+use Prim.Native.Nat.{ℕ, suc, _+_, _*_, _^_, _≤_, _<_}
+use native.Mathlib.Nat.{mul-le-mul-right}
 use native.Mathlib.Omega.{arith}
 use native.Mathlib.Decide.{ℕ-discrete}
-use mathlib.Core.Path.{_≡_, refl, sym, ap, _∙_, subst}
-use mathlib.Core.Logic.{_≢_, _↔_, _⊎_, inl, inr}
-use mathlib.Core.Bool.{Bool, true, false}
+use mathlib.Core.Path.{_≡_, refl, ap}
+use mathlib.Core.Logic.{_⊎_, inl, inr}
 use mathlib.Core.List.{List, [], _∷_, _++_, List·Memᴰ, List·Memᴰ·head, List·Memᴰ·tail, List·Memᴰ·cases-cons, List·Memᴰ·not-nil, Memᴰ·append-left, Memᴰ·append-right}
-use lib.ListN.{length, take, drop, length-drop}
+use lib.ListN.{length, drop, length-drop}
 use lib.Seq.{length-take-le}
-use borrow.Author.Tests.{eq-eqb, ne-eqb}
+use borrow.Author.Tests.{eq-eqb}
 use Rattle.laws.specs.Lists.{at}
 use Rattle.laws.specs.Sums.{sumOver}
-use Rattle.laws.proofs.Once.{Once, once-none, once-more}
+use Rattle.laws.proofs.Once.{Once}
 use Rattle.laws.proofs.Sums.{sum-append, once-sum}
-use Rattle.rules.specs.Memory.{Store, pageCount, regionPages}
-use Rattle.rules.specs.Words.{usedOf, vals, pageVals}
+use Rattle.rules.specs.Memory.{Store}
+use Rattle.rules.specs.Words.{usedOf, pageVals}
 use Rattle.rules.specs.Audit.{usedOn, usedBy}
-use Rattle.facts.specs.View.{View, homeIn, seen}
+use Rattle.facts.specs.View.{seen}
 use Rattle.facts.proofs.Steps.{Stands, Steps, here, over, steps-le, steps-then, apart}
-use Rattle.facts.proofs.Laid.{mine, beyond, Body}
-use Rattle.facts.proofs.Copied.{Moved, to}
+use Rattle.facts.proofs.Laid.{mine, Body}
 use Rattle.facts.specs.Observed.{wordsAt}
 use Rattle.facts.proofs.Looked.{page-holds, page-ends, look-at, home-at}
 use Rattle.facts.proofs.Filled.{vals-used}

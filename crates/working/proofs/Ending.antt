@@ -1,24 +1,22 @@
 -- What the collection leaves: the old pages are given back, so every page is in a region's chain or free; and what stands in the regions'
 -- pages are the copies, whose fields were all scanned.
-use Prim.Native.Nat.{ℕ, zero, suc, _+_, _*_, _/_, _%_, _^_, _≤_, _<_, zero-le}
+use Prim.Native.Nat.{ℕ, suc, _+_, _*_, _/_, _^_, _≤_, _<_, zero-le}
 use native.Mathlib.Nat.{mul-le-mul-right}
 use native.Mathlib.Omega.{arith}
 use mathlib.Core.Path.{_≡_, refl, sym, ap, _∙_, subst}
-use mathlib.Core.Logic.{_≢_, _↔_, _⊎_, inl, inr}
-use mathlib.Core.Bool.{Bool, true, false}
-use mathlib.Core.Option.{Option, none, some}
-use mathlib.Core.List.{List, [], _∷_, _++_, List·Memᴰ, Memᴰ·append-left, Memᴰ·append-right}
+use mathlib.Core.Logic.{_⊎_, inl, inr}
+use mathlib.Core.Bool.{true, false}
+use mathlib.Core.Option.{none, some}
+use mathlib.Core.List.{List, [], _++_, List·Memᴰ, Memᴰ·append-left, Memᴰ·append-right}
 use lib.ListN.{length}
 use Rattle.laws.specs.Lists.{at}
 use Rattle.laws.specs.Sums.{sumOver}
 use Rattle.laws.proofs.Once.{Once, member?}
-use Rattle.rules.specs.declared.Control.{Control}
-use Rattle.rules.specs.Memory.{Store, lent, control, pageCount, origin, statusOf, pagesFrom, regionPages}
+use Rattle.rules.specs.Memory.{Store, lent, pageCount, origin, statusOf}
 use Rattle.rules.specs.Words.{Word, number, inHeap, inConst, wordOf, Head, rec, raw, moved, wrong, headOf, lengthBy, recordBy, isRecord}
-use Rattle.rules.specs.Pages.{Run, begun, recordAfter, withStack, giveBackAll}
+use Rattle.rules.specs.Pages.{Run, begun, recordAfter, giveBackAll}
 use Rattle.rules.specs.Collection.{fromSpace}
 use Rattle.rules.specs.Calls.{isNumber}
-use Rattle.rules.specs.Refusals.{Paged}
 use Rattle.rules.proofs.Whole.{pages-of, of-pages, pages-once}
 use Rattle.facts.proofs.Steps.{Stands, Steps, steps-le, steps-same, stands-same, apart}
 use Rattle.facts.proofs.Laid.{Owner, old, spare, beyond, mine, Body, Like, Layout}
@@ -33,7 +31,7 @@ use Rattle.working.proofs.Next.{head-not-0}
 use Rattle.working.proofs.Moving.{stack-laid}
 use Rattle.working.proofs.Invariant.{Ghost, Kept, filledTo, Inv}
 use Rattle.working.proofs.Evacuating.{of-pointers}
-use Rattle.working.proofs.Work.{Finished, asleep, none-waits}
+use Rattle.working.proofs.Work.{asleep, none-waits}
 use Rattle.working.proofs.Running.{Ran}
 
 pub is-number : (w : ℕ) → isNumber (wordOf w) ≡ true → wordOf w ≡ number

@@ -1,35 +1,32 @@
 -- The views before and after: the collection leaves a copy. A constant is what it was; a moved value has its old header and length, its raw
 -- words are the old ones, and each field of a record stands for the old field.
-use Prim.Native.Nat.{ℕ, zero, suc, _+_, _-_, _*_, _^_, _≤_, _<_, zero-le}
+use Prim.Native.Nat.{ℕ, zero, suc, _+_, _*_, _^_, _≤_, _<_, zero-le}
 use native.Mathlib.Nat.{mul-le-mul-right}
 use native.Mathlib.Omega.{arith}
 use mathlib.Core.Path.{_≡_, refl, sym, ap, _∙_, subst}
-use mathlib.Core.Logic.{_≢_, _⊎_, inl, inr}
-use mathlib.Core.Bool.{Bool, true, false}
-use mathlib.Core.Option.{Option, none, some}
-use mathlib.Core.List.{List, [], _∷_, List·Memᴰ}
+use mathlib.Core.Logic.{_≢_}
+use mathlib.Core.Bool.{true, false}
+use mathlib.Core.Option.{some}
+use mathlib.Core.List.{List, List·Memᴰ}
 use lib.ListN.{length, take, drop, length-drop}
 use lib.Seq.{length-take-le, getD-take, getD-drop, ext-getD}
 use Rattle.laws.specs.Lists.{at}
-use Rattle.laws.specs.Choice.{_⇒_∣_}
 use Rattle.rules.specs.Memory.{Store}
-use Rattle.rules.specs.Words.{Word, number, inHeap, inConst, wordOf, Head, rec, raw, moved, wrong, headOf, lengthBy, recordBy, isRecord, goodConst, valueAt, look}
+use Rattle.rules.specs.Words.{wordOf, Head, rec, raw, moved, wrong, headOf, lengthBy, recordBy, isRecord, goodConst, valueAt, look}
 use Rattle.rules.specs.Pages.{Run}
-use Rattle.rules.specs.Calls.{lookIn, headerIn, fieldsIn, isNumber}
-use Rattle.facts.specs.View.{View, homeIn, seen}
-use Rattle.facts.proofs.Steps.{Stands, Steps}
-use Rattle.facts.proofs.Alike.{Alike}
-use Rattle.facts.proofs.Copied.{Moved, to, Rel, num, stay, went, OneValue, Copied}
+use Rattle.rules.specs.Calls.{lookIn, headerIn, isNumber}
+use Rattle.facts.specs.View.{homeIn, seen}
+use Rattle.facts.proofs.Copied.{Moved, to, Rel, num, stay, OneValue, Copied}
 use Rattle.facts.proofs.Looked.{pointer, words-of, look-at, home-at, seen-plain}
-use Rattle.facts.proofs.Sound.{InConst, GoodConst, number-there, const-there, Sound}
+use Rattle.facts.proofs.Sound.{GoodConst, number-there, const-there, Sound}
 use Rattle.facts.proofs.Goods.{const-in}
 use Rattle.working.proofs.Owned.{old≢beyond}
 use Rattle.working.proofs.Log.{pointers, Copy}
-use Rattle.working.proofs.Invariant.{Ghost, Kept, Inv}
+use Rattle.working.proofs.Invariant.{Kept}
 use Rattle.working.proofs.Evacuating.{of-pointers}
 use Rattle.working.proofs.Scanning.{seen-old}
 use Rattle.working.proofs.Running.{Ran}
-use Rattle.working.proofs.Ending.{g, I, back, left-store, record-head, C, copy-word, copy-steps, copy-stands, copy-known, copy-inside, copy-whose, copy-scanned}
+use Rattle.working.proofs.Ending.{back, left-store, record-head, copy-word, copy-steps, copy-stands, copy-known, copy-inside, copy-whose, copy-scanned}
 
 -- a value's words in a list
 module _ (h : List ℕ) (a l : ℕ) (inside : a + suc l ≤ length h) where
