@@ -11,3 +11,4 @@ pub mod Means
 pub mod Passing
 pub mod Given
 pub mod Observing
+pub mod Framed

@@ -1,1 +1,6 @@
 pub mod Outcomes
+pub mod KeepsGood
+pub mod KeepsFields
+pub mod KeepsPush
+pub mod KeepsAllocate
+pub mod KeepsPop
