@@ -1,21 +1,19 @@
 -- Two views that mean the same: every path reads the same, and meets the same. Step by step both walks make the same tests, because the
 -- values that they are at have one header, one length, and fields that mean the same.
-use Prim.Native.Nat.{ℕ, zero, suc, _+_, _-_, _≤_, _<_, zero-le, suc-le-suc}
+use Prim.Native.Nat.{ℕ, suc, _-_, _<_, zero-le, suc-le-suc}
 use native.Mathlib.Omega.{arith}
 use mathlib.Core.Path.{_≡_, refl, sym, ap, _∙_}
-use mathlib.Core.Logic.{_≢_, _↔_, _⊎_, inl, inr}
-use mathlib.Core.Bool.{Bool, true, false, not}
-use mathlib.Core.Option.{Option, none, some}
+use mathlib.Core.Logic.{_↔_}
+use mathlib.Core.Bool.{Bool, true, false}
 use mathlib.Core.List.{List, [], _∷_}
 use lib.ListN.{length, drop}
 use lib.Dec.{leb}
-use borrow.Author.Tests.{leb-true, leb-false}
-use Rattle.laws.specs.Choice.{_⇒_∣_}
+use borrow.Author.Tests.{leb-false}
 use Rattle.laws.specs.Lists.{at}
 use Rattle.rules.specs.declared.Refusal.{Refusal}
 use Rattle.rules.specs.Words.{wordOf, isRecord}
 use Rattle.rules.specs.Calls.{headerIn, fieldsIn, isThere, isNumber, Walked, ends, stops, stepInto, walkFrom}
-use Rattle.facts.specs.View.{View, Reading, refusal, whole, ofRecord, ofRaw, masked, readValue, readBy, path, reading, Reached, root, field}
+use Rattle.facts.specs.View.{View, whole, ofRecord, masked, readValue, readBy, path, reading, Reached, root, field}
 
 -- two values alike: header and length are one; a record's fields are related, a raw value's words are the same
 pub record Alike (R : ℕ → ℕ → Type 0) (x y : List ℕ) : Type 0 where
@@ -148,7 +146,7 @@ module _ (X Y : View) (R : ℕ → ℕ → Type 0) (same : Same X Y R) where
     readings i fs = walks-read (paths i fs)
 
 -- ---- meetings: two paths end on one value
-pub record Meet (X : View) (roots : List ℕ) (i : ℕ) (fs : List ℕ) (j : ℕ) (gs : List ℕ) : Type 0 where
+pub record MeetIn (X : View) (roots : List ℕ) (i : ℕ) (fs : List ℕ) (j : ℕ) (gs : List ℕ) : Type 0 where
   pub word : ℕ
   pub one : path X roots i fs ≡ ends word
   pub other : path X roots j gs ≡ ends word
@@ -163,7 +161,7 @@ alike-back {R} w (both-end {v} {w = w′} r) e = let q : w′ ≡ w = cc in (v, 
 alike-back w (both-stop {k}) e = let z : _≡_ {A = ℕ} 0 1 = cc in absurd (omega arith)
 
 module _ (X Y : View) (R : ℕ → ℕ → Type 0) (same : Same X Y R) (rx ry : List ℕ) (len : length rx ≡ length ry) (roots : (i : ℕ) → i < length rx → R (at rx i) (at ry i)) where
-  pub meetings : (i : ℕ) (fs : List ℕ) (j : ℕ) (gs : List ℕ) → Meet X rx i fs j gs ↔ Meet Y ry i fs j gs
+  pub meetings : (i : ℕ) (fs : List ℕ) (j : ℕ) (gs : List ℕ) → MeetIn X rx i fs j gs ↔ MeetIn Y ry i fs j gs
   meetings i fs j gs = (there, back)
     where
       P : AlikeWalks R (path X rx i fs) (path Y ry i fs)
@@ -172,14 +170,14 @@ module _ (X Y : View) (R : ℕ → ℕ → Type 0) (same : Same X Y R) (rx ry : 
       Q : AlikeWalks R (path X rx j gs) (path Y ry j gs)
       Q = paths X Y R same rx ry len roots j gs
 
-      there : Meet X rx i fs j gs → Meet Y ry i fs j gs
+      there : MeetIn X rx i fs j gs → MeetIn Y ry i fs j gs
       there m =
           let p = alike-end (m .word) P (m .one) in
           let q = alike-end (m .word) Q (m .other) in
           let e : p .0 ≡ q .0 = same .once _ _ _ _ (p .2) (q .2) .0 refl in
           record { word = p .0; one = p .1; other = q .1 ∙ ap ends (sym e); pointer = sym (same .numbers _ _ (p .2)) ∙ m .pointer }
 
-      back : Meet Y ry i fs j gs → Meet X rx i fs j gs
+      back : MeetIn Y ry i fs j gs → MeetIn X rx i fs j gs
       back m =
           let p = alike-back (m .word) P (m .one) in
           let q = alike-back (m .word) Q (m .other) in

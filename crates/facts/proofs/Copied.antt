@@ -1,18 +1,16 @@
 -- What a finished collection leaves, seen by pointers alone, and what follows: paths, meetings, regions, reach.
 -- Whoever copies shows `Copied`; nothing below it knows how. It holds because each word has just one word that stands for it.
-use Prim.Native.Nat.{ℕ, zero, suc, _+_, _<_}
+use Prim.Native.Nat.{ℕ, _<_}
 use native.Mathlib.Omega.{arith}
 use mathlib.Core.Path.{_≡_, refl, sym, ap, _∙_}
-use mathlib.Core.Logic.{_≢_, _↔_, _⊎_, inl, inr}
+use mathlib.Core.Logic.{_≢_, _↔_}
 use mathlib.Core.Bool.{Bool, true, false}
-use mathlib.Core.List.{List, [], _∷_, List·Memᴰ}
+use mathlib.Core.List.{List, [], List·Memᴰ}
 use lib.ListN.{length}
-use lib.Dec.{eqb}
-use Rattle.laws.specs.Choice.{_⇒_∣_}
 use Rattle.laws.specs.Lists.{at}
 use Rattle.rules.specs.Words.{wordOf}
 use Rattle.rules.specs.Calls.{isNumber}
-use Rattle.facts.specs.View.{View, Reached, root, field}
+use Rattle.facts.specs.View.{View, Reached}
 use Rattle.facts.proofs.Alike.{Alike, Same, reached-like}
 
 -- a value of the pointer old now has the pointer new
@@ -28,10 +26,6 @@ pub data Rel (kept : ℕ → Type 0) (log : List Moved) : ℕ → ℕ → Type 0
   num : {v : ℕ} → isNumber (wordOf v) ≡ true → Rel kept log v v
   stay : {v : ℕ} → kept v → Rel kept log v v
   went : {v w : ℕ} → List·Memᴰ (to v w) log → Rel kept log v w
-
--- the words of the value at w, L + 1, where it is one of region j's
-unfoldable pub wordsAt : View → ℕ → ℕ → ℕ
-wordsAt X j w = eqb (X .home w) (suc j) ⇒ length (X .value w) ∣ 0
 
 -- a number is no value and has no home
 pub record Plain (X : View) : Type 0 where

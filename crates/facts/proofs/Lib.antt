@@ -10,4 +10,5 @@ pub mod Goods
 pub mod Means
 pub mod Passing
 pub mod Given
+pub mod Observing
 pub mod Framed

@@ -4,14 +4,13 @@ use Prim.Native.Nat.{ℕ, zero, suc, _+_, _*_, _/_, _%_, _^_, _≤_, _<_}
 use native.Mathlib.Nat.{add-assoc, mul-mod-right, mul-div-right}
 use native.Mathlib.Omega.{arith}
 use mathlib.Core.Path.{_≡_, refl, sym, ap, _∙_}
-use mathlib.Core.Bool.{Bool, true, false}
-use mathlib.Core.Option.{Option, none, some}
-use mathlib.Core.List.{List, [], _∷_}
+use mathlib.Core.Bool.{true, false}
+use mathlib.Core.Option.{none, some}
+use mathlib.Core.List.{List, []}
 use lib.ListN.{length, take, drop, length-drop}
 use lib.Seq.{getD-drop}
 use lib.Dec.{leb}
 use borrow.Author.Tests.{le-leb}
-use Rattle.laws.specs.Choice.{_⇒_∣_}
 use Rattle.laws.specs.Lists.{at}
 use Rattle.rules.specs.Memory.{Store, origin, pageWords}
 use Rattle.rules.specs.Words.{Word, number, inHeap, inConst, wordOf, Head, rec, raw, moved, wrong, headOf, lengthBy, wordsBy, pageVals, goodOn, goodHeap, valueAt, look}

@@ -1,6 +1,6 @@
 -- Sums over lists of numbers: where two functions agree, where one element counts more, and that what stands once in a list is no more than
 -- the whole of it.
-use Prim.Native.Nat.{ℕ, zero, suc, _+_, _≤_, zero-le}
+use Prim.Native.Nat.{ℕ, _+_, _≤_, zero-le}
 use native.Mathlib.Omega.{arith}
 use mathlib.Core.Path.{_≡_, refl, sym, ap, _∙_}
 use mathlib.Core.Logic.{_≢_, _⊎_, inl, inr}
@@ -60,13 +60,21 @@ rest-in {x} {y} us vs m ne = go (List·Memᴰ·append-cases us m)
     go (inl q) = Memᴰ·append-left vs q
     go (inr q) = by (List·Memᴰ·cases-cons q)
 
--- what stands once and is all in ys sums to no more than ys does
-pub once-sum : (f : ℕ → ℕ) {xs : List ℕ} → Once xs → (ys : List ℕ) → ((x : ℕ) → List·Memᴰ x xs → List·Memᴰ x ys) → sumOver f xs ≤ sumOver f ys
+-- what stands once and counts only where it is in ys sums to no more than ys does
+pub once-sum : (f : ℕ → ℕ) {xs : List ℕ} → Once xs → (ys : List ℕ) → ((x : ℕ) → List·Memᴰ x xs → List·Memᴰ x ys ⊎ (f x ≡ 0)) → sumOver f xs ≤ sumOver f ys
 unfolding sumOver
 once-sum f once-none ys all = zero-le
-once-sum f (once-more {k = x} {ks} new o) ys all =
-    let s = split-at ys (all x (List·Memᴰ·head refl)) in
-    let r = once-sum f o (s .front ++ s .back) (λ y m. rest-in (s .front) (s .back) (rw (s .is) at (all y (List·Memᴰ·tail m))) (λ e. new (rw e at m))) in
-    let a = ap (sumOver f) (s .is) ∙ sum-append f (s .front) (x ∷ s .back) in
-    let b = sum-append f (s .front) (s .back) in
-    omega arith
+once-sum f (once-more {k = x} {ks} new o) ys all = go (all x (List·Memᴰ·head refl)) (λ zs sub. once-sum f o zs sub)
+  where
+    go : List·Memᴰ x ys ⊎ (f x ≡ 0) → ((zs : List ℕ) → ((y : ℕ) → List·Memᴰ y ks → List·Memᴰ y zs ⊎ (f y ≡ 0)) → sumOver f ks ≤ sumOver f zs) → f x + sumOver f ks ≤ sumOver f ys
+    go (inr z) rest = let r = rest ys (λ y m. all y (List·Memᴰ·tail m)) in omega arith
+    go (inl q) rest =
+        let s = split-at ys q in
+        let r = rest (s .front ++ s .back) (λ y m. left s y m (all y (List·Memᴰ·tail m))) in
+        let a = ap (sumOver f) (s .is) ∙ sum-append f (s .front) (x ∷ s .back) in
+        let b = sum-append f (s .front) (s .back) in
+        omega arith
+      where
+        left : (s : Split x ys) (y : ℕ) → List·Memᴰ y ks → List·Memᴰ y ys ⊎ (f y ≡ 0) → List·Memᴰ y (s .front ++ s .back) ⊎ (f y ≡ 0)
+        left s y m (inr z) = inr z
+        left s y m (inl t) = inl (rest-in (s .front) (s .back) (rw (s .is) at t) (λ e. new (rw e at m)))

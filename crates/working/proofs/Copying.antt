@@ -1,41 +1,40 @@
 -- A value copied, whole: the state after it. The copy is the last value of its region's last page, so its region's row grows by it at the
 -- end, and its words are what the region's used words grow by.
-use Prim.Native.Nat.{ℕ, zero, suc, _+_, _-_, _*_, _^_, _≤_, _<_}
+use Prim.Native.Nat.{ℕ, suc, _+_, _*_, _^_, _≤_, _<_}
 use native.Mathlib.Nat.{mul-le-mul-right}
 use native.Mathlib.Omega.{arith}
 use native.Mathlib.Decide.{ℕ-discrete}
 use mathlib.Core.Path.{_≡_, refl, sym, ap, _∙_, subst}
-use mathlib.Core.Logic.{_≢_, _↔_, _⊎_, inl, inr}
-use mathlib.Core.Bool.{Bool, true, false}
-use mathlib.Core.Option.{Option, none, some}
+use mathlib.Core.Logic.{_≢_, _⊎_, inl, inr}
+use mathlib.Core.Option.{some}
 use mathlib.Core.List.{List, [], _∷_, _++_, append-nil, append-assoc, List·Memᴰ, List·Memᴰ·head, List·Memᴰ·tail, List·Memᴰ·cases-cons, Memᴰ·append-left, Memᴰ·append-right, List·Memᴰ·append-cases, List·Memᴰ·eq-of-singleton}
 use lib.ListN.{length, set, take, drop, length-set, length-drop}
 use lib.Seq.{length-take-le, getD-set-other}
 use borrow.Author.Tests.{eq-eqb, ne-eqb}
 use Rattle.laws.specs.Lists.{at, put}
 use Rattle.laws.specs.Sums.{sumOver}
-use Rattle.laws.proofs.Sums.{sum-same, sum-append, sum-more}
 use Rattle.laws.proofs.Once.{last-in}
-use Rattle.rules.specs.Memory.{Store, pageCount, endOf, topOf, statusOf}
+use Rattle.rules.specs.Memory.{Store, pageCount, topOf, statusOf}
 use Rattle.rules.specs.Words.{rec, raw, headOf}
 use Rattle.rules.specs.Pages.{Run, withHeap, store, room, place}
 use Rattle.rules.specs.Collection.{wake, moveOn, moveTo}
 use Rattle.facts.specs.View.{seen, Reached}
 use Rattle.facts.proofs.Steps.{Stands, Steps, steps-le}
-use Rattle.facts.proofs.Laid.{Owner, old, spare, mine, Last, Layout, Body, upd, upd-same, upd-other}
-use Rattle.facts.proofs.Copied.{Moved, to, wordsAt}
+use Rattle.facts.proofs.Laid.{old, spare, mine, Last, Layout, upd, upd-same, upd-other}
+use Rattle.facts.proofs.Copied.{Moved, to}
+use Rattle.facts.specs.Observed.{wordsAt}
 use Rattle.facts.proofs.Looked.{look-at, home-at}
 use Rattle.facts.proofs.Sound.{Sound}
 use Rattle.working.proofs.Owned.{mine-inj, old≢beyond, spare≢mine, total-snoc}
 use Rattle.working.proofs.Taken.{last-is}
 use Rattle.working.proofs.Tallied.{filled-same, filled-more, filled-page}
-use Rattle.working.proofs.Log.{pointers, olds, Log, Copy, Evacuated, evacuated-log, other-place}
+use Rattle.working.proofs.Log.{pointers, olds, Evacuated, evacuated-log, other-place}
 use Rattle.working.proofs.Placed.{Roomed}
 use Rattle.working.proofs.Moving.{wake-laid, forward-laid, val, fits, evacuated}
 use Rattle.working.proofs.Stored.{store-laid}
 use Rattle.working.proofs.Next.{Row}
 use Rattle.working.proofs.Rows.{row-same, row-snoc, row-page}
-use Rattle.working.proofs.Invariant.{Ghost, Kept, Waits, Pending, filledTo, Inv, Later}
+use Rattle.working.proofs.Invariant.{Ghost, Kept, Pending, filledTo, Inv, Later}
 use Rattle.working.proofs.Waking.{entry, Woken, wakes, woken-stacked, woken-once, woken-at-work, woken-idle, woken-busy, woken-deep}
 
 module _ (s : Store) (S : Sound s) (g : Ghost) (r : Run) (I : Inv s S g r)

@@ -1,25 +1,23 @@
 -- One evacuation of any good word keeps the invariant, or wants a page that is not there: a number or a constant pointer stays, a forwarded
 -- value gives its forward, any other value is copied.
-use Prim.Native.Nat.{ℕ, zero, suc, _+_, _*_, _/_, _^_, _≤_, _<_, zero-le}
+use Prim.Native.Nat.{ℕ, suc, _+_, _*_, _^_, _<_, zero-le}
 use native.Mathlib.Nat.{add-zero, mul-le-mul-right}
 use native.Mathlib.Omega.{arith}
 use mathlib.Core.Path.{_≡_, refl, sym, ap, _∙_}
 use mathlib.Core.Logic.{_⊎_, inl, inr}
-use mathlib.Core.Bool.{Bool, true, false}
-use mathlib.Core.Option.{Option, none, some}
-use mathlib.Core.List.{List, [], List·Memᴰ, List·Memᴰ·head}
+use mathlib.Core.Option.{none, some}
+use mathlib.Core.List.{[], List·Memᴰ, List·Memᴰ·head}
 use lib.ListN.{length, take, drop, length-drop}
 use lib.Seq.{length-take-le}
 use Rattle.laws.specs.Lists.{at}
 use Rattle.rules.specs.Memory.{Store, pageCount, origin, endOf, topOf}
-use Rattle.rules.specs.Words.{Word, number, inHeap, inConst, wordOf, Head, rec, raw, moved, wrong, headOf, lengthBy}
+use Rattle.rules.specs.Words.{Head, rec, raw, moved, wrong, headOf, lengthBy}
 use Rattle.rules.specs.Pages.{Run, room, place}
 use Rattle.rules.specs.Collection.{moveOn, moveTo, regionAt, evacuateAt, evacuate}
-use Rattle.rules.specs.Calls.{isNumber}
 use Rattle.rules.proofs.Chains.{page-of}
 use Rattle.facts.specs.View.{seen, Reached}
-use Rattle.facts.proofs.Steps.{Stands, Steps, steps-le}
-use Rattle.facts.proofs.Laid.{Owner, old, spare, mine}
+use Rattle.facts.proofs.Steps.{steps-le}
+use Rattle.facts.proofs.Laid.{old}
 use Rattle.facts.proofs.Copied.{to, Rel, num, stay, went}
 use Rattle.facts.proofs.Looked.{pointer, pointer-is}
 use Rattle.facts.proofs.Sound.{InHeap, Good, a-number, to-heap, to-const, Chained, in-free, in-region, Sound}
@@ -27,7 +25,7 @@ use Rattle.working.proofs.Owned.{old≢beyond}
 use Rattle.working.proofs.Log.{pointers}
 use Rattle.working.proofs.Placed.{Roomed}
 use Rattle.working.proofs.Moving.{still, still-whose}
-use Rattle.working.proofs.Invariant.{Ghost, Kept, Inv, Later, later-refl, Lacking, Became}
+use Rattle.working.proofs.Invariant.{Ghost, Kept, Inv, later-refl, Lacking, Became}
 use Rattle.working.proofs.Evacuating.{forward-head, in-log, in-pointers, room-or}
 use Rattle.working.proofs.Copying.{ghost, copied-inv, copied-later, copied-count, copied-moves}
 

@@ -1,19 +1,19 @@
 -- A word inside a copy is no part of the layout.
-use Prim.Native.Nat.{ℕ, zero, suc, pred, _+_, _-_, _*_, _/_, _%_, _^_, _≤_, _<_, zero-le, suc-le-suc}
-use native.Mathlib.Nat.{le-trans, le-refl, add-zero}
+use Prim.Native.Nat.{ℕ, suc, _+_, _*_, _^_, _≤_, _<_}
+use native.Mathlib.Nat.{le-refl}
 use native.Mathlib.Omega.{arith}
 use native.Mathlib.Decide.{ℕ-discrete}
-use mathlib.Core.Path.{_≡_, refl, sym, ap, _∙_, subst}
-use mathlib.Core.Logic.{_≢_, _↔_, _⊎_, inl, inr}
-use mathlib.Core.List.{List, [], _∷_, _++_, List·Memᴰ}
-use lib.ListN.{length, set, length-set}
-use lib.Seq.{getD-set-same, getD-set-other}
+use mathlib.Core.Path.{_≡_, sym, ap, _∙_}
+use mathlib.Core.Logic.{_≢_, _⊎_, inl, inr}
+use mathlib.Core.List.{List}
+use lib.ListN.{set, length-set}
+use lib.Seq.{getD-set-other}
 use Rattle.laws.specs.Lists.{at}
 use Rattle.rules.specs.Memory.{link}
 use Rattle.rules.specs.Pages.{Run, withHeap}
 use Rattle.laws.proofs.Lists.{apart as pages-apart}
-use Rattle.facts.proofs.Steps.{Stands, Steps, here, over, steps-le, steps-inside}
-use Rattle.facts.proofs.Laid.{Linked, linked-same, Owner, old, spare, beyond, mine, Body, Clean, Like, body-like, clean-like, Layout}
+use Rattle.facts.proofs.Steps.{Stands, Steps, here, steps-le, steps-inside}
+use Rattle.facts.proofs.Laid.{linked-same, Owner, spare, mine, Body, Like, body-like, clean-like, Layout}
 
 module _ (n N R : ℕ) (own : ℕ → Owner) (fin : ℕ → ℕ) (pages : ℕ → List ℕ) (free : List ℕ) (r : Run) (L : Layout n N R own fin pages free r)
     (k j d l i v : ℕ) (own-k : own k ≡ mine j) (at-d : Steps (r .heap) (k * 2 ^ n + 2 ^ n) (k * 2 ^ n + 2) d)

@@ -1,13 +1,13 @@
 -- One field of a copy set: the invariant after it. No header changes, so every row stays; only how many of the copy's fields are scanned does.
-use Prim.Native.Nat.{ℕ, zero, suc, _+_, _*_, _^_, _≤_, _<_}
+use Prim.Native.Nat.{ℕ, suc, _+_, _*_, _^_, _≤_, _<_}
 use native.Mathlib.Nat.{mul-le-mul-right}
 use native.Mathlib.Omega.{arith}
 use native.Mathlib.Decide.{ℕ-discrete}
-use mathlib.Core.Path.{_≡_, refl, sym, ap, _∙_}
+use mathlib.Core.Path.{_≡_, sym, ap, _∙_}
 use mathlib.Core.Logic.{_≢_, _⊎_, inl, inr}
-use mathlib.Core.Option.{Option, none, some}
-use mathlib.Core.List.{List, [], _∷_, _++_, List·Memᴰ}
-use lib.ListN.{length, set, length-set}
+use mathlib.Core.Option.{some}
+use mathlib.Core.List.{List·Memᴰ}
+use lib.ListN.{length, set}
 use lib.Seq.{getD-set-other}
 use Rattle.laws.specs.Lists.{at}
 use Rattle.laws.proofs.Lists.{apart as pages-apart}
@@ -15,14 +15,14 @@ use Rattle.rules.specs.Memory.{Store, pageCount}
 use Rattle.rules.specs.Words.{rec, raw, headOf}
 use Rattle.rules.specs.Pages.{Run, withHeap}
 use Rattle.facts.proofs.Steps.{Stands, Steps, steps-le, apart}
-use Rattle.facts.proofs.Laid.{upd, upd-same, upd-other}
+use Rattle.facts.proofs.Laid.{upd, upd-other}
 use Rattle.facts.proofs.Copied.{to, Rel}
 use Rattle.facts.proofs.Sound.{Sound}
 use Rattle.working.proofs.Owned.{mine≢beyond}
 use Rattle.working.proofs.Log.{pointers, Copy}
 use Rattle.working.proofs.Scanned.{scanned-log}
 use Rattle.working.proofs.Fielded.{field-laid}
-use Rattle.working.proofs.Rows.{InRow, row-in, row-headers}
+use Rattle.working.proofs.Rows.{row-in, row-headers}
 use Rattle.working.proofs.Invariant.{Ghost, Kept, Waits, Pending, Inv}
 
 -- i fields of the copy at d are scanned

@@ -1,25 +1,19 @@
 -- Each region takes one fresh page: the state when the regions below j have theirs. The pages of before are old from the start, and no word
 -- of theirs changes.
-use Prim.Native.Nat.{ℕ, zero, suc, _+_, _*_, _^_, _≤_, _<_, zero-le}
-use native.Mathlib.Nat.{mul-le-mul-right, le-refl}
+use Prim.Native.Nat.{ℕ, _+_, _*_, _^_, _≤_, _<_, zero-le}
 use native.Mathlib.Omega.{arith}
-use native.Mathlib.Decide.{ℕ-discrete}
 use mathlib.Core.Path.{_≡_, refl, sym, ap, _∙_}
 use mathlib.Core.Logic.{_≢_, _↔_, _⊎_, inl, inr}
-use mathlib.Core.Option.{Option, none, some}
-use mathlib.Core.List.{List, [], _∷_, _++_, List·Memᴰ, List·Memᴰ·head, List·Memᴰ·tail, List·Memᴰ·cases-cons, List·Memᴰ·not-nil, List·Memᴰ·eq-of-singleton}
+use mathlib.Core.List.{List, [], _∷_, List·Memᴰ}
 use lib.ListN.{length, set, length-set}
 use lib.Seq.{getD-set-same, getD-set-other}
 use Rattle.laws.specs.Lists.{at}
-use Rattle.laws.proofs.Once.{Once, once-none, once-more, Last, only, last-in, Linked, stop, goes, linked-none, linked-first}
-use Rattle.rules.specs.Memory.{Store, pageCount, pageEnd, pageAddress, bodyAddress, link, endOf, firstOf, topOf, statusOf, setEnd, setFirst, setTop, setRow}
-use Rattle.rules.specs.Pages.{Run, begun, withTable, takePage}
-use Rattle.rules.specs.Collection.{freshen}
-use Rattle.facts.proofs.Steps.{Steps}
-use Rattle.facts.proofs.Laid.{Owner, old, spare, beyond, mine, Layout, upd, upd-same, upd-other}
+use Rattle.rules.specs.Memory.{Store, pageCount, endOf, firstOf, topOf, statusOf, setRow}
+use Rattle.rules.specs.Pages.{Run, begun}
+use Rattle.facts.proofs.Laid.{Owner, old, spare, beyond, mine, Layout}
 use Rattle.facts.proofs.Sound.{Chained, in-free, in-region, Sound}
-use Rattle.working.proofs.Owned.{mine-inj, old≢spare, old≢mine, spare≢mine, spare≢beyond, mine≢beyond, Owned, total, total-same, taken-owned}
-use Rattle.working.proofs.Taken.{taken, takes, takes-none, taken-laid, k-link, others}
+use Rattle.working.proofs.Owned.{old≢spare, old≢mine, spare≢mine, spare≢beyond, mine≢beyond, Owned}
+use Rattle.working.proofs.Taken.{taken}
 
 -- ---- a row of the table written
 

@@ -1,23 +1,23 @@
 -- Fresh pages for all regions, one after the other: region j takes the first free page, which becomes its only one.
-use Prim.Native.Nat.{ℕ, zero, suc, _+_, _*_, _^_, _≤_, _<_, zero-le}
-use native.Mathlib.Nat.{mul-le-mul-right, le-refl}
+use Prim.Native.Nat.{ℕ, zero, suc, _+_, _*_, _^_, _≤_, _<_}
+use native.Mathlib.Nat.{le-refl}
 use native.Mathlib.Omega.{arith}
 use native.Mathlib.Decide.{ℕ-discrete, decLt}
 use mathlib.Core.Path.{_≡_, refl, sym, ap, _∙_, subst}
-use mathlib.Core.Logic.{_≢_, _↔_, _⊎_, inl, inr}
-use mathlib.Core.Option.{Option, none, some}
-use mathlib.Core.List.{List, [], _∷_, _++_, List·Memᴰ, List·Memᴰ·head, List·Memᴰ·tail, List·Memᴰ·not-nil, List·Memᴰ·eq-of-singleton}
+use mathlib.Core.Logic.{_≢_, _⊎_, inl, inr}
+use mathlib.Core.Option.{none, some}
+use mathlib.Core.List.{List, [], _∷_, _++_, List·Memᴰ, List·Memᴰ·head, List·Memᴰ·not-nil, List·Memᴰ·eq-of-singleton}
 use lib.ListN.{length}
 use Rattle.laws.specs.Lists.{at}
-use Rattle.laws.proofs.Once.{Once, once-none, once-more, Last, only, last-in, Linked, stop, goes, linked-none, linked-first}
+use Rattle.laws.proofs.Once.{Once, once-none, once-more, Last, only, Linked, stop, goes, linked-none, linked-first}
 use Rattle.rules.specs.Memory.{Store, pageCount, pageEnd, pageAddress, bodyAddress, link, endOf, firstOf, topOf, statusOf, setRow}
-use Rattle.rules.specs.Pages.{Run, begun, withTable, takePage}
+use Rattle.rules.specs.Pages.{Run, withTable, takePage}
 use Rattle.rules.specs.Collection.{freshen}
-use Rattle.facts.proofs.Laid.{Owner, old, spare, beyond, mine, Layout, upd, upd-same, upd-other}
+use Rattle.facts.proofs.Laid.{Owner, old, spare, mine, Layout, upd, upd-same, upd-other}
 use Rattle.facts.proofs.Sound.{Sound}
-use Rattle.working.proofs.Owned.{mine-inj, old≢spare, old≢mine, Owned, taken-owned}
+use Rattle.working.proofs.Owned.{old≢spare, old≢mine, Owned, taken-owned}
 use Rattle.working.proofs.Taken.{taken, takes, takes-none, taken-laid, k-link, others}
-use Rattle.working.proofs.Fresh.{row-width, row-else, row-end, row-first, row-top, row-status, Fresh, fresh-start}
+use Rattle.working.proofs.Fresh.{row-width, row-else, row-end, row-first, row-top, row-status, Fresh}
 
 module _ (s : Store) (S : Sound s) (j : ℕ) (r : Run) (F : Fresh s S j r) (jR : j < s .ctl .regions) (k : ℕ) (ks : List ℕ) (free : F .free ≡ k ∷ ks) where
   abbrev n : ℕ

@@ -1,12 +1,11 @@
 -- The invariant of a running collection: how the heap is laid out, what was copied where, and what is still to be scanned. Each step of the
 -- run keeps it. What it takes beside the run's own words is the ghost state.
-use Prim.Native.Nat.{ℕ, zero, suc, _+_, _-_, _*_, _^_, _≤_, _<_}
+use Prim.Native.Nat.{ℕ, suc, _+_, _-_, _*_, _≤_, _<_}
 use native.Mathlib.Nat.{le-refl}
 use native.Mathlib.Omega.{arith}
 use mathlib.Core.Path.{_≡_, refl, sym, ap, _∙_}
-use mathlib.Core.Logic.{_≢_, _↔_, _⊎_, inl, inr}
-use mathlib.Core.Bool.{Bool, true, false}
-use mathlib.Core.Option.{Option, none, some}
+use mathlib.Core.Logic.{_≢_, _↔_, _⊎_}
+use mathlib.Core.Option.{Option, some}
 use mathlib.Core.List.{List, [], _∷_, _++_, append-nil, append-assoc, List·Memᴰ}
 use lib.ListN.{length}
 use Rattle.laws.specs.Lists.{at}
@@ -17,7 +16,8 @@ use Rattle.rules.specs.Words.{inConst, wordOf, rec, raw, headOf}
 use Rattle.rules.specs.Pages.{Scan, Run}
 use Rattle.facts.specs.View.{seen}
 use Rattle.facts.proofs.Laid.{Owner, old, Layout}
-use Rattle.facts.proofs.Copied.{Moved, to, Rel, wordsAt}
+use Rattle.facts.proofs.Copied.{Moved, to, Rel}
+use Rattle.facts.specs.Observed.{wordsAt}
 use Rattle.facts.proofs.Sound.{InConst, Sound}
 use Rattle.working.proofs.Owned.{Owned, total}
 use Rattle.working.proofs.Log.{pointers, olds, Log}

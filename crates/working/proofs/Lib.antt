@@ -24,3 +24,7 @@ pub mod Roots
 pub mod Fresh
 pub mod Freshening
 pub mod Running
+pub mod Ending
+pub mod Views
+pub mod Counting
+pub mod Collecting

@@ -1,22 +1,19 @@
 -- The log of a collection: which value was copied where, and what its copy holds. An evacuation adds one entry.
-use Prim.Native.Nat.{ℕ, zero, suc, pred, _+_, _-_, _*_, _/_, _%_, _^_, _≤_, _<_, zero-le, suc-le-suc}
-use native.Mathlib.Nat.{le-trans, le-refl, add-zero, mul-le-mul-right}
+use Prim.Native.Nat.{ℕ, suc, _+_, _*_, _^_, _≤_, _<_, zero-le}
+use native.Mathlib.Nat.{add-zero}
 use native.Mathlib.Omega.{arith}
-use native.Mathlib.Decide.{ℕ-discrete, decLe}
-use mathlib.Core.Path.{_≡_, refl, sym, ap, _∙_, subst}
+use native.Mathlib.Decide.{ℕ-discrete}
+use mathlib.Core.Path.{_≡_, refl, sym, ap, _∙_}
 use mathlib.Core.Logic.{_≢_, _↔_, _⊎_, inl, inr}
-use mathlib.Core.Bool.{Bool, true, false}
-use mathlib.Core.Option.{Option, none, some}
-use mathlib.Core.List.{List, [], _∷_, _++_, List·Memᴰ, List·Memᴰ·head, List·Memᴰ·tail, List·Memᴰ·cases-cons}
-use lib.ListN.{length}
-use Rattle.rules.specs.Words.{isRecord}
+use mathlib.Core.Option.{none}
+use mathlib.Core.List.{List, [], _∷_, List·Memᴰ, List·Memᴰ·head, List·Memᴰ·tail, List·Memᴰ·cases-cons}
 use Rattle.rules.specs.Memory.{Store}
 use Rattle.laws.specs.Lists.{at}
 use Rattle.facts.specs.View.{seen, Reached}
 use Rattle.laws.proofs.Lists.{apart as pages-apart}
-use Rattle.facts.proofs.Steps.{Stands, Steps, here, over, steps-le, steps-then, steps-same, stands-same, apart}
+use Rattle.facts.proofs.Steps.{Stands, Steps, steps-le, steps-same, stands-same, apart}
 use Rattle.laws.proofs.Once.{Once, once-more}
-use Rattle.facts.proofs.Laid.{upd, upd-same, upd-other, Owner, old, spare, beyond, mine}
+use Rattle.facts.proofs.Laid.{upd, upd-same, upd-other, Owner, old, mine}
 use Rattle.facts.proofs.Copied.{Moved, to, Rel, num, stay, went}
 
 -- The log's entries are addresses, `to old new`; its words are the pointers to them.

@@ -1,29 +1,24 @@
 -- A value moved: placed in its region, its region woken, its forward left.
-use Prim.Native.Nat.{ℕ, zero, suc, pred, _+_, _-_, _*_, _/_, _%_, _^_, _≤_, _<_, zero-le, suc-le-suc}
-use native.Mathlib.Nat.{le-trans, le-refl, add-zero, mul-le-mul-right}
+use Prim.Native.Nat.{ℕ, zero, suc, _+_, _*_, _^_, _≤_, _<_, zero-le}
+use native.Mathlib.Nat.{le-refl, add-zero, mul-le-mul-right}
 use native.Mathlib.Omega.{arith}
 use native.Mathlib.Decide.{ℕ-discrete}
 use mathlib.Core.Path.{_≡_, refl, sym, ap, _∙_, subst}
-use mathlib.Core.Logic.{_≢_, _↔_, _⊎_, inl, inr}
-use mathlib.Core.Bool.{Bool, true, false}
-use mathlib.Core.Option.{Option, none, some}
-use mathlib.Core.List.{List, [], _∷_, _++_, List·Memᴰ, List·Memᴰ·head, List·Memᴰ·tail}
-use lib.ListN.{length, getD, set, take, drop, length-set, length-drop}
+use mathlib.Core.Logic.{_≢_, _⊎_, inl, inr}
+use mathlib.Core.List.{List, _∷_, List·Memᴰ}
+use lib.ListN.{length, set, take, drop, length-set, length-drop}
 use lib.Seq.{getD-set-same, getD-set-other, length-take-le, getD-take, getD-drop}
-use lib.Arith.{digits-div}
 use Rattle.working.proofs.Stored as S
-use Rattle.rules.specs.Words.{Head, headOf, lengthBy}
-use Rattle.rules.specs.declared.Control.{Control}
-use Rattle.rules.specs.Memory.{Store, link, origin, endOf, firstOf, topOf, statusOf, setStatus}
+use Rattle.rules.specs.Words.{headOf, lengthBy}
+use Rattle.rules.specs.Memory.{Store, link, endOf, topOf, statusOf, setStatus}
 use Rattle.laws.specs.Lists.{at, put}
-use Rattle.rules.specs.Pages.{Scan, Run, withHeap, withTable, withStack, room, store}
-use Rattle.rules.specs.Pages.{place}
+use Rattle.rules.specs.Pages.{Scan, Run, withHeap, withTable, withStack}
 use Rattle.rules.specs.Collection.{wake}
 use Rattle.laws.proofs.Lists.{apart as pages-apart, length-put, at-put-below, at-put-in, at-put-above}
-use Rattle.facts.proofs.Steps.{Stands, Steps, here, over, steps-le, steps-then, steps-same, apart}
-use Rattle.facts.proofs.Laid.{upd, upd-same, upd-other, Once, Last, last-in, Linked, linked-same, Owner, old, spare, beyond, mine, Body, Clean, Like, body-like, clean-like, Layout, Value}
+use Rattle.facts.proofs.Steps.{Stands, Steps, steps-le, steps-same, apart}
+use Rattle.facts.proofs.Laid.{upd, upd-same, upd-other, last-in, linked-same, Owner, old, spare, beyond, mine, Body, Like, body-like, clean-like, Layout, Value}
 use Rattle.facts.proofs.Copied.{Moved, to}
-use Rattle.working.proofs.Log.{Copy, Log, Evacuated, evacuated-log}
+use Rattle.working.proofs.Log.{Log, Evacuated}
 use Rattle.working.proofs.Placed.{Roomed}
 
 module _ (n N R : ℕ) (own : ℕ → Owner) (fin : ℕ → ℕ) (pages : ℕ → List ℕ) (free : List ℕ) (r : Run) (L : Layout n N R own fin pages free r) where

@@ -1,13 +1,12 @@
 -- Every page is somebody's, and the numbers of pages and of waiting copies over all regions. A taken page leaves the free list and joins
 -- its region's pages, so what is counted stays.
-use Prim.Native.Nat.{ℕ, zero, suc, _+_, _*_, _^_, _≤_, _<_}
+use Prim.Native.Nat.{ℕ, zero, suc, _+_, _<_}
 use native.Mathlib.Omega.{arith}
 use native.Mathlib.Decide.{ℕ-discrete}
 use mathlib.Core.Path.{_≡_, refl, sym, ap, _∙_}
 use mathlib.Core.Logic.{_≢_, _⊎_, inl, inr}
-use mathlib.Core.List.{List, [], _∷_, _++_, List·Memᴰ, List·Memᴰ·head, List·Memᴰ·tail, List·Memᴰ·cases-cons, Memᴰ·append-left, Memᴰ·append-right}
+use mathlib.Core.List.{List, [], _∷_, _++_, List·Memᴰ, List·Memᴰ·head, List·Memᴰ·cases-cons, Memᴰ·append-left, Memᴰ·append-right}
 use lib.ListN.{length, length-append}
-use Rattle.laws.proofs.Once.{Once}
 use Rattle.facts.proofs.Laid.{upd, upd-same, upd-other, Owner, old, spare, beyond, mine}
 
 pub mine-inj : {i j : ℕ} → mine i ≡ mine j → i ≡ j

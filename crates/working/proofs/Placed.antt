@@ -1,27 +1,23 @@
 -- The allocation rule on a laid out heap: room, then the words; and a forward left behind.
-use Prim.Native.Nat.{ℕ, zero, suc, pred, _+_, _-_, _*_, _/_, _%_, _^_, _≤_, _<_, zero-le, suc-le-suc}
-use native.Mathlib.Nat.{le-trans, le-refl, add-zero, mul-le-mul-right}
+use Prim.Native.Nat.{ℕ, suc, _+_, _-_, _*_, _^_, _≤_, _<_}
+use native.Mathlib.Nat.{le-refl}
 use native.Mathlib.Omega.{arith}
 use native.Mathlib.Decide.{ℕ-discrete}
-use mathlib.Core.Path.{_≡_, refl, sym, ap, _∙_, subst}
+use mathlib.Core.Path.{_≡_, refl, sym, ap, _∙_}
 use mathlib.Core.Logic.{_≢_, _↔_, _⊎_, inl, inr}
-use mathlib.Core.Bool.{Bool, true, false}
-use mathlib.Core.Option.{Option, none, some}
-use mathlib.Core.List.{List, [], _∷_, _++_, List·Memᴰ, List·Memᴰ·head, List·Memᴰ·tail}
-use lib.ListN.{length, getD, set, length-set}
-use lib.Seq.{getD-set-same, getD-set-other}
+use mathlib.Core.Bool.{true, false}
+use mathlib.Core.Option.{some}
+use mathlib.Core.List.{List, [], _∷_, _++_, List·Memᴰ, List·Memᴰ·head}
+use lib.ListN.{length, set, length-set}
+use lib.Seq.{getD-set-other}
 use lib.Dec.{leb}
-use borrow.Author.Tests.{leb-true, leb-false}
+use borrow.Author.Tests.{leb-true}
 use Rattle.working.proofs.Taken as T
 use Rattle.working.proofs.Roomy as Q
-use Rattle.rules.specs.declared.Control.{Control}
-use Rattle.rules.specs.Memory.{Store, link, origin, endOf, firstOf, topOf, statusOf}
-use Rattle.laws.specs.Lists.{at, put}
-use Rattle.rules.specs.Pages.{Run, withHeap, takePage, join, room, store}
-use Rattle.rules.specs.Pages.{place}
-use Rattle.laws.proofs.Lists.{apart, at-put-below, at-put-above}
-use Rattle.facts.proofs.Steps.{Stands, Steps, here, over, steps-le}
-use Rattle.facts.proofs.Laid.{upd, upd-same, upd-other, Once, Last, last-in, Linked, linked-same, Owner, old, spare, beyond, mine, Body, Clean, Like, body-like, clean-like, Layout}
+use Rattle.rules.specs.Memory.{link, endOf, topOf}
+use Rattle.laws.specs.Lists.{at}
+use Rattle.rules.specs.Pages.{Run, join, room}
+use Rattle.facts.proofs.Laid.{upd, upd-same, upd-other, Owner, old, spare, beyond, mine, Like, Layout}
 use Rattle.working.proofs.Taken.{taken, last-is}
 use Rattle.working.proofs.Owned.{Owned, total, total-snoc, taken-owned}
 

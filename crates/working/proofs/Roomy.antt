@@ -1,22 +1,18 @@
 -- A region that was given room by a new page.
-use Prim.Native.Nat.{ℕ, zero, suc, pred, _+_, _-_, _*_, _/_, _%_, _^_, _≤_, _<_, zero-le, suc-le-suc}
-use native.Mathlib.Nat.{le-trans, le-refl, add-zero, mul-le-mul-right}
+use Prim.Native.Nat.{ℕ, suc, _+_, _-_, _*_, _^_, _≤_, _<_}
+use native.Mathlib.Nat.{mul-le-mul-right}
 use native.Mathlib.Omega.{arith}
 use native.Mathlib.Decide.{ℕ-discrete}
-use mathlib.Core.Path.{_≡_, refl, sym, ap, _∙_, subst}
-use mathlib.Core.Logic.{_≢_, _↔_, _⊎_, inl, inr}
-use mathlib.Core.Bool.{Bool, true, false}
-use mathlib.Core.Option.{Option, none, some}
-use mathlib.Core.List.{List, [], _∷_, _++_, List·Memᴰ, List·Memᴰ·head, List·Memᴰ·tail}
-use lib.ListN.{length, getD, set, length-set}
+use mathlib.Core.Path.{_≡_, sym, ap, _∙_}
+use mathlib.Core.Logic.{_≢_, _⊎_, inl, inr}
+use mathlib.Core.List.{List, [], _∷_, _++_, List·Memᴰ}
+use lib.ListN.{length, set, length-set}
 use lib.Seq.{getD-set-same, getD-set-other}
-use Rattle.rules.specs.declared.Control.{Control}
-use Rattle.rules.specs.Memory.{Store, link, origin, endOf, firstOf, topOf, statusOf}
-use Rattle.laws.specs.Lists.{at, put}
+use Rattle.rules.specs.Memory.{link, endOf, firstOf, topOf}
+use Rattle.laws.specs.Lists.{at}
 use Rattle.rules.specs.Pages.{Run, join}
 use Rattle.laws.proofs.Lists.{apart}
-use Rattle.facts.proofs.Steps.{Stands, Steps, here, over, steps-le}
-use Rattle.facts.proofs.Laid.{upd, upd-same, upd-other, Once, once-none, once-more, Last, only, later, last-in, Linked, stop, goes, linked-same, Owner, old, spare, beyond, mine, Body, Clean, Like, body-like, clean-like, Layout}
+use Rattle.facts.proofs.Laid.{upd, upd-same, upd-other, Once, Last, last-in, Linked, linked-same, Owner, spare, beyond, mine, Like, body-like, clean-like, Layout}
 use Rattle.working.proofs.Taken.{linked-snoc, last-snoc, in-snoc, once-snoc}
 
 -- page k, which belongs to region j and holds nothing yet, becomes the region's last page

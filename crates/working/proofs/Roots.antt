@@ -1,16 +1,16 @@
 -- The roots evacuated in order, then the scan stack worked: from a fresh state to one in which all is scanned.
-use Prim.Native.Nat.{ℕ, zero, suc, _+_, _*_, _^_, _≤_, _<_, zero-le, suc-le-suc}
+use Prim.Native.Nat.{ℕ, zero, suc, _+_, _*_, _≤_, _<_, zero-le, suc-le-suc}
 use native.Mathlib.Omega.{arith}
 use mathlib.Core.Path.{_≡_, refl, sym, ap, _∙_}
-use mathlib.Core.Logic.{_≢_, _⊎_, inl, inr}
-use mathlib.Core.Option.{Option, none, some}
-use mathlib.Core.List.{List, [], _∷_, _++_, List·Memᴰ, List·Memᴰ·head, List·Memᴰ·tail, List·Memᴰ·cases-cons}
+use mathlib.Core.Logic.{_⊎_, inl, inr}
+use mathlib.Core.Option.{none, some}
+use mathlib.Core.List.{List, [], _∷_, List·Memᴰ, List·Memᴰ·head, List·Memᴰ·tail, List·Memᴰ·cases-cons}
 use lib.ListN.{length}
 use Rattle.laws.specs.Lists.{at}
 use Rattle.laws.proofs.Once.{Once, once-more}
 use Rattle.rules.specs.Memory.{Store, pageCount, topOf}
 use Rattle.rules.specs.Pages.{Scan, Run, withStack}
-use Rattle.rules.specs.Collection.{Ended, finished, lacksPage, evacuate, evacuateAll, work, workStack}
+use Rattle.rules.specs.Collection.{finished, lacksPage, evacuate, evacuateAll, work, workStack}
 use Rattle.facts.specs.View.{seen, Reached}
 use Rattle.facts.proofs.Copied.{Moved, to, Rel, num, stay, went}
 use Rattle.facts.proofs.Sound.{Good, Sound}

@@ -1,15 +1,15 @@
 -- A region's values in order, when a value is added or a word inside one changes.
-use Prim.Native.Nat.{ℕ, zero, suc, _+_, _*_, _^_, _≤_, _<_}
-use native.Mathlib.Nat.{le-trans, le-refl}
+use Prim.Native.Nat.{ℕ, suc, _+_, _*_, _^_, _≤_, _<_}
+use native.Mathlib.Nat.{le-refl}
 use native.Mathlib.Omega.{arith}
 use native.Mathlib.Decide.{ℕ-discrete}
-use mathlib.Core.Path.{_≡_, refl, sym, ap, _∙_, subst}
+use mathlib.Core.Path.{_≡_, refl, sym, ap, subst}
 use mathlib.Core.Logic.{_≢_, _⊎_, inl, inr}
 use mathlib.Core.List.{List, [], _∷_, _++_, append-assoc, List·Memᴰ, List·Memᴰ·head, List·Memᴰ·tail, List·Memᴰ·append-cases, Memᴰ·append-left, Memᴰ·append-right, List·Memᴰ·eq-of-singleton}
 use Rattle.laws.specs.Lists.{at}
 use Rattle.laws.proofs.Lists.{apart as pages-apart}
 use Rattle.laws.proofs.Once.{once-none, once-append}
-use Rattle.facts.proofs.Steps.{Stands, Steps, here, over, steps-le, steps-then, stands-same}
+use Rattle.facts.proofs.Steps.{Stands, Steps, here, over, steps-le, stands-same}
 use Rattle.facts.proofs.Laid.{Once, once-more, Last, only, later, last-in}
 use Rattle.working.proofs.Next.{Vals, vals-none, vals-more, vals-le, Row, row-last, row-more}
 

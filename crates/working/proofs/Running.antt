@@ -1,22 +1,22 @@
 -- The whole run up to its end: fresh pages, roots, scan. It ends with all scanned, or for want of a page, and never for want of fuel.
-use Prim.Native.Nat.{ℕ, zero, suc, _+_, _-_, _*_, _^_, _≤_, _<_}
+use Prim.Native.Nat.{ℕ, zero, suc, _+_, _-_, _*_, _^_, _<_}
 use native.Mathlib.Omega.{arith}
 use mathlib.Core.Path.{_≡_, refl, sym, ap, _∙_, subst}
-use mathlib.Core.Logic.{_≢_, _↔_, _⊎_, inl, inr}
-use mathlib.Core.Option.{Option, none, some}
-use mathlib.Core.List.{List, [], _∷_, _++_, List·Memᴰ, List·Memᴰ·not-nil, List·Memᴰ·eq-of-singleton}
+use mathlib.Core.Logic.{_⊎_, inl, inr}
+use mathlib.Core.Option.{none, some}
+use mathlib.Core.List.{List, [], _∷_, List·Memᴰ, List·Memᴰ·eq-of-singleton}
 use lib.ListN.{length}
 use Rattle.laws.specs.Lists.{at}
 use Rattle.laws.specs.Sums.{sumOver}
-use Rattle.laws.proofs.Once.{Once, once-none}
+use Rattle.laws.proofs.Once.{once-none}
 use Rattle.rules.specs.declared.Refusal.{Refusal}
-use Rattle.rules.specs.Memory.{Store, pageCount}
+use Rattle.rules.specs.Memory.{Store}
 use Rattle.rules.specs.Pages.{Run, begun}
-use Rattle.rules.specs.Collection.{Ended, finished, lacksPage, freshen, evacuateAll, workStack, ending, collected}
+use Rattle.rules.specs.Collection.{finished, lacksPage, freshen, evacuateAll, workStack, ending, collected}
 use Rattle.rules.specs.Refusals.{refused}
 use Rattle.facts.specs.View.{root}
 use Rattle.facts.proofs.Steps.{steps-le}
-use Rattle.facts.proofs.Laid.{Owner, mine}
+use Rattle.facts.proofs.Laid.{mine}
 use Rattle.facts.proofs.Copied.{Rel}
 use Rattle.facts.proofs.Sound.{Sound}
 use Rattle.working.proofs.Owned.{total}

@@ -1,18 +1,18 @@
 -- One field of a copy scanned: its word is set, and nothing else of the log changes.
-use Prim.Native.Nat.{ℕ, zero, suc, pred, _+_, _-_, _*_, _/_, _%_, _^_, _≤_, _<_, zero-le, suc-le-suc}
-use native.Mathlib.Nat.{le-trans, le-refl, add-zero, mul-le-mul-right}
+use Prim.Native.Nat.{ℕ, suc, _+_, _*_, _^_, _≤_, _<_}
+use native.Mathlib.Nat.{le-refl}
 use native.Mathlib.Omega.{arith}
-use native.Mathlib.Decide.{ℕ-discrete, decLe}
-use mathlib.Core.Path.{_≡_, refl, sym, ap, _∙_, subst}
-use mathlib.Core.Logic.{_≢_, _↔_, _⊎_, inl, inr}
-use mathlib.Core.List.{List, [], _∷_, _++_, List·Memᴰ}
+use native.Mathlib.Decide.{ℕ-discrete}
+use mathlib.Core.Path.{_≡_, refl, sym, ap, _∙_}
+use mathlib.Core.Logic.{_≢_, _⊎_, inl, inr}
+use mathlib.Core.List.{List, List·Memᴰ}
 use lib.ListN.{length, set}
 use lib.Seq.{getD-set-same, getD-set-other}
 use Rattle.rules.specs.Memory.{Store}
 use Rattle.laws.specs.Lists.{at}
 use Rattle.laws.proofs.Lists.{apart as pages-apart}
-use Rattle.facts.proofs.Steps.{Stands, Steps, here, over, steps-le, steps-then, steps-same, stands-same, apart, steps-inside}
-use Rattle.facts.proofs.Laid.{upd, upd-same, upd-other, Owner, old, spare, beyond, mine}
+use Rattle.facts.proofs.Steps.{Stands, Steps, here, steps-le, steps-same, stands-same, apart, steps-inside}
+use Rattle.facts.proofs.Laid.{upd, upd-same, upd-other, Owner, old, mine}
 use Rattle.facts.proofs.Copied.{Moved, to, Rel}
 use Rattle.working.proofs.Log.{pointers, Copy, Log}
 

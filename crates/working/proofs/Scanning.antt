@@ -1,33 +1,29 @@
 -- A copy scanned, whole: its fields one after the other, each evacuated and set. Its region's copies to be scanned lose it, and get those
 -- copied meanwhile at their end.
-use Prim.Native.Nat.{ℕ, zero, suc, _+_, _-_, _*_, _^_, _≤_, _<_}
+use Prim.Native.Nat.{ℕ, zero, suc, _+_, _*_, _^_, _≤_, _<_}
 use native.Mathlib.Nat.{mul-le-mul-right}
 use native.Mathlib.Omega.{arith}
-use native.Mathlib.Decide.{ℕ-discrete}
-use mathlib.Core.Path.{_≡_, refl, sym, ap, _∙_, subst}
-use mathlib.Core.Logic.{_≢_, _⊎_, inl, inr}
-use mathlib.Core.Bool.{Bool, true, false}
-use mathlib.Core.Option.{Option, none, some}
-use mathlib.Core.List.{List, [], _∷_, _++_, append-assoc, List·Memᴰ, List·Memᴰ·head, List·Memᴰ·tail, List·Memᴰ·cases-cons, Memᴰ·append-right}
+use mathlib.Core.Path.{_≡_, refl, ap, _∙_, subst}
+use mathlib.Core.Logic.{_⊎_, inl, inr}
+use mathlib.Core.Bool.{true}
+use mathlib.Core.Option.{none, some}
+use mathlib.Core.List.{List, List·Memᴰ}
 use lib.ListN.{length, set, take, drop, length-drop}
 use lib.Seq.{length-take-le, getD-take, getD-drop}
 use Rattle.laws.specs.Lists.{at}
-use Rattle.laws.proofs.Once.{Once, once-more}
-use Rattle.rules.specs.Memory.{Store, pageCount}
-use Rattle.rules.specs.Words.{Head, rec, raw, moved, wrong, headOf, lengthBy, recordBy, isRecord}
-use Rattle.rules.specs.Pages.{Scan, Run, withHeap}
-use Rattle.rules.specs.Collection.{evacuate, scanFields, scanValue}
+use Rattle.rules.specs.Memory.{Store}
+use Rattle.rules.specs.Words.{rec, headOf, lengthBy, recordBy, isRecord}
+use Rattle.rules.specs.Pages.{Run, withHeap}
+use Rattle.rules.specs.Collection.{evacuate, scanFields}
 use Rattle.rules.specs.Calls.{lookIn, headerIn, fieldsIn}
 use Rattle.facts.specs.View.{seen, Reached, field}
-use Rattle.facts.proofs.Steps.{Stands, Steps}
-use Rattle.facts.proofs.Laid.{upd, upd-same, upd-other}
-use Rattle.facts.proofs.Copied.{to, Rel}
+use Rattle.facts.proofs.Laid.{upd-same}
+use Rattle.facts.proofs.Copied.{to}
 use Rattle.facts.proofs.Looked.{look-at}
 use Rattle.facts.proofs.Sound.{Good, Sound}
-use Rattle.working.proofs.Owned.{total, total-tail, old≢beyond}
-use Rattle.working.proofs.Log.{pointers, Copy}
-use Rattle.working.proofs.Rows.{InRow, row-in, row-once, pages-differ}
-use Rattle.working.proofs.Invariant.{Ghost, Kept, Waits, Pending, Inv, Later, later-refl, later-trans, Lacking, Became}
+use Rattle.working.proofs.Owned.{old≢beyond}
+use Rattle.working.proofs.Log.{Copy}
+use Rattle.working.proofs.Invariant.{Ghost, Kept, Inv, Later, later-trans, Lacking, Became}
 use Rattle.working.proofs.Evacuation.{evacuates}
 use Rattle.working.proofs.Fielding.{counted, field-inv}
 

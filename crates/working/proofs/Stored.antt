@@ -1,23 +1,20 @@
 -- A value stored at a region's a: the heap stays laid out, and only its own words change.
-use Prim.Native.Nat.{ℕ, zero, suc, pred, _+_, _-_, _*_, _/_, _%_, _^_, _≤_, _<_, zero-le, suc-le-suc}
-use native.Mathlib.Nat.{le-trans, le-refl, add-zero, mul-le-mul-right}
+use Prim.Native.Nat.{ℕ, suc, _+_, _*_, _^_, _≤_, _<_}
+use native.Mathlib.Nat.{le-refl, add-zero, mul-le-mul-right}
 use native.Mathlib.Omega.{arith}
 use native.Mathlib.Decide.{ℕ-discrete}
-use mathlib.Core.Path.{_≡_, refl, sym, ap, _∙_, subst}
-use mathlib.Core.Logic.{_≢_, _↔_, _⊎_, inl, inr}
-use mathlib.Core.Bool.{Bool, true, false}
-use mathlib.Core.Option.{Option, none, some}
-use mathlib.Core.List.{List, [], _∷_, _++_, List·Memᴰ, List·Memᴰ·head, List·Memᴰ·tail}
-use lib.ListN.{length, getD, set, length-set}
+use mathlib.Core.Path.{_≡_, refl, sym, ap, _∙_}
+use mathlib.Core.Logic.{_≢_}
+use mathlib.Core.List.{List}
+use lib.ListN.{length, set, length-set}
 use lib.Seq.{getD-set-same, getD-set-other}
-use Rattle.rules.specs.Words.{Head, headOf, lengthBy}
-use Rattle.rules.specs.declared.Control.{Control}
-use Rattle.rules.specs.Memory.{Store, link, origin, endOf, firstOf, topOf, statusOf}
+use Rattle.rules.specs.Words.{headOf, lengthBy}
+use Rattle.rules.specs.Memory.{link, endOf, firstOf, topOf}
 use Rattle.laws.specs.Lists.{at, put}
 use Rattle.rules.specs.Pages.{Run, store}
-use Rattle.laws.proofs.Lists.{apart, length-put, at-put-below, at-put-in, at-put-above}
-use Rattle.facts.proofs.Steps.{Stands, Steps, here, over, steps-le, steps-then, steps-same, stands-same}
-use Rattle.facts.proofs.Laid.{upd, upd-same, upd-other, Once, Last, last-in, Linked, linked-same, Owner, old, spare, beyond, mine, Body, Clean, Like, body-like, clean-like, put-elsewhere, Layout, Value}
+use Rattle.laws.proofs.Lists.{length-put, at-put-below, at-put-in, at-put-above}
+use Rattle.facts.proofs.Steps.{Stands, here, over, steps-le, steps-then, steps-same}
+use Rattle.facts.proofs.Laid.{upd, upd-same, upd-other, Last, last-in, Linked, linked-same, Owner, spare, beyond, mine, Body, Like, body-like, clean-like, put-elsewhere, Layout, Value}
 
 mine-inj : {i j : ℕ} → mine i ≡ mine j → i ≡ j
 mine-inj e = cc

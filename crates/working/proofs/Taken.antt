@@ -1,24 +1,22 @@
 -- A page taken from the free list for region j; and a region with room.
-use Prim.Native.Nat.{ℕ, zero, suc, pred, _+_, _-_, _*_, _/_, _%_, _^_, _≤_, _<_, zero-le, suc-le-suc}
-use native.Mathlib.Nat.{le-trans, le-refl, add-zero, mul-le-mul-right}
+use Prim.Native.Nat.{ℕ, suc, _+_, _-_, _*_, _^_, _≤_, _<_}
+use native.Mathlib.Nat.{le-refl, mul-le-mul-right}
 use native.Mathlib.Omega.{arith}
 use native.Mathlib.Decide.{ℕ-discrete}
-use mathlib.Core.Path.{_≡_, refl, sym, ap, _∙_, subst}
-use mathlib.Core.Logic.{_≢_, _↔_, _⊎_, inl, inr}
-use mathlib.Core.Bool.{Bool, true, false}
-use mathlib.Core.Option.{Option, none, some}
-use mathlib.Core.List.{List, [], _∷_, _++_, List·Memᴰ, List·Memᴰ·head, List·Memᴰ·tail, List·Memᴰ·not-nil}
-use lib.ListN.{length, getD, set, length-set}
+use mathlib.Core.Path.{_≡_, refl, sym, ap, _∙_}
+use mathlib.Core.Logic.{_≢_, _⊎_, inl, inr}
+use mathlib.Core.Option.{none, some}
+use mathlib.Core.List.{List, [], _∷_, List·Memᴰ, List·Memᴰ·head, List·Memᴰ·tail}
+use lib.ListN.{length, set, length-set}
 use lib.Seq.{getD-set-same, getD-set-other}
 pub use Rattle.laws.proofs.Once.{linked-first, linked-none, linked-snoc, last-snoc, last-one, last-is, in-snoc, once-snoc}
-use Rattle.rules.specs.declared.Control.{Control}
-use Rattle.rules.specs.Memory.{Store, link, setLink, setOrigin, origin, endOf, firstOf, topOf, statusOf}
-use Rattle.laws.specs.Lists.{at, lastOr, put}
+use Rattle.rules.specs.Memory.{link, setLink, setOrigin}
+use Rattle.laws.specs.Lists.{at, lastOr}
 use Rattle.rules.specs.Audit.{lastLink}
 use Rattle.rules.specs.Pages.{Run, takePage, withFree, lastIf}
-use Rattle.laws.proofs.Lists.{apart, length-put, at-put-below, at-put-in, at-put-above}
-use Rattle.facts.proofs.Steps.{Stands, Steps, here, over, steps-le}
-use Rattle.facts.proofs.Laid.{upd, upd-same, upd-other, Once, once-none, once-more, Last, only, later, last-in, Linked, stop, goes, linked-same, Owner, old, spare, beyond, mine, Body, Clean, Like, body-like, clean-like, put-elsewhere, Layout}
+use Rattle.laws.proofs.Lists.{apart}
+use Rattle.facts.proofs.Steps.{here}
+use Rattle.facts.proofs.Laid.{upd, upd-same, upd-other, Once, once-more, last-in, linked-same, Owner, spare, beyond, mine, Body, Clean, Like, body-like, clean-like, Layout}
 
 -- the run after page k is taken
 unfoldable pub taken : ℕ → ℕ → ℕ → Run → Run

@@ -1,20 +1,19 @@
 -- A copy put into region j: its region is woken, or was awake; what waits stays in order. Only the region's status and the top of the
 -- stack change, and the copy is the last of its region's copies to be scanned.
-use Prim.Native.Nat.{ℕ, zero, suc, _+_, _*_, _^_, _≤_, _<_}
+use Prim.Native.Nat.{ℕ, zero, suc, _+_, _*_, _≤_, _<_}
 use native.Mathlib.Omega.{arith}
 use native.Mathlib.Decide.{ℕ-discrete}
 use mathlib.Core.Path.{_≡_, refl, sym, ap, _∙_}
 use mathlib.Core.Logic.{_≢_, _⊎_, inl, inr}
-use mathlib.Core.Option.{Option, none, some}
+use mathlib.Core.Option.{some}
 use mathlib.Core.List.{List, [], _∷_, _++_, List·Memᴰ, List·Memᴰ·head, List·Memᴰ·tail, List·Memᴰ·cases-cons, List·Memᴰ·not-nil}
-use lib.ListN.{length, set, length-set}
+use lib.ListN.{length, length-set}
 use lib.Seq.{getD-set-same, getD-set-other}
 use Rattle.laws.specs.Lists.{at}
 use Rattle.laws.proofs.Once.{Once, once-more}
 use Rattle.rules.specs.Memory.{statusOf}
 use Rattle.rules.specs.Pages.{Scan, Run}
 use Rattle.rules.specs.Collection.{wake}
-use Rattle.facts.proofs.Laid.{upd, upd-same, upd-other}
 use Rattle.working.proofs.Invariant.{Ghost, regionsOf, Waits, Pending}
 
 abbrev pub entry : ℕ → ℕ → Scan

@@ -6,23 +6,23 @@ use native.Mathlib.Omega.{arith}
 use native.Mathlib.Decide.{ℕ-discrete}
 use mathlib.Core.Path.{_≡_, refl, sym, ap, _∙_, subst}
 use mathlib.Core.Logic.{_≢_, _⊎_, inl, inr}
-use mathlib.Core.Bool.{Bool, true, false}
-use mathlib.Core.Option.{Option, none, some}
-use mathlib.Core.List.{List, [], _∷_, _++_, append-assoc, List·Memᴰ, List·Memᴰ·head, Memᴰ·append-right}
+use mathlib.Core.Bool.{true, false}
+use mathlib.Core.Option.{none, some}
+use mathlib.Core.List.{List, [], _∷_, _++_, List·Memᴰ, List·Memᴰ·head, Memᴰ·append-right}
 use lib.ListN.{length}
 use lib.Dec.{eqb}
 use borrow.Author.Tests.{eq-eqb, ne-eqb}
 use Rattle.laws.proofs.Lists.{apart as pages-apart}
-use Rattle.laws.proofs.Once.{Once, Last, last-in, once-most}
+use Rattle.laws.proofs.Once.{last-in, once-most}
 use Rattle.rules.specs.Memory.{Store, pageCount, topOf, statusOf, setStatus}
 use Rattle.rules.specs.Pages.{Scan, Run, withTable, withStack}
-use Rattle.rules.specs.Collection.{Ended, finished, lacksPage, unfinished, scanValue, nextScan, work, workStack}
+use Rattle.rules.specs.Collection.{finished, lacksPage, scanValue, nextScan, work}
 use Rattle.facts.proofs.Steps.{steps-le}
-use Rattle.facts.proofs.Laid.{Body, mine}
-use Rattle.facts.proofs.Copied.{Moved, to}
+use Rattle.facts.proofs.Laid.{Body}
+use Rattle.facts.proofs.Copied.{Moved}
 use Rattle.facts.proofs.Sound.{Sound}
-use Rattle.working.proofs.Owned.{old≢beyond, total}
-use Rattle.working.proofs.Log.{olds, in-olds, Copy}
+use Rattle.working.proofs.Owned.{old≢beyond}
+use Rattle.working.proofs.Log.{olds, in-olds}
 use Rattle.working.proofs.Next.{Row, headOr, After, after-here, after-there, next-row}
 use Rattle.working.proofs.Rows.{InRow, row-in}
 use Rattle.working.proofs.Invariant.{Ghost, regionsOf, Inv, Lacking, Enough}
