@@ -6,3 +6,4 @@ pub mod KeepsAllocate
 pub mod KeepsPop
 pub mod KeepsSetUp
 pub mod Keeps
+pub mod KeepsReading
