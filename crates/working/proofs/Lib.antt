@@ -14,6 +14,8 @@ pub mod Waking
 pub mod Evacuating
 pub mod Tallied
 pub mod Copying
+pub mod CopyPending
+pub mod CopyInv
 pub mod Evacuation
 pub mod Fielding
 pub mod Scanning
