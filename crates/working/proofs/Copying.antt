@@ -22,7 +22,8 @@ use Rattle.facts.proofs.Sound.{Sound}
 use Rattle.working.proofs.Owned.{old≢beyond, Owned, total}
 use Rattle.working.proofs.Log.{Evacuated}
 use Rattle.working.proofs.Placed.{Roomed}
-use Rattle.working.proofs.Moving.{wake-laid, forward-laid, val, fits, evacuated}
+use Rattle.working.proofs.Aside.{wake-laid, forward-laid}
+use Rattle.working.proofs.Moving.{val, fits, evacuated}
 use Rattle.working.proofs.Stored.{store-laid}
 use Rattle.working.proofs.Invariant.{Ghost, Kept, Inv}
 use Rattle.working.proofs.Waking.{entry, Woken, wakes}

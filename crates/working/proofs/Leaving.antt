@@ -13,7 +13,7 @@ use Rattle.laws.proofs.Once.{Once, once-none, once-tail, once-head}
 use Rattle.rules.specs.Memory.{Store, pageCount, statusOf, setStatus}
 use Rattle.rules.specs.Pages.{Scan, Run, withTable, withStack}
 use Rattle.facts.proofs.Sound.{Sound}
-use Rattle.working.proofs.Moving.{status-laid}
+use Rattle.working.proofs.Aside.{status-laid}
 use Rattle.working.proofs.Invariant.{Ghost, regionsOf, Waits, Pending, Inv}
 use Rattle.working.proofs.Waking.{in-regions}
 

@@ -8,6 +8,7 @@ pub mod Scanned
 pub mod Fielded
 pub mod Next
 pub mod Rows
+pub mod Aside
 pub mod Moving
 pub mod Invariant
 pub mod Waking

@@ -17,7 +17,7 @@ use Rattle.facts.proofs.Sound.{Good, Sound}
 use Rattle.working.proofs.Owned.{total}
 use Rattle.working.proofs.Log.{pointers}
 use Rattle.working.proofs.Next.{headOr}
-use Rattle.working.proofs.Moving.{stack-laid}
+use Rattle.working.proofs.Aside.{stack-laid}
 use Rattle.working.proofs.Invariant.{Ghost, Kept, regionsOf, Waits, Pending, Inv, Later, later-refl, later-trans, Lacking, Became, Enough}
 use Rattle.working.proofs.Waking.{in-regions}
 use Rattle.working.proofs.Evacuating.{in-pointers, of-pointers}
