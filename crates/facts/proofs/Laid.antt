@@ -44,6 +44,28 @@ pub data Owner : Type 0 where
   old spare beyond : Owner
   mine : ℕ → Owner
 
+pub mine-inj : {i j : ℕ} → mine i ≡ mine j → i ≡ j
+mine-inj e = cc
+
+-- two owners
+pub old≢spare : {A : Type 0} {o : Owner} → o ≡ old → o ≡ spare → A
+old≢spare p q = let z : _≡_ {A = ℕ} 0 1 = cc in absurd (omega arith)
+
+pub old≢mine : {A : Type 0} {o : Owner} {j : ℕ} → o ≡ old → o ≡ mine j → A
+old≢mine p q = let z : _≡_ {A = ℕ} 0 1 = cc in absurd (omega arith)
+
+pub old≢beyond : {A : Type 0} {o : Owner} → o ≡ old → o ≡ beyond → A
+old≢beyond p q = let z : _≡_ {A = ℕ} 0 1 = cc in absurd (omega arith)
+
+pub spare≢mine : {A : Type 0} {o : Owner} {j : ℕ} → o ≡ spare → o ≡ mine j → A
+spare≢mine p q = let z : _≡_ {A = ℕ} 0 1 = cc in absurd (omega arith)
+
+pub spare≢beyond : {A : Type 0} {o : Owner} → o ≡ spare → o ≡ beyond → A
+spare≢beyond p q = let z : _≡_ {A = ℕ} 0 1 = cc in absurd (omega arith)
+
+pub mine≢beyond : {A : Type 0} {o : Owner} {j : ℕ} → o ≡ mine j → o ≡ beyond → A
+mine≢beyond p q = let z : _≡_ {A = ℕ} 0 1 = cc in absurd (omega arith)
+
 -- page k of region j: its values end at f, and then zeros
 pub record Body (n : ℕ) (h : List ℕ) (k j f : ℕ) : Type 0 where
   pub whose : at h (k * 2 ^ n + 1) ≡ suc j

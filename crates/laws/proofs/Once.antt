@@ -19,6 +19,12 @@ pub data Once : List ℕ → Type 0 where
   once-none : Once []
   once-more : {k : ℕ} {ks : List ℕ} → (List·Memᴰ k ks → ⊥) → Once ks → Once (k ∷ ks)
 
+pub once-tail : {k : ℕ} {ks : List ℕ} → Once (k ∷ ks) → Once ks
+once-tail (once-more f o) = o
+
+pub once-head : {k : ℕ} {ks : List ℕ} → Once (k ∷ ks) → List·Memᴰ k ks → ⊥
+once-head (once-more f o) = f
+
 pub data Last : List ℕ → ℕ → Type 0 where
   only : {k : ℕ} → Last (k ∷ []) k
   later : {k l : ℕ} {ks : List ℕ} → Last ks l → Last (k ∷ ks) l

@@ -28,7 +28,7 @@ use Rattle.facts.proofs.Given.{spared, spared-in, spared-out, GivenAll, given-a
 use Rattle.working.proofs.Owned.{old≢mine, mine≢beyond}
 use Rattle.working.proofs.Log.{pointers, Copy}
 use Rattle.working.proofs.Next.{head-not-0}
-use Rattle.working.proofs.Moving.{stack-laid}
+use Rattle.working.proofs.Aside.{stack-laid}
 use Rattle.working.proofs.Invariant.{Ghost, Kept, filledTo, Inv}
 use Rattle.working.proofs.Evacuating.{of-pointers}
 use Rattle.working.proofs.Work.{asleep, none-waits}

@@ -27,7 +27,9 @@ use Rattle.working.proofs.Placed.{Roomed}
 use Rattle.working.proofs.Moving.{still, still-whose}
 use Rattle.working.proofs.Invariant.{Ghost, Kept, Inv, later-refl, Lacking, Became}
 use Rattle.working.proofs.Evacuating.{forward-head, in-log, in-pointers, room-or}
-use Rattle.working.proofs.Copying.{ghost, copied-inv, copied-later, copied-count, copied-moves}
+use Rattle.working.proofs.Copying.{Uncopied, fin₂, made, made-moves}
+use Rattle.working.proofs.CopyPending.{copied, copied-later, copied-count}
+use Rattle.working.proofs.CopyInv.{copied-inv}
 
 module _ (s : Store) (S : Sound s) (g : Ghost) (r : Run) (I : Inv s S g r) where
   abbrev n : ℕ
@@ -70,6 +72,22 @@ module _ (s : Store) (S : Sound s) (g : Ghost) (r : Run) (I : Inv s S g r) where
     again b m = (unfold evacuateAt in (rw (I .logged .copies m .forward, evacuateAt, forward-head b)), stays (4 * a) (4 * b) (went (in-pointers (g .log) m)))
 
     module _ (new : (b : ℕ) → List·Memᴰ (to a b) (g .log) → ⊥) where
+      value : Uncopied s g
+      value =
+          record {
+            region = j;
+            page = f;
+            address = a;
+            len = l;
+            known = x .known;
+            from-old = old-page a x;
+            whose = x .whose;
+            steps = x .steps;
+            stands = x .stands;
+            reached = reached;
+            new = new;
+          }
+
       -- the value's header and its region, as the heap has them now
       header : at (r .heap) a ≡ at (s .heap) a
       header =
@@ -105,6 +123,7 @@ module _ (s : Store) (S : Sound s) (g : Ghost) (r : Run) (I : Inv s S g r) where
       no-room e = let q : place n j (take (suc l) (drop a (r .heap))) r ≡ none = rw (ap (λ y. room n j y r) len ∙ e, place) in rw q
 
       now : ((evacuateAt n a r ≡ none) × Lacking s S) ⊎ ((v : ℕ) × (r′ : Run) × (evacuateAt n a r ≡ some (v, r′)) × Became s S g r (4 * a) v r′)
+      unfolding value
       now = go (room-or n N R (g .own) (g .fin) (g .pages) (g .free) r (I .laid) j (suc l) (x .known) (let lo = steps-le (x .steps) in let hi = x .stands .ends in omega arith))
         where
           head : evacuateAt n a r ≡ moveTo n j a l r
@@ -118,17 +137,17 @@ module _ (s : Store) (S : Sound s) (g : Ghost) (r : Run) (I : Inv s S g r) where
           go (inr u) =
               let r₁ = u .0 in
               let K = u .2 in
-              let o = old-page a x in
+              let M = made s S g r I value r₁ K in
               inr (
                 4 * topOf (r₁ .table) j,
                 _,
-                head ∙ copied-moves s S g r I j f a l (x .known) o (x .whose) (x .steps) (x .stands) reached new r₁ K (u .1),
+                head ∙ made-moves s S g r I value r₁ K (u .1),
                 record {
-                  ghost = ghost s S g r I j f a l (x .known) o (x .whose) (x .steps) (x .stands) reached new r₁ K;
-                  inv = copied-inv s S g r I j f a l (x .known) o (x .whose) (x .steps) (x .stands) reached new r₁ K;
-                  later = copied-later s S g r I j f a l (x .known) o (x .whose) (x .steps) (x .stands) reached new r₁ K;
+                  ghost = copied g j a (topOf (r₁ .table) j) (K .own₁) (fin₂ s S g r I value r₁ K) (K .pages₁) (K .free₁);
+                  inv = copied-inv s S g r I value _ _ _ _ _ _ _ M;
+                  later = copied-later s S g r I value _ _ _ _ _ _ _ M;
                   rel = went (List·Memᴰ·head refl);
-                  count = copied-count s S g r I j f a l (x .known) o (x .whose) (x .steps) (x .stands) reached new r₁ K;
+                  count = copied-count s S g r I value _ _ _ _ _ _ _ M;
                 },
               )
 

@@ -2,7 +2,7 @@
 -- of theirs changes.
 use Prim.Native.Nat.{ℕ, _+_, _*_, _^_, _≤_, _<_, zero-le}
 use native.Mathlib.Omega.{arith}
-use mathlib.Core.Path.{_≡_, refl, sym, ap, _∙_}
+use mathlib.Core.Path.{_≡_, refl, ap, _∙_}
 use mathlib.Core.Logic.{_≢_, _↔_, _⊎_, inl, inr}
 use mathlib.Core.List.{List, [], _∷_, List·Memᴰ}
 use lib.ListN.{length, set, length-set}
@@ -12,7 +12,7 @@ use Rattle.rules.specs.Memory.{Store, pageCount, endOf, firstOf, topOf, statusO
 use Rattle.rules.specs.Pages.{Run, begun}
 use Rattle.facts.proofs.Laid.{Owner, old, spare, beyond, mine, Layout}
 use Rattle.facts.proofs.Sound.{Chained, in-free, in-region, Sound}
-use Rattle.working.proofs.Owned.{old≢spare, old≢mine, spare≢mine, spare≢beyond, mine≢beyond, Owned}
+use Rattle.working.proofs.Owned.{old≢spare, old≢mine, old≢beyond, spare≢mine, spare≢beyond, mine≢beyond, Owned}
 use Rattle.working.proofs.Taken.{taken}
 
 -- ---- a row of the table written
@@ -74,7 +74,7 @@ aged-spare (mine j) e = old≢spare refl e
 aged-mine : {A : Type 0} {j : ℕ} (o : Owner) → aged o ≡ mine j → A
 aged-mine old e = old≢mine refl e
 aged-mine spare e = spare≢mine refl e
-aged-mine beyond e = let z : _≡_ {A = ℕ} 0 1 = cc in absurd (omega arith)
+aged-mine beyond e = mine≢beyond e refl
 aged-mine (mine j) e = old≢mine refl e
 
 aged-beyond : (o : Owner) → aged o ≢ beyond → o ≢ beyond
@@ -121,14 +121,14 @@ module _ (s : Store) (S : Sound s) where
       go (in-region j jR o m) = (j, jR, m)
 
   old-known : (k : ℕ) → aged (S .own k) ≡ old → k < N
-  old-known k e = S .laid .known k (λ q. let z : old ≡ beyond = sym e ∙ ap aged q in let z′ : _≡_ {A = ℕ} 0 1 = cc in omega arith)
+  old-known k e = S .laid .known k (λ q. old≢beyond e (ap aged q))
 
   whole : (k : ℕ) → k < N → aged (S .own k) ≢ beyond
   whole k b e = go (S .chained k b)
     where
       go : Chained R (S .own) (S .pages) (S .free) k → ⊥
       go (in-free o m) = spare≢beyond (ap aged o) e
-      go (in-region j jR o m) = let z : old ≡ beyond = sym (ap aged o) ∙ e in let z′ : _≡_ {A = ℕ} 0 1 = cc in omega arith
+      go (in-region j jR o m) = old≢beyond (ap aged o) e
 
   spares : (k : ℕ) → aged (S .own k) ≡ spare → List·Memᴰ k (S .free)
   spares k e = go (S .chained k (S .laid .known k (λ q. spare≢beyond (aged-spare _ e) q)))

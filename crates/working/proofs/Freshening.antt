@@ -15,7 +15,7 @@ use Rattle.rules.specs.Pages.{Run, withTable, takePage}
 use Rattle.rules.specs.Collection.{freshen}
 use Rattle.facts.proofs.Laid.{Owner, old, spare, mine, Layout, upd, upd-same, upd-other}
 use Rattle.facts.proofs.Sound.{Sound}
-use Rattle.working.proofs.Owned.{old≢spare, old≢mine, Owned, taken-owned}
+use Rattle.working.proofs.Owned.{old≢spare, old≢mine, spare≢mine, Owned, taken-owned}
 use Rattle.working.proofs.Taken.{taken, takes, takes-none, taken-laid, k-link, others}
 use Rattle.working.proofs.Fresh.{row-width, row-else, row-end, row-first, row-top, row-status, Fresh}
 
@@ -154,7 +154,7 @@ module _ (s : Store) (S : Sound s) (j : ℕ) (r : Run) (F : Fresh s S j r) (jR :
   single i b (no ne) =
       let t = F .single i (omega arith) in
       let own : F .own (t .0) ≡ mine i = F .laid .mine-own i (t .0) (omega arith) (rw (t .1) (List·Memᴰ·head refl)) in
-      let nk : t .0 ≢ k = λ q. (let z : spare ≡ mine i = sym spare-k ∙ ap (F .own) (sym q) ∙ own in let z′ : _≡_ {A = ℕ} 0 1 = cc in omega arith) in
+      let nk : t .0 ≢ k = λ q. spare≢mine spare-k (ap (F .own) (sym q) ∙ own) in
       (t .0, pages-i i ne ∙ t .1, upd-other (F .fin) k (k * 2 ^ n + 2) (t .0) nk ∙ t .2)
 
   same-words : (l x : ℕ) → own′ l ≡ old → l * 2 ^ n ≤ x → x < l * 2 ^ n + 2 ^ n → at (r₁ .heap) x ≡ at (s .heap) x

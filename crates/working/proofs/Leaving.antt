@@ -9,11 +9,11 @@ use mathlib.Core.List.{List, [], _∷_, List·Memᴰ, List·Memᴰ·head, List·
 use lib.ListN.{length-set}
 use lib.Seq.{getD-set-same, getD-set-other}
 use Rattle.laws.specs.Lists.{at}
-use Rattle.laws.proofs.Once.{Once, once-none, once-more}
+use Rattle.laws.proofs.Once.{Once, once-none, once-tail, once-head}
 use Rattle.rules.specs.Memory.{Store, pageCount, statusOf, setStatus}
 use Rattle.rules.specs.Pages.{Scan, Run, withTable, withStack}
 use Rattle.facts.proofs.Sound.{Sound}
-use Rattle.working.proofs.Moving.{status-laid}
+use Rattle.working.proofs.Aside.{status-laid}
 use Rattle.working.proofs.Invariant.{Ghost, regionsOf, Waits, Pending, Inv}
 use Rattle.working.proofs.Waking.{in-regions}
 
@@ -118,17 +118,11 @@ module _ (s : Store) (S : Sound s) (g : Ghost) (r : Run) (I : Inv s S g r) (j : 
   -- the region on top is next
   pub left-next : (t : Scan) (ts : List Scan) → r .stack ≡ t ∷ ts → Inv s S (scanning g (some (t .region))) (left j ts r)
   left-next t ts e =
-      left-inv (some (t .region)) ts (λ u m. rw e (List·Memᴰ·tail m)) (tail-once (rw e at (P .once)))
-      (λ u m q. head-once (rw e at (P .once)) (rw (let z : t .region ≡ u .region = cc in z) (in-regions m)))
+      left-inv (some (t .region)) ts (λ u m. rw e (List·Memᴰ·tail m)) (once-tail (rw e at (P .once)))
+      (λ u m q. once-head (rw e at (P .once)) (rw (let z : t .region ≡ u .region = cc in z) (in-regions m)))
       (λ i q. let z : t .region ≡ i = cc in rw (← z) (top .known, top .awake, not-own t (rw e (List·Memᴰ·head refl))))
       (λ i m. go i (List·Memᴰ·cases-cons (rw e at m)))
     where
-      tail-once : {k : ℕ} {ks : List ℕ} → Once (k ∷ ks) → Once ks
-      tail-once (once-more f o) = o
-
-      head-once : {k : ℕ} {ks : List ℕ} → Once (k ∷ ks) → List·Memᴰ k ks → ⊥
-      head-once (once-more f o) = f
-
       top : Waits R g (r .table) t
       top = P .stacked t (rw e (List·Memᴰ·head refl))
 

@@ -8,12 +8,15 @@ pub mod Scanned
 pub mod Fielded
 pub mod Next
 pub mod Rows
+pub mod Aside
 pub mod Moving
 pub mod Invariant
 pub mod Waking
 pub mod Evacuating
 pub mod Tallied
 pub mod Copying
+pub mod CopyPending
+pub mod CopyInv
 pub mod Evacuation
 pub mod Fielding
 pub mod Scanning

@@ -1,4 +1,5 @@
--- Where the scan of a region goes on: the values of a region in their order, and the address after each.
+-- Where the scan of a region goes on: the values of a region in their order, and the address after each. Behind a value stands the next of
+-- its page; behind a page's last value a 0 or the page's end, and no page but the first is empty.
 use Prim.Native.Nat.{ℕ, suc, _+_, _-_, _*_, _%_, _^_, _≤_, _<_}
 use native.Mathlib.Nat.{le-refl, mul-mod-left}
 use native.Mathlib.Numerals.{sub-one}
@@ -19,7 +20,8 @@ use Rattle.rules.specs.Pages.{Run}
 use Rattle.rules.specs.Collection.{nextFrom, nextScan}
 use Rattle.laws.proofs.Lists.{apart as pages-apart}
 use Rattle.facts.proofs.Steps.{Stands, steps-le}
-use Rattle.facts.proofs.Laid.{Once, once-more, Last, only, later, last-in, Linked, Owner, mine, Body, Layout}
+use Rattle.laws.proofs.Once.{once-tail, once-head}
+use Rattle.facts.proofs.Laid.{Once, Last, only, later, last-in, Linked, Owner, mine, Body, Layout}
 use Rattle.facts.proofs.Looked.{words-of}
 use Rattle.rules.proofs.Chains.{page-of}
 use Rattle.working.proofs.Taken.{linked-first, last-one}
@@ -175,12 +177,6 @@ vals-head (vals-more {vs = us} st t) q = (us, refl)
 pub row-head : {n : ℕ} {h : List ℕ} {fin : ℕ → ℕ} {k : ℕ} {ks bs : List ℕ} → Row n h fin (k ∷ ks) bs → k * 2 ^ n + 2 < fin k → (us : List ℕ) × (bs ≡ (k * 2 ^ n + 2) ∷ us)
 row-head (row-last v) q = vals-head v q
 row-head (row-more {bs = bs} v ne t) q = let u = vals-head v q in (u .0 ++ bs, ap (λ xs. xs ++ bs) (u .1))
-
-once-tail : {k : ℕ} {ks : List ℕ} → Once (k ∷ ks) → Once ks
-once-tail (once-more f o) = o
-
-once-head : {k : ℕ} {ks : List ℕ} → Once (k ∷ ks) → List·Memᴰ k ks → ⊥
-once-head (once-more f o) = f
 
 last-tail : {k k′ z : ℕ} {ks : List ℕ} → Last (k ∷ k′ ∷ ks) z → Last (k′ ∷ ks) z
 last-tail (later u) = u

@@ -7,29 +7,8 @@ use mathlib.Core.Path.{_≡_, refl, sym, ap, _∙_}
 use mathlib.Core.Logic.{_≢_, _⊎_, inl, inr}
 use mathlib.Core.List.{List, [], _∷_, _++_, List·Memᴰ, List·Memᴰ·head, List·Memᴰ·cases-cons, Memᴰ·append-left, Memᴰ·append-right}
 use lib.ListN.{length, length-append}
-use Rattle.facts.proofs.Laid.{upd, upd-same, upd-other, Owner, old, spare, beyond, mine}
-
-pub mine-inj : {i j : ℕ} → mine i ≡ mine j → i ≡ j
-mine-inj e = cc
-
--- two owners
-pub old≢spare : {A : Type 0} {o : Owner} → o ≡ old → o ≡ spare → A
-old≢spare p q = let z : _≡_ {A = ℕ} 0 1 = cc in absurd (omega arith)
-
-pub old≢mine : {A : Type 0} {o : Owner} {j : ℕ} → o ≡ old → o ≡ mine j → A
-old≢mine p q = let z : _≡_ {A = ℕ} 0 1 = cc in absurd (omega arith)
-
-pub old≢beyond : {A : Type 0} {o : Owner} → o ≡ old → o ≡ beyond → A
-old≢beyond p q = let z : _≡_ {A = ℕ} 0 1 = cc in absurd (omega arith)
-
-pub spare≢mine : {A : Type 0} {o : Owner} {j : ℕ} → o ≡ spare → o ≡ mine j → A
-spare≢mine p q = let z : _≡_ {A = ℕ} 0 1 = cc in absurd (omega arith)
-
-pub spare≢beyond : {A : Type 0} {o : Owner} → o ≡ spare → o ≡ beyond → A
-spare≢beyond p q = let z : _≡_ {A = ℕ} 0 1 = cc in absurd (omega arith)
-
-pub mine≢beyond : {A : Type 0} {o : Owner} {j : ℕ} → o ≡ mine j → o ≡ beyond → A
-mine≢beyond p q = let z : _≡_ {A = ℕ} 0 1 = cc in absurd (omega arith)
+pub use Rattle.facts.proofs.Laid.{mine-inj, old≢spare, old≢mine, old≢beyond, spare≢mine, spare≢beyond, mine≢beyond}
+use Rattle.facts.proofs.Laid.{upd, upd-same, upd-other, Owner, spare, beyond, mine}
 
 pub record Owned (N R : ℕ) (own : ℕ → Owner) (pages : ℕ → List ℕ) (free : List ℕ) : Type 0 where
   pub whole : (k : ℕ) → k < N → own k ≢ beyond

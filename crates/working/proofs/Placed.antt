@@ -1,4 +1,5 @@
--- The allocation rule on a laid out heap: room, then the words; and a forward left behind.
+-- Room for a region: it has it, or takes a page. Either way the heap stays laid out, and no word behind a link changes in a page that was
+-- not free.
 use Prim.Native.Nat.{ℕ, suc, _+_, _-_, _*_, _^_, _≤_, _<_}
 use native.Mathlib.Nat.{le-refl}
 use native.Mathlib.Omega.{arith}
@@ -19,7 +20,7 @@ use Rattle.laws.specs.Lists.{at}
 use Rattle.rules.specs.Pages.{Run, join, room}
 use Rattle.facts.proofs.Laid.{upd, upd-same, upd-other, Owner, old, spare, beyond, mine, Like, Layout}
 use Rattle.working.proofs.Taken.{taken, last-is}
-use Rattle.working.proofs.Owned.{Owned, total, total-snoc, taken-owned}
+use Rattle.working.proofs.Owned.{mine-inj, old≢spare, old≢mine, spare≢mine, Owned, total, total-snoc, taken-owned}
 
 -- what giving region j room for m words does
 pub record Roomed (n N R : ℕ) (own : ℕ → Owner) (fin : ℕ → ℕ) (pages : ℕ → List ℕ) (free : List ℕ) (r₀ : Run) (j m : ℕ) (r : Run) : Type 0 where
@@ -84,7 +85,7 @@ module _ (n N R : ℕ) (own : ℕ → Owner) (fin : ℕ → ℕ) (pages : ℕ �
     spare-k = L .free-own k (List·Memᴰ·head refl)
 
     k-new : List·Memᴰ k (pages j) → ⊥
-    k-new p = let q : mine j ≡ spare = sym (L .mine-own j k jR p) ∙ spare-k in let z : _≡_ {A = ℕ} 0 1 = cc in omega arith
+    k-new p = spare≢mine spare-k (L .mine-own j k jR p)
 
     taken-link : link n (r₀ .heap) k ≡ 0
     unfolding taken
@@ -110,18 +111,6 @@ module _ (n N R : ℕ) (own : ℕ → Owner) (fin : ℕ → ℕ) (pages : ℕ �
 
     not-k : (l : ℕ) → own l ≢ spare → l ≢ k
     not-k l ne e = ne (ap own e ∙ spare-k)
-
-    apart-owners : {A : Type 0} {o : Owner} → mine j ≡ o → o ≡ old → A
-    apart-owners p q = let z : _≡_ {A = ℕ} 0 1 = cc in absurd (omega arith)
-
-    old≢spare : old ≢ spare
-    old≢spare e = let z : _≡_ {A = ℕ} 0 1 = cc in omega arith
-
-    mine≢spare : {i : ℕ} → mine i ≢ spare
-    mine≢spare e = let z : _≡_ {A = ℕ} 0 1 = cc in omega arith
-
-    mine-inj : {i l : ℕ} → mine i ≡ mine l → i ≡ l
-    mine-inj e = cc
 
     back : (l : ℕ) (o : Owner) → o ≢ mine j → upd own k (mine j) l ≡ o → own l ≡ o
     back l o ne e = go (ℕ-discrete l k)
@@ -154,10 +143,10 @@ module _ (n N R : ℕ) (own : ℕ → Owner) (fin : ℕ → ℕ) (pages : ℕ �
     same-links : (l : ℕ) → own l ≡ old → at (join n j k r₀ .heap) (l * 2 ^ n) ≡ at (r .heap) (l * 2 ^ n)
     unfolding taken join link
     same-links l o =
-        let ne : l ≢ k = not-k l (λ q. old≢spare (sym o ∙ q)) in
+        let ne : l ≢ k = not-k l (λ q. old≢spare o q) in
         let b = L .big in
         sym (Q.links n N R (upd own k (mine j)) (upd fin k (k * 2 ^ n + 2)) pages ks r₀ L₀ j k jR own-new k-new taken-link fin-new l
-        (λ q. apart-owners (sym (Q.own-z n N R (upd own k (mine j)) (upd fin k (k * 2 ^ n + 2)) pages ks r₀ L₀ j k jR own-new k-new taken-link fin-new) ∙ ap (upd own k (mine j)) (sym q) ∙ upd-other own k (mine j) l ne) o))
+        (λ q. old≢mine o (sym (upd-other own k (mine j) l ne) ∙ ap (upd own k (mine j)) q ∙ Q.own-z n N R (upd own k (mine j)) (upd fin k (k * 2 ^ n + 2)) pages ks r₀ L₀ j k jR own-new k-new taken-link fin-new)))
         ∙ T.others n N R own fin pages k ks r L j l (l * 2 ^ n) ne (le-refl _) (omega arith)
 
     same-width : length (join n j k r₀ .table) ≡ length (r .table)
@@ -185,9 +174,9 @@ module _ (n N R : ℕ) (own : ℕ → Owner) (fin : ℕ → ℕ) (pages : ℕ �
         free₁ = ks;
         laid = L₁;
         fits = let a = end-is in let b = top-is in omega arith;
-        old-kept = λ l. (λ o. upd-other own k (mine j) l (not-k l (λ q. old≢spare (sym o ∙ q))) ∙ o, λ o. back l old (λ q. apart-owners (sym q) refl) o);
+        old-kept = λ l. (λ o. upd-other own k (mine j) l (not-k l (λ q. old≢spare o q)) ∙ o, λ o. back l old (λ q. old≢mine refl q) o);
         mine-kept = λ l i o.
-            let ne : l ≢ k = not-k l (λ q. mine≢spare (sym o ∙ q)) in
+            let ne : l ≢ k = not-k l (λ q. spare≢mine q o) in
             (upd-other own k (mine j) l ne ∙ o, upd-other fin k (k * 2 ^ n + 2) l ne);
         mine-from = from;
         words = same-words;

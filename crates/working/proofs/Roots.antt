@@ -7,7 +7,7 @@ use mathlib.Core.Option.{none, some}
 use mathlib.Core.List.{List, [], _∷_, List·Memᴰ, List·Memᴰ·head, List·Memᴰ·tail, List·Memᴰ·cases-cons}
 use lib.ListN.{length}
 use Rattle.laws.specs.Lists.{at}
-use Rattle.laws.proofs.Once.{Once, once-more}
+use Rattle.laws.proofs.Once.{once-tail, once-head}
 use Rattle.rules.specs.Memory.{Store, pageCount, topOf}
 use Rattle.rules.specs.Pages.{Scan, Run, withStack}
 use Rattle.rules.specs.Collection.{finished, lacksPage, evacuate, evacuateAll, work, workStack}
@@ -17,7 +17,7 @@ use Rattle.facts.proofs.Sound.{Good, Sound}
 use Rattle.working.proofs.Owned.{total}
 use Rattle.working.proofs.Log.{pointers}
 use Rattle.working.proofs.Next.{headOr}
-use Rattle.working.proofs.Moving.{stack-laid}
+use Rattle.working.proofs.Aside.{stack-laid}
 use Rattle.working.proofs.Invariant.{Ghost, Kept, regionsOf, Waits, Pending, Inv, Later, later-refl, later-trans, Lacking, Became, Enough}
 use Rattle.working.proofs.Waking.{in-regions}
 use Rattle.working.proofs.Evacuating.{in-pointers, of-pointers}
@@ -110,22 +110,16 @@ module _ (s : Store) (S : Sound s) where
               record {
                 known = W .known;
                 awake = W .awake;
-                other = λ q. head-once (rw e at (P .once)) (rw (let z : t .region ≡ u .region = cc in z) (in-regions m));
+                other = λ q. once-head (rw e at (P .once)) (rw (let z : t .region ≡ u .region = cc in z) (in-regions m));
                 rest = W .rest;
                 begins = W .begins;
               };
-          once = tail-once (rw e at (P .once));
+          once = once-tail (rw e at (P .once));
           at-work = λ i q. let z : t .region ≡ i = cc in rw (← z) (top .known, top .awake);
           idle = P .idle;
           busy = λ i iR ne. go i (P .busy i iR ne);
         }
       where
-        tail-once : {k : ℕ} {ks : List ℕ} → Once (k ∷ ks) → Once ks
-        tail-once (once-more f o) = o
-
-        head-once : {k : ℕ} {ks : List ℕ} → Once (k ∷ ks) → List·Memᴰ k ks → ⊥
-        head-once (once-more f o) = f
-
         by : (i : ℕ) → (i ≡ t .region) ⊎ List·Memᴰ i (regionsOf ts) → List·Memᴰ i (regionsOf ts) ⊎ (some (t .region) ≡ some i)
         by i (inl q) = inr (ap some (sym q))
         by i (inr m) = inl m

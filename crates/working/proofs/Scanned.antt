@@ -1,4 +1,4 @@
--- One field of a copy scanned: its word is set, and nothing else of the log changes.
+-- One field of a copy scanned: its word is set, and nothing else of the log changes, because no two values overlap.
 use Prim.Native.Nat.{ℕ, suc, _+_, _*_, _^_, _≤_, _<_}
 use native.Mathlib.Nat.{le-refl}
 use native.Mathlib.Omega.{arith}
@@ -12,7 +12,7 @@ use Rattle.rules.specs.Memory.{Store}
 use Rattle.laws.specs.Lists.{at}
 use Rattle.laws.proofs.Lists.{apart as pages-apart}
 use Rattle.facts.proofs.Steps.{Stands, Steps, here, steps-le, steps-same, stands-same, apart, steps-inside}
-use Rattle.facts.proofs.Laid.{upd, upd-same, upd-other, Owner, old, mine}
+use Rattle.facts.proofs.Laid.{old≢mine, upd, upd-same, upd-other, Owner, old, mine}
 use Rattle.facts.proofs.Copied.{Moved, to, Rel}
 use Rattle.working.proofs.Log.{pointers, Copy, Log}
 
@@ -43,7 +43,7 @@ module _ (n : ℕ) (s : Store) (kept : ℕ → Type 0) (own : ℕ → Owner) (fi
       go (inr t) = let a = lo in let b = hi in omega arith
 
   old-page : (k y : ℕ) → own k ≡ old → k * 2 ^ n ≤ y → y < k * 2 ^ n + 2 ^ n → y ≢ d + suc i
-  old-page k y o = other-page k y (λ e. let z : old ≡ mine (C .region) = sym o ∙ ap own e ∙ C .into-mine in let z′ : _≡_ {A = ℕ} 0 1 = cc in omega arith)
+  old-page k y o = other-page k y (λ e. old≢mine o (ap own e ∙ C .into-mine))
 
   -- stepping through any page goes as before
   steps-any : (k e : ℕ) → Steps h (k * 2 ^ n + 2 ^ n) (k * 2 ^ n + 2) e → e ≤ k * 2 ^ n + 2 ^ n

@@ -1,4 +1,5 @@
--- A page taken from the free list for region j; and a region with room.
+-- A page taken from the front of the free list: the rest of the list and every other page stay, and the page, clean but for link and
+-- origin, is an empty page of region j.
 use Prim.Native.Nat.{ℕ, suc, _+_, _-_, _*_, _^_, _≤_, _<_}
 use native.Mathlib.Nat.{le-refl, mul-le-mul-right}
 use native.Mathlib.Omega.{arith}
@@ -16,7 +17,8 @@ use Rattle.rules.specs.Audit.{lastLink}
 use Rattle.rules.specs.Pages.{Run, takePage, withFree, lastIf}
 use Rattle.laws.proofs.Lists.{apart}
 use Rattle.facts.proofs.Steps.{here}
-use Rattle.facts.proofs.Laid.{upd, upd-same, upd-other, Once, once-more, last-in, linked-same, Owner, spare, beyond, mine, Body, Clean, Like, body-like, clean-like, Layout}
+use Rattle.laws.proofs.Once.{once-tail, once-head}
+use Rattle.facts.proofs.Laid.{mine-inj, spare≢mine, spare≢beyond, upd, upd-same, upd-other, last-in, linked-same, Owner, spare, beyond, mine, Body, Clean, Like, body-like, clean-like, Layout}
 
 -- the run after page k is taken
 unfoldable pub taken : ℕ → ℕ → ℕ → Run → Run
@@ -31,18 +33,6 @@ pub takes-none : (n j : ℕ) (r : Run) → r .first ≡ 0 → takePage n j r ≡
 unfolding takePage
 takes-none n j r e = rw (e, takePage)
 
-spare≢mine : {i : ℕ} → spare ≢ mine i
-spare≢mine e = let z : _≡_ {A = ℕ} 0 1 = cc in omega arith
-
-mine≢beyond : {i : ℕ} → mine i ≢ beyond
-mine≢beyond e = let z : _≡_ {A = ℕ} 0 1 = cc in omega arith
-
-spare≢beyond : spare ≢ beyond
-spare≢beyond e = let z : _≡_ {A = ℕ} 0 1 = cc in omega arith
-
-mine-inj : {i j : ℕ} → mine i ≡ mine j → i ≡ j
-mine-inj e = cc
-
 module _ (n N R : ℕ) (own : ℕ → Owner) (fin : ℕ → ℕ) (pages : ℕ → List ℕ) (k : ℕ) (ks : List ℕ) (r : Run) (L : Layout n N R own fin pages (k ∷ ks) r) (j : ℕ) where
   own-k : own k ≡ spare
   own-k = L .free-own k (List·Memᴰ·head refl)
@@ -54,7 +44,7 @@ module _ (n N R : ℕ) (own : ℕ → Owner) (fin : ℕ → ℕ) (pages : ℕ �
   in-heap l ne = let s = L .size in let p = mul-le-mul-right P (L .known l ne) in omega arith
 
   k-in : k * P + P ≤ length (r .heap)
-  k-in = in-heap k (λ q. spare≢beyond (sym own-k ∙ q))
+  k-in = in-heap k (λ q. spare≢beyond own-k q)
 
   abbrev pub h′ : List ℕ
   h′ = set (set (r .heap) (k * P) 0) (k * P + 1) (suc j)
@@ -74,14 +64,14 @@ module _ (n N R : ℕ) (own : ℕ → Owner) (fin : ℕ → ℕ) (pages : ℕ �
       go (inl t) = keep x (omega arith) (omega arith)
       go (inr t) = let b = L .big in keep x (omega arith) (omega arith)
 
-  like : (l : ℕ) → l ≢ k → Like (n) (r .heap) h′ l
+  like : (l : ℕ) → l ≢ k → Like n (r .heap) h′ l
   like l ne = record { word = λ x p q. sym (others l x ne (omega arith) q) }
 
-  links : (l : ℕ) → l ≢ k → link (n) (r .heap) l ≡ link (n) h′ l
+  links : (l : ℕ) → l ≢ k → link n (r .heap) l ≡ link n h′ l
   unfolding link
   links l ne = let b = L .big in sym (others l (l * P) ne (le-refl _) (omega arith))
 
-  k-body : Body (n) h′ k j (k * P + 2)
+  k-body : Body n h′ k j (k * P + 2)
   k-body =
       let b = L .big in
       record {
@@ -91,7 +81,7 @@ module _ (n N R : ℕ) (own : ℕ → Owner) (fin : ℕ → ℕ) (pages : ℕ �
         rest = λ x p q. keep x (omega arith) (omega arith) ∙ L .free-clean k own-k .rest x (omega arith) q;
       }
 
-  pub k-link : link (n) h′ k ≡ 0
+  pub k-link : link n h′ k ≡ 0
   unfolding link
   k-link =
       let a = fits in
@@ -109,12 +99,6 @@ module _ (n N R : ℕ) (own : ℕ → Owner) (fin : ℕ → ℕ) (pages : ℕ �
   not-k : (o : Owner) → o ≢ spare → (l : ℕ) → own l ≡ o → l ≢ k
   not-k o ns l e q = ns (sym e ∙ ap own q ∙ own-k)
 
-  once-tail : Once (k ∷ ks) → Once ks
-  once-tail (once-more f t) = t
-
-  once-head : Once (k ∷ ks) → List·Memᴰ k ks → ⊥
-  once-head (once-more f t) = f
-
   rest-not-k : (l : ℕ) → List·Memᴰ l ks → l ≢ k
   rest-not-k l m q = once-head (L .free-once) (rw q at m)
 
@@ -123,10 +107,10 @@ module _ (n N R : ℕ) (own : ℕ → Owner) (fin : ℕ → ℕ) (pages : ℕ �
   last-left c y [] t e = rw t
   last-left c y (l ∷ ls) t e = rw t e
 
-  bodies : (i l : ℕ) → own′ l ≡ mine i → Body (n) h′ l i (fin′ l)
+  bodies : (i l : ℕ) → own′ l ≡ mine i → Body n h′ l i (fin′ l)
   bodies i l o = go (ℕ-discrete l k)
     where
-      go : Dec (l ≡ k) → Body (n) h′ l i (fin′ l)
+      go : Dec (l ≡ k) → Body n h′ l i (fin′ l)
       go (yes e) =
           let ij : i ≡ j = mine-inj (sym o ∙ upd-same own k (mine j) l e) in
           rw (upd-same fin k (k * P + 2) l e, e, ij) k-body
@@ -134,22 +118,22 @@ module _ (n N R : ℕ) (own : ℕ → Owner) (fin : ℕ → ℕ) (pages : ℕ �
           let b = L .big in
           rw (upd-other fin k (k * P + 2) l ne) (body-like (omega arith) (like l ne) (L .mine-body i l (sym (own-other l ne) ∙ o)))
 
-  cleans : (l : ℕ) → own′ l ≡ spare → Clean (n) h′ l
+  cleans : (l : ℕ) → own′ l ≡ spare → Clean n h′ l
   cleans l o = go (ℕ-discrete l k)
     where
-      go : Dec (l ≡ k) → Clean (n) h′ l
-      go (yes e) = absurd (spare≢mine (sym o ∙ upd-same own k (mine j) l e))
+      go : Dec (l ≡ k) → Clean n h′ l
+      go (yes e) = spare≢mine o (upd-same own k (mine j) l e)
       go (no ne) = clean-like (like l ne) (L .free-clean l (sym (own-other l ne) ∙ o))
 
   knowns : (l : ℕ) → own′ l ≢ beyond → l < N
   knowns l ne = go (ℕ-discrete l k)
     where
       go : Dec (l ≡ k) → l < N
-      go (yes e) = L .known l (λ q. spare≢beyond (sym (ap own e ∙ own-k) ∙ q))
+      go (yes e) = L .known l (λ q. spare≢beyond (ap own e ∙ own-k) q)
       go (no f) = L .known l (λ q. ne (own-other l f ∙ q))
 
   mine-not-k : (i l : ℕ) → i < R → List·Memᴰ l (pages i) → l ≢ k
-  mine-not-k i l b m = not-k (mine i) (λ q. spare≢mine (sym q)) l (L .mine-own i l b m)
+  mine-not-k i l b m = not-k (mine i) (λ q. spare≢mine q refl) l (L .mine-own i l b m)
 
   counts : r .count - 1 ≡ length ks
   counts = let c = L .free-count in omega arith

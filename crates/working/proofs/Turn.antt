@@ -9,7 +9,7 @@ use mathlib.Core.Option.{none, some}
 use mathlib.Core.List.{List, [], _∷_, _++_, append-assoc, List·Memᴰ, List·Memᴰ·head, List·Memᴰ·tail, List·Memᴰ·cases-cons, Memᴰ·append-right}
 use lib.ListN.{length}
 use Rattle.laws.specs.Lists.{at}
-use Rattle.laws.proofs.Once.{Once, once-more}
+use Rattle.laws.proofs.Once.{Once, once-more, once-tail}
 use Rattle.rules.specs.Memory.{Store, statusOf}
 use Rattle.rules.specs.Words.{Head, rec, raw, moved, wrong, headOf, lengthBy}
 use Rattle.rules.specs.Pages.{Scan, Run}
@@ -54,9 +54,6 @@ closed g =
       cur = g .cur;
       half = none;
     }
-
-once-tail : {k : ℕ} {ks : List ℕ} → Once (k ∷ ks) → Once ks
-once-tail (once-more f o) = o
 
 once-mid : {b : ℕ} {ts : List ℕ} (xs : List ℕ) → Once (xs ++ b ∷ ts) → List·Memᴰ b ts → ⊥
 once-mid [] (once-more f o) m = f m
