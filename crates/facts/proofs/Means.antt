@@ -24,7 +24,7 @@ use Rattle.rules.proofs.Limits.{admits, page-size, whole-pages}
 use Rattle.rules.proofs.Chains.{length-page, at-page}
 use Rattle.rules.proofs.Whole as W
 use Rattle.facts.proofs.Steps.{Stands, Steps, Holds}
-use Rattle.facts.proofs.Laid.{Owner, spare, beyond, mine, Body, Clean, Layout}
+use Rattle.facts.proofs.Laid.{mine-inj, spare≢mine, spare≢beyond, mine≢beyond, Owner, spare, beyond, mine, Body, Clean, Layout}
 use Rattle.facts.proofs.Filled.{steps-end, filled-steps, filled-rest, fields-in}
 use Rattle.facts.proofs.Goods.{page-ends, body-holds, body-ends, good-of, const-of}
 use Rattle.facts.proofs.Sound.{Within, Good, Constants, Chained, in-free, in-region, Sound}
@@ -87,12 +87,12 @@ owner-there n heap k ne = go (ltb k (pageCount n heap)) refl
     go false e = absurd (ne (rw (ownerIn, e)))
 
 owner-mine : (o j : ℕ) → ownerBy o ≡ mine j → o ≡ suc j
-owner-mine zero j e = let z : _≡_ {A = ℕ} 0 1 = cc in absurd (omega arith)
-owner-mine (suc i) j e = let q : i ≡ j = cc in ap suc q
+owner-mine zero j e = spare≢mine refl e
+owner-mine (suc i) j e = ap suc (mine-inj e)
 
 owner-spare : (o : ℕ) → ownerBy o ≡ spare → o ≡ 0
 owner-spare zero e = refl
-owner-spare (suc i) e = let z : _≡_ {A = ℕ} 0 1 = cc in absurd (omega arith)
+owner-spare (suc i) e = spare≢mine e refl
 
 -- ---- a chain's last page
 
@@ -251,24 +251,18 @@ module _ (s : Store) (lim : withinLimits s ≡ true) (comm : commonTest s ≡ tr
 
   -- a region's page is in its chain
   mine-there : (j k : ℕ) → ownerIn n (s .heap) k ≡ mine j → (j < R) × List·Memᴰ k (pages j)
-  mine-there j k o = go (chained k (owner-there n (s .heap) k (λ q. no-beyond (sym o ∙ q))))
+  mine-there j k o = go (chained k (owner-there n (s .heap) k (mine≢beyond o)))
     where
-      no-beyond : mine j ≢ beyond
-      no-beyond e = let z : _≡_ {A = ℕ} 0 1 = cc in omega arith
-
       go : Chained R (ownerIn n (s .heap)) pages free k → (j < R) × List·Memᴰ k (pages j)
-      go (in-free e m) = let z : _≡_ {A = ℕ} 0 1 = cc in absurd (omega arith)
-      go (in-region i b e m) = let q : i ≡ j = cc in rw (← q) (b, m)
+      go (in-free e m) = spare≢mine e o
+      go (in-region i b e m) = let q : i ≡ j = mine-inj (sym e ∙ o) in rw (← q) (b, m)
 
   spare-there : (k : ℕ) → ownerIn n (s .heap) k ≡ spare → List·Memᴰ k free
-  spare-there k o = go (chained k (owner-there n (s .heap) k (λ q. no-beyond (sym o ∙ q))))
+  spare-there k o = go (chained k (owner-there n (s .heap) k (spare≢beyond o)))
     where
-      no-beyond : spare ≢ beyond
-      no-beyond e = let z : _≡_ {A = ℕ} 0 1 = cc in omega arith
-
       go : Chained R (ownerIn n (s .heap)) pages free k → List·Memᴰ k free
       go (in-free e m) = m
-      go (in-region i b e m) = let z : _≡_ {A = ℕ} 0 1 = cc in absurd (omega arith)
+      go (in-region i b e m) = spare≢mine o e
 
   -- a test of each page of each region, at one of them
   at-page-of : (q : ℕ → ℕ → Bool) → eachPage q n (s .heap) (s .table) R ≡ true → (j k : ℕ) → j < R → List·Memᴰ k (pages j) → q j k ≡ true

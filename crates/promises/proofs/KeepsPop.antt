@@ -22,14 +22,14 @@ use Rattle.rules.specs.Pages.{Run, begun, recordAfter, giveBackAll}
 use Rattle.rules.specs.Calls.{pointsInto, letGo, popOn, popTop, pop}
 use Rattle.rules.proofs.Chains.{page-of}
 use Rattle.facts.proofs.Steps.{Stands, Steps, steps-le}
-use Rattle.facts.proofs.Laid.{Owner, old, spare, beyond, mine, Layout}
+use Rattle.facts.proofs.Laid.{old≢beyond, mine-inj, old≢mine, old≢spare, spare≢mine, mine≢beyond, spare≢beyond, Owner, old, spare, beyond, mine, Layout}
 use Rattle.facts.proofs.Given.{spared, spared-in, spared-out, GivenAll, given-all}
 use Rattle.facts.proofs.Filled.{fields-in}
 use Rattle.facts.proofs.Framed.{below-end}
 use Rattle.facts.proofs.Goods.{body-holds, body-ends}
 use Rattle.facts.proofs.Passing.{pages-are}
 use Rattle.facts.proofs.Sound.{InHeap, Good, Sound}
-use Rattle.working.proofs.Owned.{Owned, mine-inj, old≢mine, old≢spare, spare≢mine, mine≢beyond, spare≢beyond}
+use Rattle.working.proofs.Owned.{Owned}
 use Rattle.working.proofs.Fresh.{row-width, row-else, row-end, row-first, row-top, row-status}
 use Rattle.promises.specs.Left.{leftPlain}
 use Rattle.promises.proofs.KeepsGood.{audited-keeps, good-kept, record-was, field-was, not-old, owned, chained-by}
@@ -242,7 +242,7 @@ module _ (s : Store) (S : Sound s) (j : ℕ) (top : s .ctl .regions ≡ suc j) (
       by : (List·Memᴰ k ks → ⊥) → (o : Owner) → S .own k ≡ o → leaving j o ≡ old → ⊥
       by f old q u = not-old s S k q
       by f spare q u = old≢spare u refl
-      by f beyond q u = let z : _≡_ {A = ℕ} 0 1 = cc in omega arith
+      by f beyond q u = old≢beyond u refl
       by f (mine i) q u = go (ℕ-discrete i j)
         where
           go : Dec (i ≡ j) → ⊥
@@ -261,7 +261,7 @@ module _ (s : Store) (S : Sound s) (j : ℕ) (top : s .ctl .regions ≡ suc j) (
         where
           go : (List·Memᴰ k ks × (own′ k ≡ spare)) ⊎ ((List·Memᴰ k ks → ⊥) × (own′ k ≡ own° k)) → ⊥
           go (inl t) = spare≢beyond (t .1) e
-          go (inr t) = W .whole k b (leaving-back j (S .own k) beyond (λ q. let z : _≡_ {A = ℕ} 0 1 = cc in omega arith) (sym (t .1) ∙ e))
+          go (inr t) = W .whole k b (leaving-back j (S .own k) beyond (λ q. old≢beyond q refl) (sym (t .1) ∙ e))
 
       spares : (k : ℕ) → own′ k ≡ spare → List·Memᴰ k (S .free ++ S .pages j)
       spares k e = go (own-cases k)
