@@ -6,7 +6,7 @@ use native.Mathlib.Omega.{arith}
 use mathlib.Core.Path.{_≡_, refl, sym, ap, _∙_}
 use mathlib.Core.Logic.{_≢_, _⊎_, inl, inr}
 use mathlib.Core.Bool.{Bool, true, false, _&&_}
-use mathlib.Core.List.{List, [], _∷_, List·Memᴰ, List·Memᴰ·append-cases}
+use mathlib.Core.List.{List, _∷_, List·Memᴰ, List·Memᴰ·append-cases}
 use lib.ListN.{length, drop, length-drop}
 use lib.Seq.{getD-drop}
 use lib.Dec.{leb, ltb, eqb}
@@ -14,7 +14,7 @@ use borrow.Author.Tests.{ltb-true, lt-ltb, leb-true, eqb-true}
 use Rattle.laws.specs.Lists.{at, all, allBelow, zeros, times}
 use Rattle.laws.proofs.Tests.{both, all-in, below-in}
 use Rattle.laws.proofs.Facts.{all-at, zeros-in}
-use Rattle.laws.proofs.Once.{Last, only, later, last-in, Linked, goes, linked-once, linked-last, each-once}
+use Rattle.laws.proofs.Once.{has-last, Last, last-in, Linked, linked-once, linked-last, each-once}
 use Rattle.rules.specs.Memory.{Store, limits, pageCount, addressPage, regionOrigin, pageWords, bodyWords, bodyAddress, pageEnd, link, origin, row, endOf, firstOf, topOf, statusOf, chain, firstLink, regionPages, freePages, pagesFrom}
 use Rattle.rules.specs.Words.{isRecord, vals, pageVals, usedOf, fieldsPass}
 use Rattle.rules.specs.Audit.{eachPage, ifLast, rule2, opens, endsWell, lastLink, allChains, rule3, endsAt, rule4, filled, pageFilled, rule5, goodWord, rule6, rule7, constField, rule8, clean, rule9, firstFailing, brokenRule}
@@ -93,15 +93,6 @@ owner-mine (suc i) j e = ap suc (mine-inj e)
 owner-spare : (o : ℕ) → ownerBy o ≡ spare → o ≡ 0
 owner-spare zero e = refl
 owner-spare (suc i) e = spare≢mine e refl
-
--- ---- a chain's last page
-
-last-of : (k : ℕ) (ks : List ℕ) → (z : ℕ) × Last (k ∷ ks) z
-last-of k [] = (k, only)
-last-of k (y ∷ ys) = let r = last-of y ys in (r .0, later (r .1))
-
-pub has-last : {l : ℕ → ℕ} {k : ℕ} {ks : List ℕ} → Linked l (suc k) ks → (z : ℕ) × Last ks z
-has-last (goes {k} {ks} t) = last-of k ks
 
 -- ---- the limits
 

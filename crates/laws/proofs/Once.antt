@@ -92,6 +92,14 @@ last-one only (later v) = no-last v
 last-one (later u) only = no-last u
 last-one (later u) (later v) = last-one u v
 
+-- a chain that is not empty has a last number
+last-of : (k : ℕ) (ks : List ℕ) → (z : ℕ) × Last (k ∷ ks) z
+last-of k [] = (k, only)
+last-of k (y ∷ ys) = let r = last-of y ys in (r .0, later (r .1))
+
+pub has-last : {l : ℕ → ℕ} {k : ℕ} {ks : List ℕ} → Linked l (suc k) ks → (z : ℕ) × Last ks z
+has-last (goes {k} {ks} t) = last-of k ks
+
 -- ---- one number more, behind the last
 
 pub linked-snoc : {l m : ℕ → ℕ} {x z k : ℕ} {ks : List ℕ} → Linked l x ks → Last ks z → Once ks → m z ≡ suc k → m k ≡ 0
@@ -319,3 +327,40 @@ once-by-count n {xs} small o =
     same-test _ _
     (λ t. eq-eqb (length xs) n (full-length n small o (each-once n small t .1)))
     (λ t. once-each n o (once-full n small o (eqb-true (length xs) n t)))
+
+-- ---- the numbers from k on
+
+unfoldable pub counting : ℕ → ℕ → List ℕ
+counting zero k = []
+counting (suc m) k = k ∷ counting m (suc k)
+
+pub counting-length : (m k : ℕ) → length (counting m k) ≡ m
+unfolding counting
+counting-length zero k = refl
+counting-length (suc m) k = ap suc (counting-length m (suc k))
+
+pub in-counting : (m k i : ℕ) → List·Memᴰ i (counting m k) → (k ≤ i) × (i < k + m)
+unfolding counting
+in-counting zero k i m = absurd (List·Memᴰ·not-nil m)
+in-counting (suc c) k i m = go (List·Memᴰ·cases-cons m) (λ q. in-counting c (suc k) i q)
+  where
+    go : (i ≡ k) ⊎ List·Memᴰ i (counting c (suc k)) → (List·Memᴰ i (counting c (suc k)) → (suc k ≤ i) × (i < suc k + c)) → (k ≤ i) × (i < k + suc c)
+    go (inl e) rest = (omega arith, omega arith)
+    go (inr q) rest = let t = rest q in let a = t .0 in let b = t .1 in (omega arith, omega arith)
+
+pub counting-in : (m k i : ℕ) → k ≤ i → i < k + m → List·Memᴰ i (counting m k)
+unfolding counting
+counting-in zero k i a b = absurd (omega arith)
+counting-in (suc m) k i a b = go (ℕ-discrete i k) (λ p q. counting-in m (suc k) i p q)
+  where
+    go : Dec (i ≡ k) → (suc k ≤ i → i < suc k + m → List·Memᴰ i (counting m (suc k))) → List·Memᴰ i (k ∷ counting m (suc k))
+    go (yes e) rest = List·Memᴰ·head e
+    go (no ne) rest = List·Memᴰ·tail (rest (omega arith) (omega arith))
+
+pub counting-linked : (l : ℕ → ℕ) (N : ℕ) → ((i : ℕ) → suc i < N → l i ≡ suc (suc i)) → ((i : ℕ) → suc i ≡ N → l i ≡ 0) → (m k : ℕ) → k + suc m ≡ N → Linked l (suc k) (counting (suc m) k)
+unfolding counting
+counting-linked l N next last zero k e = let t : Linked l (l k) [] = rw (last k (omega arith)) stop in goes t
+counting-linked l N next last (suc m) k e =
+    let r = counting-linked l N next last m (suc k) (omega arith) in
+    let t : Linked l (l k) (counting (suc m) (suc k)) = rw (next k (omega arith)) r in
+    goes t

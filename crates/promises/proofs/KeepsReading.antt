@@ -7,11 +7,12 @@ use mathlib.Core.Path.{_≡_, refl, sym, ap, _∙_}
 use mathlib.Core.Bool.{true, false, not, false≢true}
 use mathlib.Core.List.{List, [], List·Memᴰ}
 use lib.ListN.{length, take, drop, length-drop}
-use lib.Seq.{getD-take, getD-drop, length-take-le, ext-getD}
+use lib.Seq.{length-take-le}
 use lib.Dec.{eqb}
 use borrow.Author.Tests.{not-true, not-false, eqb-false}
 use Rattle.laws.specs.Lists.{at}
 use Rattle.laws.proofs.Loops.{choice-keeps}
+use Rattle.laws.proofs.Lists.{part-same, word-in}
 use Rattle.laws.proofs.Facts.{all-at}
 use Rattle.rules.specs.Memory.{Store}
 use Rattle.rules.specs.Words.{number, inHeap, inConst, wordOf, headOf, isRecord, valueAt, look}
@@ -33,22 +34,6 @@ use Rattle.promises.proofs.KeepsGood.{audited-keeps, good-page}
 use Rattle.promises.proofs.KeepsPop as Pop
 
 -- ---- values that stay
-
--- the same words, taken from two memories that agree on them
-part-same : (g h : List ℕ) (a m : ℕ) → length g ≡ length h → ((x : ℕ) → a ≤ x → x < a + m → at g x ≡ at h x) → a + m ≤ length g → take m (drop a g) ≡ take m (drop a h)
-part-same g h a m e agree inside =
-    let lg = length-drop a g in
-    let lh = length-drop a h in
-    let tg : length (take m (drop a g)) ≡ m = length-take-le m (drop a g) (omega arith) in
-    let th : length (take m (drop a h)) ≡ m = length-take-le m (drop a h) (omega arith) in
-    ext-getD 0 _ _ (tg ∙ sym th)
-    (λ i b.
-    getD-take m (drop a g) i 0 (omega arith) ∙ getD-drop a g i 0 ∙ agree (a + i) (omega arith) (omega arith)
-    ∙ sym (getD-drop a h i 0) ∙ sym (getD-take m (drop a h) i 0 (omega arith)))
-
--- a word of a value
-word-in : (h : List ℕ) (a m i : ℕ) → i < m → at (take m (drop a h)) i ≡ at h (a + i)
-word-in h a m i b = getD-take m (drop a h) i 0 b ∙ getD-drop a h i 0
 
 module _ (s : Store) (S : Sound s) (j : ℕ) (top : s .ctl .regions ≡ suc j) (free : letGo (s .ctl .n) (s .heap) (s .table) (s .roots) j ≡ true) where
   abbrev n : ℕ

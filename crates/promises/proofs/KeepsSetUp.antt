@@ -3,17 +3,16 @@
 use Prim.Native.Nat.{ℕ, zero, suc, _+_, _-_, _*_, _/_, _^_, _≤_, _<_, zero-le, suc-le-suc}
 use native.Mathlib.Nat.{add-zero, zero-add, zero-mul}
 use native.Mathlib.Omega.{arith}
-use native.Mathlib.Decide.{ℕ-discrete}
 use mathlib.Core.Path.{_≡_, refl, sym, ap, _∙_}
-use mathlib.Core.Logic.{_≢_, _⊎_, inl, inr}
+use mathlib.Core.Logic.{_≢_}
 use mathlib.Core.Bool.{Bool, true, false}
-use mathlib.Core.List.{List, [], _∷_, _++_, List·Memᴰ, List·Memᴰ·head, List·Memᴰ·tail, List·Memᴰ·cases-cons, List·Memᴰ·not-nil}
+use mathlib.Core.List.{List, [], _∷_, _++_, List·Memᴰ}
 use lib.ListN.{length, replicate, length-replicate, getD-replicate, length-append, List·getD-append}
 use lib.Seq.{getD-append-add}
 use lib.Dec.{ltb}
 use borrow.Author.Tests.{ltb-true, lt-ltb}
 use Rattle.laws.specs.Lists.{at, lastOr}
-use Rattle.laws.proofs.Once.{Linked, stop, goes, linked-once}
+use Rattle.laws.proofs.Once.{counting, counting-length, in-counting, counting-in, counting-linked, Linked, linked-once}
 use Rattle.rules.specs.Memory.{Store, lent, control, limits, pageCount, link}
 use Rattle.rules.specs.Words.{number, wordOf}
 use Rattle.rules.specs.Audit.{lastLink}
@@ -92,47 +91,12 @@ module _ (n : ℕ) (big : 1 ≤ 2 ^ n) where
       ap (at (onePage n (suc (suc k)) ++ freshPages n (suc m) (suc k))) q ∙ later-word (suc (suc k)) (i * 2 ^ n) (freshPages n (suc m) (suc k))
       ∙ fresh-last (suc m) (suc k) i (omega arith)
 
--- ---- the numbers from k on
-
-unfoldable pub counting : ℕ → ℕ → List ℕ
-counting zero k = []
-counting (suc m) k = k ∷ counting m (suc k)
-
-counting-length : (m k : ℕ) → length (counting m k) ≡ m
-unfolding counting
-counting-length zero k = refl
-counting-length (suc m) k = ap suc (counting-length m (suc k))
-
-in-counting : (m k i : ℕ) → List·Memᴰ i (counting m k) → (k ≤ i) × (i < k + m)
-unfolding counting
-in-counting zero k i m = absurd (List·Memᴰ·not-nil m)
-in-counting (suc c) k i m = go (List·Memᴰ·cases-cons m) (λ q. in-counting c (suc k) i q)
-  where
-    go : (i ≡ k) ⊎ List·Memᴰ i (counting c (suc k)) → (List·Memᴰ i (counting c (suc k)) → (suc k ≤ i) × (i < suc k + c)) → (k ≤ i) × (i < k + suc c)
-    go (inl e) rest = (omega arith, omega arith)
-    go (inr q) rest = let t = rest q in let a = t .0 in let b = t .1 in (omega arith, omega arith)
-
-counting-in : (m k i : ℕ) → k ≤ i → i < k + m → List·Memᴰ i (counting m k)
-unfolding counting
-counting-in zero k i a b = absurd (omega arith)
-counting-in (suc m) k i a b = go (ℕ-discrete i k) (λ p q. counting-in m (suc k) i p q)
-  where
-    go : Dec (i ≡ k) → (suc k ≤ i → i < suc k + m → List·Memᴰ i (counting m (suc k))) → List·Memᴰ i (k ∷ counting m (suc k))
-    go (yes e) rest = List·Memᴰ·head e
-    go (no ne) rest = List·Memᴰ·tail (rest (omega arith) (omega arith))
+-- ---- the last of the numbers from k on, as a link
 
 counting-last : (m k : ℕ) → lastLink (counting (suc m) k) ≡ suc (k + m)
 unfolding counting lastLink lastOr
 counting-last zero k = ap suc (sym (add-zero k))
 counting-last (suc m) k = let e : suc (suc k + m) ≡ suc (k + suc m) = omega arith in counting-last m (suc k) ∙ e
-
-counting-linked : (l : ℕ → ℕ) (N : ℕ) → ((i : ℕ) → suc i < N → l i ≡ suc (suc i)) → ((i : ℕ) → suc i ≡ N → l i ≡ 0) → (m k : ℕ) → k + suc m ≡ N → Linked l (suc k) (counting (suc m) k)
-unfolding counting
-counting-linked l N next last zero k e = let t : Linked l (l k) [] = rw (last k (omega arith)) stop in goes t
-counting-linked l N next last (suc m) k e =
-    let r = counting-linked l N next last m (suc k) (omega arith) in
-    let t : Linked l (l k) (counting (suc m) (suc k)) = rw (next k (omega arith)) r in
-    goes t
 
 -- ---- the store
 

@@ -1,3 +1,4 @@
+pub mod Ordered
 pub mod Outcomes
 pub mod KeepsGood
 pub mod KeepsFields

@@ -1,16 +1,16 @@
--- What a call's definition says of its outcome: it is determined, it refuses by the first of its tests that holds, and a refusal leaves
--- every lent word and the record as they were. Each call is a row of tests with one rest, so one law of a row serves all.
+-- What each call's definition says of its outcome: it is determined, it refuses by the first of its tests that holds, and a refusal leaves
+-- every lent word and the record as they were. Each call is a row of tests with one rest.
 use Prim.Native.Nat.{ℕ, zero, suc, _+_, _-_, _*_, _/_, _%_, _^_}
 use native.Mathlib.Omega.{arith}
 use mathlib.Core.Path.{_≡_, refl, sym, ap, _∙_}
-use mathlib.Core.Logic.{_↔_, _⊎_, inl, inr}
-use mathlib.Core.Bool.{Bool, true, false, _&&_, _||_, not, true≢false}
+use mathlib.Core.Logic.{_⊎_, inl, inr}
+use mathlib.Core.Bool.{Bool, true, false, _&&_, _||_, not}
 use mathlib.Core.Option.{Option, none, some}
-use mathlib.Core.List.{List, [], _∷_, List·Memᴰ, List·Memᴰ·head, List·Memᴰ·tail}
+use mathlib.Core.List.{List, [], _∷_}
 use lib.ListN.{length}
 use lib.IntN.{ℤ, pos, negsuc}
 use lib.Dec.{leb, ltb, eqb}
-use borrow.Author.Tests.{not-false, eqb-false, ne-eqb}
+use borrow.Author.Tests.{eqb-false}
 use Rattle.laws.specs.Choice.{_⇒_∣_}
 use Rattle.laws.specs.Lists.{at}
 use Rattle.rules.specs.declared.Control.{Control}
@@ -22,21 +22,22 @@ use Rattle.rules.specs.declared.Told.{Told}
 use Rattle.rules.specs.declared.Opened.{Opened}
 use Rattle.rules.specs.declared.Worded.{Worded}
 use Rattle.rules.specs.declared.Numbered.{Numbered}
-use Rattle.rules.specs.Memory.{Store, pageCount, row, endOf, topOf}
+use Rattle.rules.specs.Memory.{pageWords, Store, pageCount, row, endOf, topOf}
 use Rattle.rules.specs.Words.{Word, number, inHeap, inConst, wordOf, pointerAddress, isRecord, goodHeap, goodConst, goodIn}
-use Rattle.rules.specs.Audit.{brokenRule, goodWord}
-use Rattle.rules.specs.Refusals.{numberOf, Outcome, outcome, refused, refusedValue, withinLimits, commonTest, admitted, unbroken, audited}
+use Rattle.rules.specs.Audit.{goodWord}
+use Rattle.rules.specs.Refusals.{Outcome, outcome, refused, withinLimits, commonTest, unbroken}
 use Rattle.rules.specs.Pages.{Run, begun, takePage, room, place}
 use Rattle.rules.specs.Calls.{lookIn, headerIn, fieldsIn, wordOfNumber, numberOfWord, setUp, pushOn, push, popOn, popTop, pop, headerFor, allocateOn, allocateIn, allocate, fetch, isThere, fetchRefusal, assignAt, assignBy, assign, setRoot, ends, stops, isNumber, stepInto, walkFrom, walkSays, walk, audit, due, usedWords, pageByNumber, pageRefusal}
 use Rattle.rules.specs.Collection.{Ended, finished, lacksPage, unfinished, freshen, evacuateAll, workStack, leaves, ending, collected, collect}
-use Rattle.rules.specs.Image.{Written, refusedText, writeText, writeImage, Frames, frames, malformed, readText, storeOf, sameLengths, readStore, readOn, readImage}
+use Rattle.rules.specs.Image.{Written, writeText, writeImage, Frames, frames, malformed, readText, storeOf, sameLengths, readStore, readOn, readImage}
 use Rattle.rules.proofs.Limits.{admits}
 use Rattle.facts.specs.Observed.{Demand3}
 use Rattle.facts.proofs.Passing.{meaning}
 use Rattle.facts.proofs.Sound.{Sound}
 use Rattle.working.proofs.Running.{Refusing as LacksPage}
 use Rattle.working.proofs.Collecting.{leaving, collects}
-use Rattle.promises.specs.Order.{Test, test, firstOf, numbers, whyPlain, whyValued, whyTold, whyOpened, whyWorded, whyNumbered, limitsTest, recordTest, auditTest, setUpTests, noPage, badLink, pushTests, popTests, allocateTests, fetchTests, isConst, assignTests, setRootTests, stepTests, stepNumbers, walkTests, auditTests, dueTests, usedTests, pageTests, lacks, collectTests, writeTests, isMalformed, faultLine, wordsOf, readTests, wordTests, numberTests}
+use Rattle.promises.proofs.Ordered.{Lawful, is-done, tested, stopped, passed, after-admission, after-audit, onPlain, onValued, onOpened, onText, toPlain, toValued, toTold, toWorded, toNumbered}
+use Rattle.promises.specs.Order.{Test, test, numbers, whyPlain, whyValued, setUpTests, noPage, badLink, pushTests, popTests, allocateTests, fetchTests, isConst, assignTests, setRootTests, stepTests, stepNumbers, walkTests, auditTests, dueTests, usedTests, pageTests, lacks, collectTests, writeTests, isMalformed, faultLine, wordsOf, readTests, wordTests, numberTests}
 
 -- ---- determined
 
@@ -59,119 +60,6 @@ determined {A} d o p e q =
       roots = ap (λ (x : Outcome A). x .roots) t;
       consts = ap (λ (x : Outcome A). x .consts) t;
     }
-
--- ---- tests in order
-
--- r is the refusal of a test that holds, and no test before it does
-pub data First : List Test → Refusal → Type 0 where
-  this : {t : Test} {ts : List Test} {r : Refusal} → t .holds ≡ true → t .why ≡ r → First (t ∷ ts) r
-  next : {t : Test} {ts : List Test} {r : Refusal} → t .holds ≡ false → First ts r → First (t ∷ ts) r
-
-pub first-is : (ts : List Test) (r : Refusal) → (firstOf ts ≡ some r) ↔ First ts r
-unfolding firstOf
-first-is ts r = (there ts, back)
-  where
-    there : (ts : List Test) → firstOf ts ≡ some r → First ts r
-    there [] e = let z : _≡_ {A = ℕ} 0 1 = cc in absurd (omega arith)
-    there (t ∷ ts) e = go (t .holds) refl (λ q. there ts q)
-      where
-        go : (b : Bool) → t .holds ≡ b → (firstOf ts ≡ some r → First ts r) → First (t ∷ ts) r
-        go true q rest = let e′ : some (t .why) ≡ some r = rw (firstOf, q) at e in let z : t .why ≡ r = cc in this q z
-        go false q rest = next q (rest (rw (firstOf, q) at e))
-
-    back : {ts : List Test} → First ts r → firstOf ts ≡ some r
-    back (this q e) = rw (firstOf, q) (ap some e)
-    back (next q f) = rw (firstOf, q) (back f)
-
--- its number is one of theirs
-pub first-number : {ts : List Test} {r : Refusal} → First ts r → List·Memᴰ (numberOf r) (numbers ts)
-unfolding numbers
-first-number (this q e) = List·Memᴰ·head (ap numberOf (sym e))
-first-number (next q f) = List·Memᴰ·tail (first-number f)
-
--- How calls of a kind refuse: `refuse r` is the outcome of a refusal, the store as it was and the record as given; `why` is what an outcome
--- refuses with.
-pub record Refusing (O : Type 0) : Type 0 where
-  pub refuse : Refusal → O
-  pub why : O → Option Refusal
-  pub says : (r : Refusal) → why (refuse r) ≡ some r
-
--- the outcome o is decided by the tests: it refuses by the first that holds, and a refusal leaves all as it was
-pub record Lawful {O : Type 0} (way : Refusing O) (ts : List Test) (o : O) : Type 0 where
-  pub refuses : way .why o ≡ firstOf ts
-  pub leaves : (r : Refusal) → way .why o ≡ some r → o ≡ way .refuse r
-
--- so a call gives a refusal exactly when its condition holds and none earlier in the order does
-pub exactly : {O : Type 0} {way : Refusing O} {ts : List Test} {o : O} → Lawful way ts o → (r : Refusal) → (way .why o ≡ some r) ↔ First ts r
-exactly {ts = ts} l r = (λ e. first-is ts r .0 (sym (l .refuses) ∙ e), λ f. l .refuses ∙ first-is ts r .1 f)
-
-module _ {O : Type 0} (way : Refusing O) where
-  -- no test is left, and the call is done
-  pub is-done : (o : O) → way .why o ≡ none → Lawful way [] o
-  unfolding firstOf
-  is-done o e =
-      record { refuses = e; leaves = λ r q. let z : _≡_ {A = Option Refusal} none (some r) = sym e ∙ q in let w : _≡_ {A = ℕ} 0 1 = cc in absurd (omega arith) }
-
-  -- one test more
-  pub tested : (b : Bool) (r : Refusal) (ts : List Test) (rest : O) → (b ≡ false → Lawful way ts rest) → Lawful way (test b r ∷ ts) (b ⇒ way .refuse r ∣ rest)
-  unfolding firstOf
-  tested true r ts rest f =
-      record { refuses = way .says r; leaves = λ q e. let e′ : some r ≡ some q = sym (way .says r) ∙ e in let z : r ≡ q = cc in ap (way .refuse) z }
-  tested false r ts rest f = let l = f refl in record { refuses = l .refuses; leaves = l .leaves }
-
-  -- the test that holds
-  pub stopped : (r : Refusal) (ts : List Test) → Lawful way (test true r ∷ ts) (way .refuse r)
-  stopped r ts = tested true r ts (way .refuse r) (λ e. absurd (true≢false e))
-
-  -- a test that does not hold
-  pub passed : (r : Refusal) (ts : List Test) (rest : O) → Lawful way ts rest → Lawful way (test false r ∷ ts) rest
-  passed r ts rest l = tested false r ts rest (λ e. l)
-
-  module _ (s : Store) (ts : List Test) (rest : O) where
-    pub after-admission : (withinLimits s ≡ true → commonTest s ≡ true → Lawful way ts rest) → Lawful way (limitsTest s ∷ recordTest s ∷ ts) (admitted (way .refuse) s rest)
-    after-admission f =
-        tested (not (withinLimits s)) Refusal.Limits _ _
-        (λ l. tested (not (commonTest s)) (Refusal.Broken 0) _ _ (λ c. f (not-false _ l) (not-false _ c)))
-
-    after-rules : (i : ℕ) → (i ≡ 0 → Lawful way ts rest) → Lawful way (test (not (eqb i 0)) (Refusal.Broken i) ∷ ts) (unbroken (way .refuse) i rest)
-    after-rules zero f = passed (Refusal.Broken 0) ts rest (f refl)
-    after-rules (suc i) f = let q : eqb (suc i) 0 ≡ false = ne-eqb (suc i) 0 (λ (e : suc i ≡ 0). omega arith) in rw q (stopped (Refusal.Broken (suc i)) ts)
-
-  pub after-audit : (s : Store) (ts : List Test) (rest : O) → (withinLimits s ≡ true → commonTest s ≡ true → brokenRule s ≡ 0 → Lawful way ts rest)
-      → Lawful way (limitsTest s ∷ recordTest s ∷ auditTest s ∷ ts) (audited (way .refuse) s rest)
-  after-audit s ts rest f = after-admission s (auditTest s ∷ ts) _ (λ l c. after-rules s ts rest (brokenRule s) (λ b. f l c b))
-
--- ---- the kinds of outcome
-
--- calls that may change the lent words
-abbrev pub onPlain : Store → Refusing (Outcome Plain)
-onPlain s = record { refuse = refused s; why = λ o. whyPlain (o .answer); says = λ r. refl }
-
-abbrev pub onValued : Store → Refusing (Outcome Valued)
-onValued s = record { refuse = refusedValue s; why = λ o. whyValued (o .answer); says = λ r. refl }
-
-abbrev pub onOpened : List ℕ → List ℕ → List ℕ → List ℕ → Refusing (Outcome Opened)
-onOpened heap table roots consts =
-    record { refuse = λ r. outcome (Opened.Refused r) heap table roots consts; why = λ o. whyOpened (o .answer); says = λ r. refl }
-
-abbrev pub onText : Store → List ℕ → Refusing Written
-onText s bytes = record { refuse = refusedText s bytes; why = λ w. whyValued (w .answer); says = λ r. refl }
-
--- calls that only answer
-abbrev pub toPlain : Control → Refusing Plain
-toPlain c = record { refuse = λ r. Plain.Refused r c; why = whyPlain; says = λ r. refl }
-
-abbrev pub toValued : Control → Refusing Valued
-toValued c = record { refuse = λ r. Valued.Refused r c; why = whyValued; says = λ r. refl }
-
-abbrev pub toTold : Control → Refusing Told
-toTold c = record { refuse = λ r. Told.Refused r c; why = whyTold; says = λ r. refl }
-
-abbrev pub toWorded : Refusing Worded
-toWorded = record { refuse = Worded.Refused; why = whyWorded; says = λ r. refl }
-
-abbrev pub toNumbered : Refusing Numbered
-toNumbered = record { refuse = Numbered.Refused; why = whyNumbered; says = λ r. refl }
 
 abbrev plain : Outcome Plain → Option Refusal
 plain o = whyPlain (o .answer)
@@ -281,6 +169,20 @@ fetch-empty s w r e = go (withinLimits s) refl (commonTest s) refl (lookIn s w) 
     go true p false q v x = rw (p, q)
     go true p true q [] x = rw (p, q, x)
     go true p true q (h ∷ ws) x = let z : Plain.Done (s .ctl) ≡ Plain.Refused r (s .ctl) = rw (p, q, x) at e in let w : _≡_ {A = ℕ} 0 1 = cc in absurd (omega arith)
+
+-- and there is a value in it where it does not
+pub fetch-there : (s : Store) (w : ℕ) → fetchRefusal s w ≡ Plain.Done (s .ctl) → isThere (fetch s w) ≡ true
+unfolding fetch fetchRefusal
+fetch-there s w e = go (withinLimits s) refl (commonTest s) refl (lookIn s w) refl
+  where
+    no-way : {A : Type 0} {r : Refusal} → Plain.Refused r (s .ctl) ≡ Plain.Done (s .ctl) → A
+    no-way z = let q : _≡_ {A = ℕ} 0 1 = cc in absurd (omega arith)
+
+    go : (a : Bool) → withinLimits s ≡ a → (b : Bool) → commonTest s ≡ b → (v : List ℕ) → lookIn s w ≡ v → isThere (fetch s w) ≡ true
+    go false p b q v x = no-way (rw p at e)
+    go true p false q v x = no-way (rw (p, q) at e)
+    go true p true q [] x = no-way (rw (p, q, x) at e)
+    go true p true q (h ∷ ws) x = rw (p, q, x)
 
 -- ---- assigning a field
 
@@ -426,6 +328,20 @@ page-empty s k r e = go (withinLimits s) refl (commonTest s) refl (leb (pageCoun
     go true p false q v x = rw (p, q)
     go true p true q true x = rw (p, q, x)
     go true p true q false x = let z : Plain.Done (s .ctl) ≡ Plain.Refused r (s .ctl) = rw (p, q, x) at e in let w : _≡_ {A = ℕ} 0 1 = cc in absurd (omega arith)
+
+pub page-there : (s : Store) (k : ℕ) → pageRefusal s k ≡ Plain.Done (s .ctl) → pageByNumber s k ≡ pageWords (s .ctl .n) (s .heap) k
+unfolding pageByNumber pageRefusal
+page-there s k e = go (withinLimits s) refl (commonTest s) refl (leb (pageCount (s .ctl .n) (s .heap)) k) refl
+  where
+    no-way : {A : Type 0} {r : Refusal} → Plain.Refused r (s .ctl) ≡ Plain.Done (s .ctl) → A
+    no-way z = let q : _≡_ {A = ℕ} 0 1 = cc in absurd (omega arith)
+
+    go : (a : Bool) → withinLimits s ≡ a → (b : Bool) → commonTest s ≡ b → (v : Bool) → leb (pageCount (s .ctl .n) (s .heap)) k ≡ v
+        → pageByNumber s k ≡ pageWords (s .ctl .n) (s .heap) k
+    go false p b q v x = no-way (rw p at e)
+    go true p false q v x = no-way (rw (p, q) at e)
+    go true p true q true x = no-way (rw (p, q, x) at e)
+    go true p true q false x = rw (p, q, x)
 
 -- the collection: on a heap that passes its fuel does not run out
 pub collect-lawful : (s : Store) → Lawful (onPlain s) (collectTests s) (collect s)
