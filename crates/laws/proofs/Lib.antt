@@ -2,3 +2,6 @@ pub mod Loops
 pub mod Lists
 pub mod Tests
 pub mod Parts
+pub mod Once
+pub mod Facts
+pub mod Sums

@@ -6,5 +6,6 @@ pub mod Good
 pub mod Looks
 pub mod Walks
 pub mod Pages
+pub mod Whole
 pub mod Soundings
 pub mod Fresh

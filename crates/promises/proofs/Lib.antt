@@ -1,0 +1,10 @@
+pub mod Ordered
+pub mod Outcomes
+pub mod KeepsGood
+pub mod KeepsFields
+pub mod KeepsPush
+pub mod KeepsAllocate
+pub mod KeepsPop
+pub mod KeepsSetUp
+pub mod Keeps
+pub mod KeepsReading
