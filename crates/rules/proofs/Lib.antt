@@ -5,3 +5,4 @@ pub mod Chains
 pub mod Good
 pub mod Whole
 pub mod Soundings
+pub mod Rows
