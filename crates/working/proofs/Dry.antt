@@ -1,19 +1,17 @@
 -- Once no page is free, none comes: the working with as many pages as it wants leaves the free list empty, and the heap only grows.
-use Prim.Native.Nat.{ℕ, zero, suc, _+_, _-_, _*_, _^_, _≤_, _<_}
-use native.Mathlib.Nat.{le-refl}
+use Prim.Native.Nat.{ℕ, zero, suc, _+_, _-_, _*_, _^_, _≤_}
 use native.Mathlib.Omega.{arith}
-use mathlib.Core.Path.{_≡_, refl, sym, ap, _∙_}
+use mathlib.Core.Path.{_≡_, refl}
 use mathlib.Core.Bool.{Bool, true, false}
-use mathlib.Core.Option.{Option, none, some}
-use mathlib.Core.List.{List, [], _∷_, _++_}
+use mathlib.Core.List.{List, [], _∷_}
 use lib.ListN.{length, take, drop, set, replicate, length-append, length-take, length-drop, length-set, length-replicate}
 use lib.Dec.{leb, eqb}
 use Rattle.laws.specs.Lists.{at, put}
 use Rattle.rules.specs.Memory.{endOf, topOf, statusOf, setStatus}
 use Rattle.rules.specs.Words.{Word, number, inHeap, inConst, wordOf, Head, rec, raw, moved, wrong, headOf}
-use Rattle.rules.specs.Pages.{Scan, Run, withHeap, withTable, withStack, takePage, join, store}
+use Rattle.rules.specs.Pages.{Scan, Run, withHeap, withTable, withStack, join, store}
 use Rattle.rules.specs.Collection.{wake, regionAt, nextScan}
-use Rattle.working.specs.Unbounded.{pageOr, anyPage, freshRow, freshenFor, joined, roomFor, stored, forwarded, moveFor, evacuateAtFor, evacuateFor, rootsFor, fieldSet, fieldsFor, valueFor, workFor, stackFor}
+use Rattle.working.specs.Unbounded.{anyPage, freshRow, freshenFor, joined, roomFor, stored, forwarded, moveFor, evacuateAtFor, evacuateFor, rootsFor, fieldSet, fieldsFor, valueFor, workFor, stackFor}
 use Rattle.working.proofs.Taken.{takes-none}
 
 -- no page is free, and the heap has at least m words

@@ -33,3 +33,4 @@ pub mod Counting
 pub mod Collecting
 pub mod Wanting
 pub mod Dry
+pub mod Refused

@@ -1,21 +1,19 @@
 -- The working with as many pages as it wants goes the working's way as long as there are free pages; once there are none it takes pages behind
 -- the heap, and the free list stays empty. The two differ only in what they do when no page is free.
-use Prim.Native.Nat.{ℕ, zero, suc, _+_, _-_, _*_, _^_, _≤_, _<_}
+use Prim.Native.Nat.{ℕ, zero, suc, _+_, _*_}
 use native.Mathlib.Omega.{arith}
 use mathlib.Core.Path.{_≡_, refl, sym, ap, _∙_}
-use mathlib.Core.Logic.{_⊎_, inl, inr}
 use mathlib.Core.Bool.{Bool, true, false}
 use mathlib.Core.Option.{Option, none, some}
-use mathlib.Core.List.{List, [], _∷_, _++_}
-use lib.ListN.{length, take, drop, set, replicate, length-append, length-take, length-drop, length-set, length-replicate}
+use mathlib.Core.List.{List, [], _∷_}
+use lib.ListN.{length, take, drop}
 use lib.Dec.{leb, eqb}
-use Rattle.laws.specs.Lists.{at, put}
-use Rattle.rules.specs.Memory.{endOf, topOf, statusOf, setStatus}
+use Rattle.laws.specs.Lists.{at}
+use Rattle.rules.specs.Memory.{endOf, topOf, setStatus}
 use Rattle.rules.specs.Words.{Word, number, inHeap, inConst, wordOf, Head, rec, raw, moved, wrong, headOf}
-use Rattle.rules.specs.Pages.{Scan, Run, withTable, withStack, takePage, join, room, store, place}
-use Rattle.rules.specs.Collection.{Ended, finished, lacksPage, unfinished, freshen, wake, moveOn, moveTo, regionAt, evacuateAt, evacuate, evacuateAll, scanFields, scanValue, nextScan, work, workStack}
-use Rattle.working.specs.Unbounded.{pageOr, anyPage, freshRow, freshenFor, joined, roomFor, stored, forwarded, moveFor, evacuateAtFor, evacuateFor, rootsFor, fieldSet, fieldsFor, valueFor, workFor, stackFor}
-use Rattle.working.proofs.Taken.{takes-none}
+use Rattle.rules.specs.Pages.{Scan, Run, withTable, withStack, takePage, room, place}
+use Rattle.rules.specs.Collection.{Ended, finished, lacksPage, unfinished, freshen, moveOn, moveTo, regionAt, evacuateAt, evacuate, evacuateAll, scanFields, scanValue, nextScan, work, workStack}
+use Rattle.working.specs.Unbounded.{pageOr, anyPage, freshRow, freshenFor, roomFor, stored, moveFor, evacuateAtFor, evacuateFor, rootsFor, fieldSet, fieldsFor, valueFor, workFor, stackFor}
 
 -- ---- as long as there are pages
 
