@@ -1,4 +1,4 @@
--- From the audit's tests to facts: the pieces.
+-- Stepping goes over all the values of the list and no further, since each value of the list fits.
 use Prim.Native.Nat.{ℕ, zero, suc, _+_}
 use native.Mathlib.Nat.{add-zero}
 use native.Mathlib.Omega.{arith}

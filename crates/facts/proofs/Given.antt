@@ -15,7 +15,7 @@ use Rattle.laws.proofs.Once.{Once, once-more, Last, only, later, last-in, Linke
 use Rattle.rules.specs.Memory.{link}
 use Rattle.rules.specs.Audit.{lastLink}
 use Rattle.rules.specs.Pages.{Run, clearPage, giveBack, giveBackAll}
-use Rattle.facts.proofs.Laid.{upd, upd-same, upd-other, Owner, old, spare, beyond, mine, Body, Clean, Like, body-like, clean-like, put-elsewhere, Layout}
+use Rattle.facts.proofs.Laid.{upd, upd-same, upd-other, old≢spare, old≢mine, old≢beyond, spare≢mine, spare≢beyond, Owner, old, spare, beyond, mine, Body, Clean, Like, body-like, clean-like, put-elsewhere, Layout}
 
 -- ---- the last of a list of pages, as a link
 
@@ -41,10 +41,7 @@ module _ (n N R : ℕ) (own : ℕ → Owner) (fin : ℕ → ℕ) (pages : ℕ �
   P = 2 ^ n
 
   k-in : k * P + P ≤ length (r .heap)
-  k-in = let s = L .size in let p = mul-le-mul-right P (L .known k (λ q. old≢beyond (sym own-k ∙ q))) in omega arith
-    where
-      old≢beyond : old ≢ beyond
-      old≢beyond e = let z : _≡_ {A = ℕ} 0 1 = cc in omega arith
+  k-in = let s = L .size in let p = mul-le-mul-right P (L .known k (old≢beyond own-k)) in omega arith
 
   abbrev Z : List ℕ
   Z = replicate (2 ^ n) 0
@@ -118,29 +115,20 @@ module _ (n N R : ℕ) (own : ℕ → Owner) (fin : ℕ → ℕ) (pages : ℕ �
   unfolding link
   link-k = let b = L .big in cleared (k * P) (le-refl _) (omega arith)
 
-  not-k : (o : Owner) → o ≢ old → (l : ℕ) → own l ≡ o → l ≢ k
-  not-k o ne l e q = ne (sym e ∙ ap own q ∙ own-k)
-
-  mine≢old : (i : ℕ) → mine i ≢ old
-  mine≢old i e = let z : _≡_ {A = ℕ} 0 1 = cc in omega arith
-
-  spare≢old : spare ≢ old
-  spare≢old e = let z : _≡_ {A = ℕ} 0 1 = cc in omega arith
+  own-not-k : (i l : ℕ) → own l ≡ mine i → l ≢ k
+  own-not-k i l o q = old≢mine (ap own q ∙ own-k) o
 
   free-not-k : (l : ℕ) → List·Memᴰ l free → l ≢ k
-  free-not-k l m = not-k spare spare≢old l (L .free-own l m)
+  free-not-k l m q = old≢spare (ap own q ∙ own-k) (L .free-own l m)
 
   mine-not-k : (i l : ℕ) → i < R → List·Memᴰ l (pages i) → l ≢ k
-  mine-not-k i l b m = not-k (mine i) (mine≢old i) l (L .mine-own i l b m)
+  mine-not-k i l b m = own-not-k i l (L .mine-own i l b m)
 
   known′ : (l : ℕ) → upd own k spare l ≢ beyond → l < N
   known′ l ne = go (ℕ-discrete l k)
     where
       go : Dec (l ≡ k) → l < N
-      go (yes e) = L .known l (λ q. old≢beyond (sym own-k ∙ ap own (sym e) ∙ q))
-        where
-          old≢beyond : old ≢ beyond
-          old≢beyond e = let z : _≡_ {A = ℕ} 0 1 = cc in omega arith
+      go (yes e) = L .known l (old≢beyond (ap own e ∙ own-k))
       go (no f) = L .known l (λ q. ne (upd-other own k spare l f ∙ q))
 
   own′-free : (l : ℕ) → List·Memᴰ l (free ++ k ∷ []) → upd own k spare l ≡ spare
@@ -158,7 +146,7 @@ module _ (n N R : ℕ) (own : ℕ → Owner) (fin : ℕ → ℕ) (pages : ℕ �
   mine-back i l o = go (ℕ-discrete l k)
     where
       go : Dec (l ≡ k) → own l ≡ mine i
-      go (yes e) = let q : spare ≡ mine i = sym (upd-same own k spare l e) ∙ o in let z : _≡_ {A = ℕ} 0 1 = cc in absurd (omega arith)
+      go (yes e) = spare≢mine (upd-same own k spare l e) o
       go (no ne) = sym (upd-other own k spare l ne) ∙ o
 
   -- whichever way the heap h′ came about: page k is cleared, the others are as they were but for links of free pages
@@ -167,7 +155,7 @@ module _ (n N R : ℕ) (own : ℕ → Owner) (fin : ℕ → ℕ) (pages : ℕ �
     bodies : (i l : ℕ) → own l ≡ mine i → Body n h′ l i (fin l)
     bodies i l o =
         let b = L .big in
-        body-like (omega arith) (like l) (body-like (omega arith) (like₁ l (not-k (mine i) (mine≢old i) l o)) (L .mine-body i l o))
+        body-like (omega arith) (like l) (body-like (omega arith) (like₁ l (own-not-k i l o)) (L .mine-body i l o))
 
     cleans : (l : ℕ) → upd own k spare l ≡ spare → Clean n h′ l
     cleans l o = go (ℕ-discrete l k)
@@ -199,6 +187,9 @@ module _ (n N R : ℕ) (own : ℕ → Owner) (fin : ℕ → ℕ) (pages : ℕ �
           mine-top = L .mine-top;
         }
 
+  z-in : (z : ℕ) → own z ≡ spare → z * P + P ≤ length (r .heap)
+  z-in z o = let s = L .size in let p = mul-le-mul-right P (L .known z (spare≢beyond o)) in omega arith
+
   alone : (fs : List ℕ) → fs ≡ [] → Linked (link n h₁) (suc k) (fs ++ k ∷ [])
   alone fs e =
       let t : Linked (link n h₁) (link n h₁ k) [] = rw link-k stop in
@@ -213,19 +204,10 @@ module _ (n N R : ℕ) (own : ℕ → Owner) (fin : ℕ → ℕ) (pages : ℕ �
   unfolding h₂
   given-later z last =
       let own-z : own z ≡ spare = L .free-own z (last-in last) in
-      laid-by (set h₁ (z * P) (suc k)) (r .first) (length-set h₁ (z * P) (suc k)) (like₂ z (suc k) (z-in own-z))
-      (λ i l o. links₂ z (suc k) (z-in own-z) l (λ q. spare≢mine (sym own-z ∙ ap own (sym q) ∙ o)))
-      (linked-snoc (L .free-links) last (L .free-once) (link₂ z (suc k) (z-in own-z)) (sym (links₂ z (suc k) (z-in own-z) k (λ q. free-not-k z (last-in last) (sym q))) ∙ link-k)
-      (λ y m ne. links₁ y (free-not-k y m) ∙ links₂ z (suc k) (z-in own-z) y ne))
-    where
-      z-in : own z ≡ spare → z * P + P ≤ length (r .heap)
-      z-in o = let s = L .size in let p = mul-le-mul-right P (L .known z (λ q. spare≢beyond (sym o ∙ q))) in omega arith
-        where
-          spare≢beyond : spare ≢ beyond
-          spare≢beyond e = let z : _≡_ {A = ℕ} 0 1 = cc in omega arith
-
-      spare≢mine : {i : ℕ} → spare ≢ mine i
-      spare≢mine e = let z : _≡_ {A = ℕ} 0 1 = cc in omega arith
+      laid-by (set h₁ (z * P) (suc k)) (r .first) (length-set h₁ (z * P) (suc k)) (like₂ z (suc k) (z-in z own-z))
+      (λ i l o. links₂ z (suc k) (z-in z own-z) l (λ q. spare≢mine (ap own q ∙ own-z) o))
+      (linked-snoc (L .free-links) last (L .free-once) (link₂ z (suc k) (z-in z own-z)) (sym (links₂ z (suc k) (z-in z own-z) k (λ q. free-not-k z (last-in last) (sym q))) ∙ link-k)
+      (λ y m ne. links₁ y (free-not-k y m) ∙ links₂ z (suc k) (z-in z own-z) y ne))
 
   pub record Given : Type 0 where
     pub laid : Layout n N R (upd own k spare) fin pages (free ++ k ∷ []) (giveBack n k r)
@@ -248,16 +230,10 @@ module _ (n N R : ℕ) (own : ℕ → Owner) (fin : ℕ → ℕ) (pages : ℕ �
           let last : Last free (lastOr f fs) = rw e (last-link f fs) in
           record {
             laid = rw (giveBack, q) (given-later (lastOr f fs) last);
-            like = rw (giveBack, q) (λ l ne. both-like (like₁ l ne) (like₂ (lastOr f fs) (suc k) (z-in (L .free-own _ (last-in last))) l));
+            like = rw (giveBack, q) (λ l ne. both-like (like₁ l ne) (like₂ (lastOr f fs) (suc k) (z-in (lastOr f fs) (L .free-own _ (last-in last))) l));
             table = rw (giveBack, q);
           }
         where
-          z-in : own (lastOr f fs) ≡ spare → lastOr f fs * P + P ≤ length (r .heap)
-          z-in o = let s = L .size in let p = mul-le-mul-right P (L .known (lastOr f fs) (λ q. spare≢beyond (sym o ∙ q))) in omega arith
-            where
-              spare≢beyond : spare ≢ beyond
-              spare≢beyond e = let z : _≡_ {A = ℕ} 0 1 = cc in omega arith
-
           both-like : {a b c : List ℕ} {l : ℕ} → Like n a b l → Like n b c l → Like n a c l
           both-like p q = record { word = λ x a b. p .word x a b ∙ q .word x a b }
 

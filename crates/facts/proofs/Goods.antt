@@ -7,19 +7,19 @@ use mathlib.Core.Path.{_≡_, refl, ap}
 use mathlib.Core.Logic.{_≢_}
 use mathlib.Core.Bool.{Bool, true, false, _&&_, false≢true}
 use mathlib.Core.List.{List}
-use lib.ListN.{length, length-drop, List·getD-eq-default}
+use lib.ListN.{length, List·getD-eq-default}
 use lib.Dec.{leb}
 use borrow.Author.Tests.{leb-true, le-leb}
 use Rattle.laws.specs.Lists.{at}
 use Rattle.laws.proofs.Tests.{both}
-use Rattle.rules.specs.Memory.{pageCount, pageWords, bodyWords, origin}
+use Rattle.rules.specs.Memory.{pageCount, bodyWords, origin}
 use Rattle.rules.specs.Words.{Word, number, inHeap, inConst, wordOf, vals, pageVals, standsAt, goodOn, goodHeap, goodConst, goodIn}
 use Rattle.rules.specs.Audit.{constField}
 use Rattle.rules.specs.Refusals.{Paged}
 use Rattle.rules.proofs.Limits.{page-size, whole-pages, page-inside}
-use Rattle.rules.proofs.Chains.{length-page, page-of}
+use Rattle.rules.proofs.Chains.{page-of}
 use Rattle.facts.proofs.Steps.{steps-le, Holds, stands-from, stands-to}
-use Rattle.facts.proofs.Looked.{page-holds}
+use Rattle.facts.proofs.Looked.{page-holds, page-ends as words-end}
 use Rattle.facts.proofs.Sound.{InHeap, InConst, Good, a-number, to-heap, to-const, GoodConst, number-there, const-there}
 
 -- ---- the words of a page
@@ -43,11 +43,7 @@ module _ (n : ℕ) (heap : List ℕ) (p : Paged n (length heap)) where
   body-holds k b = let z = page-size n (p .low) (p .high) in page-holds n heap k (page-ends k b) (omega arith)
 
   pub body-ends : (k : ℕ) → k < pageCount n heap → k * 2 ^ n + 2 + length (bodyWords n heap k) ≡ k * 2 ^ n + 2 ^ n
-  body-ends k b =
-      let z = page-size n (p .low) (p .high) in
-      let x = length-page n heap k (page-ends k b) in
-      let y = length-drop 2 (pageWords n heap k) in
-      omega arith
+  body-ends k b = let z = page-size n (p .low) (p .high) in words-end n heap k (page-ends k b) (omega arith)
 
 -- ---- the heap
 

@@ -10,12 +10,12 @@ use mathlib.Core.List.{List, [], _∷_, List·Memᴰ, List·Memᴰ·append-cases
 use lib.ListN.{length, drop, length-drop}
 use lib.Seq.{getD-drop}
 use lib.Dec.{leb, ltb, eqb}
-use borrow.Author.Tests.{ltb-true, lt-ltb, eqb-true}
+use borrow.Author.Tests.{ltb-true, lt-ltb, leb-true, eqb-true}
 use Rattle.laws.specs.Lists.{at, all, allBelow, zeros, times}
 use Rattle.laws.proofs.Tests.{both, all-in, below-in}
 use Rattle.laws.proofs.Facts.{all-at, zeros-in}
 use Rattle.laws.proofs.Once.{Last, only, later, last-in, Linked, goes, linked-once, linked-last, each-once}
-use Rattle.rules.specs.Memory.{Store, pageCount, addressPage, regionOrigin, pageWords, bodyWords, bodyAddress, pageEnd, link, origin, row, endOf, firstOf, topOf, statusOf, chain, firstLink, regionPages, freePages, pagesFrom}
+use Rattle.rules.specs.Memory.{Store, limits, pageCount, addressPage, regionOrigin, pageWords, bodyWords, bodyAddress, pageEnd, link, origin, row, endOf, firstOf, topOf, statusOf, chain, firstLink, regionPages, freePages, pagesFrom}
 use Rattle.rules.specs.Words.{isRecord, vals, pageVals, usedOf, fieldsPass}
 use Rattle.rules.specs.Audit.{eachPage, ifLast, rule2, opens, endsWell, lastLink, allChains, rule3, endsAt, rule4, filled, pageFilled, rule5, goodWord, rule6, rule7, constField, rule8, clean, rule9, firstFailing, brokenRule}
 use Rattle.rules.specs.Pages.{begun}
@@ -24,7 +24,7 @@ use Rattle.rules.proofs.Limits.{admits, page-size, whole-pages}
 use Rattle.rules.proofs.Chains.{length-page, at-page}
 use Rattle.rules.proofs.Whole as W
 use Rattle.facts.proofs.Steps.{Stands, Steps, Holds}
-use Rattle.facts.proofs.Laid.{Owner, spare, beyond, mine, Body, Clean, Layout}
+use Rattle.facts.proofs.Laid.{mine-inj, spare≢mine, spare≢beyond, mine≢beyond, Owner, spare, beyond, mine, Body, Clean, Layout}
 use Rattle.facts.proofs.Filled.{steps-end, filled-steps, filled-rest, fields-in}
 use Rattle.facts.proofs.Goods.{page-ends, body-holds, body-ends, good-of, const-of}
 use Rattle.facts.proofs.Sound.{Within, Good, Constants, Chained, in-free, in-region, Sound}
@@ -87,12 +87,12 @@ owner-there n heap k ne = go (ltb k (pageCount n heap)) refl
     go false e = absurd (ne (rw (ownerIn, e)))
 
 owner-mine : (o j : ℕ) → ownerBy o ≡ mine j → o ≡ suc j
-owner-mine zero j e = let z : _≡_ {A = ℕ} 0 1 = cc in absurd (omega arith)
-owner-mine (suc i) j e = let q : i ≡ j = cc in ap suc q
+owner-mine zero j e = spare≢mine refl e
+owner-mine (suc i) j e = ap suc (mine-inj e)
 
 owner-spare : (o : ℕ) → ownerBy o ≡ spare → o ≡ 0
 owner-spare zero e = refl
-owner-spare (suc i) e = let z : _≡_ {A = ℕ} 0 1 = cc in absurd (omega arith)
+owner-spare (suc i) e = spare≢mine e refl
 
 -- ---- a chain's last page
 
@@ -102,6 +102,42 @@ last-of k (y ∷ ys) = let r = last-of y ys in (r .0, later (r .1))
 
 pub has-last : {l : ℕ → ℕ} {k : ℕ} {ks : List ℕ} → Linked l (suc k) ks → (z : ℕ) × Last ks z
 has-last (goes {k} {ks} t) = last-of k ks
+
+-- ---- the limits
+
+pub within-of : (s : Store) → withinLimits s ≡ true → Within s
+unfolding limits
+within-of s l =
+    let (l₇, k₁) = both l in
+    let (l₆, r₁) = both l₇ in
+    let (l₅, t₁) = both l₆ in
+    let (l₄, h₁) = both l₅ in
+    let (l₃, w₂) = both l₄ in
+    let (l₂, w₁) = both l₃ in
+    let (n₄, n₈) = both l₂ in
+    record {
+      paged = record { low = leb-true _ _ n₄; high = leb-true _ _ n₈; size = leb-true _ _ h₁; whole = eqb-true _ _ w₁ };
+      two = leb-true _ _ w₂;
+      table = eqb-true _ _ t₁;
+      roots = leb-true _ _ r₁;
+      consts = leb-true _ _ k₁;
+    }
+
+-- ---- 8, which asks for the constants alone
+
+pub constants-of : (s : Store) → rule8 s ≡ true → Constants (s .consts)
+unfolding rule8
+constants-of s t =
+    let (f, g) = both {a = filled 0 (s .consts)} t in
+    let whole : Holds (s .consts) 0 (s .consts) = record { word = λ i q. ap (at (s .consts)) (omega arith) } in
+    record {
+      fin = 0 + usedOf (vals 0 0 (s .consts));
+      filled = filled-steps (s .consts) (length (s .consts)) 0 (s .consts) whole (omega arith);
+      rest = filled-rest (s .consts) (length (s .consts)) 0 (s .consts) whole (omega arith) f;
+      fields = λ a l i steps st r q.
+          const-of (s .consts) (at (s .consts) (a + suc i))
+          (fields-in (constField (s .consts)) (s .consts) (length (s .consts)) steps l st r (s .consts) whole (omega arith) g i q);
+    }
 
 -- ---- the facts, rule by rule
 
@@ -117,9 +153,6 @@ module _ (s : Store) (lim : withinLimits s ≡ true) (comm : commonTest s ≡ tr
 
   adm : Admitted (length (s .heap)) (length (s .table)) (length (s .roots)) (length (s .consts)) (s .ctl)
   adm = admits (length (s .heap)) (length (s .table)) (length (s .roots)) (length (s .consts)) (s .ctl) lim comm
-
-  within : Within s
-  within = record { paged = adm .paged; two = adm .two; table = adm .table; roots = adm .roots; consts = adm .consts }
 
   big : 16 ≤ 2 ^ n
   big = page-size n (adm .paged .low) (adm .paged .high) .0
@@ -218,24 +251,18 @@ module _ (s : Store) (lim : withinLimits s ≡ true) (comm : commonTest s ≡ tr
 
   -- a region's page is in its chain
   mine-there : (j k : ℕ) → ownerIn n (s .heap) k ≡ mine j → (j < R) × List·Memᴰ k (pages j)
-  mine-there j k o = go (chained k (owner-there n (s .heap) k (λ q. no-beyond (sym o ∙ q))))
+  mine-there j k o = go (chained k (owner-there n (s .heap) k (mine≢beyond o)))
     where
-      no-beyond : mine j ≢ beyond
-      no-beyond e = let z : _≡_ {A = ℕ} 0 1 = cc in omega arith
-
       go : Chained R (ownerIn n (s .heap)) pages free k → (j < R) × List·Memᴰ k (pages j)
-      go (in-free e m) = let z : _≡_ {A = ℕ} 0 1 = cc in absurd (omega arith)
-      go (in-region i b e m) = let q : i ≡ j = cc in rw (← q) (b, m)
+      go (in-free e m) = spare≢mine e o
+      go (in-region i b e m) = let q : i ≡ j = mine-inj (sym e ∙ o) in rw (← q) (b, m)
 
   spare-there : (k : ℕ) → ownerIn n (s .heap) k ≡ spare → List·Memᴰ k free
-  spare-there k o = go (chained k (owner-there n (s .heap) k (λ q. no-beyond (sym o ∙ q))))
+  spare-there k o = go (chained k (owner-there n (s .heap) k (spare≢beyond o)))
     where
-      no-beyond : spare ≢ beyond
-      no-beyond e = let z : _≡_ {A = ℕ} 0 1 = cc in omega arith
-
       go : Chained R (ownerIn n (s .heap)) pages free k → List·Memᴰ k free
       go (in-free e m) = m
-      go (in-region i b e m) = let z : _≡_ {A = ℕ} 0 1 = cc in absurd (omega arith)
+      go (in-region i b e m) = spare≢mine o e
 
   -- a test of each page of each region, at one of them
   at-page-of : (q : ℕ → ℕ → Bool) → eachPage q n (s .heap) (s .table) R ≡ true → (j k : ℕ) → j < R → List·Memᴰ k (pages j) → q j k ≡ true
@@ -333,27 +360,10 @@ module _ (s : Store) (lim : withinLimits s ≡ true) (comm : commonTest s ≡ tr
   unfolding rule7
   roots i b = good-of n R (s .heap) (s .consts) (adm .paged) (at (s .roots) i) (all-at (goodWord s) (s .roots) (rules .seven) i b)
 
-  -- 8
-  whole : Holds (s .consts) 0 (s .consts)
-  whole = record { word = λ i q. ap (at (s .consts)) (omega arith) }
-
-  constants : Constants (s .consts)
-  unfolding rule8
-  constants =
-      let (f, g) = both {a = filled 0 (s .consts)} (rules .eight) in
-      record {
-        fin = 0 + usedOf (vals 0 0 (s .consts));
-        filled = filled-steps (s .consts) (length (s .consts)) 0 (s .consts) whole (omega arith);
-        rest = filled-rest (s .consts) (length (s .consts)) 0 (s .consts) whole (omega arith) f;
-        fields = λ a l i steps st r q.
-            const-of (s .consts) (at (s .consts) (a + suc i))
-            (fields-in (constField (s .consts)) (s .consts) (length (s .consts)) steps l st r (s .consts) whole (omega arith) g i q);
-      }
-
   pub sound : Sound s
   sound =
       record {
-        within = within;
+        within = within-of s lim;
         own = ownerIn n (s .heap);
         fin = endIn n (s .heap);
         pages = pages;
@@ -365,7 +375,7 @@ module _ (s : Store) (lim : withinLimits s ≡ true) (comm : commonTest s ≡ tr
         chained = chained;
         fields = fields;
         roots = roots;
-        consts = constants;
+        consts = constants-of s (rules .eight);
       }
 
 pub sound-of : (s : Store) → withinLimits s ≡ true → commonTest s ≡ true → brokenRule s ≡ 0 → Sound s

@@ -4,7 +4,7 @@ use Prim.Native.Nat.{ℕ, zero, suc, _+_, _*_, _/_, _%_, _^_, _≤_, _<_, zero-l
 use native.Mathlib.Nat.{mul-div-left, mul-mod-left}
 use native.Mathlib.Omega.{arith}
 use mathlib.Core.Path.{_≡_, refl, sym, ap, _∙_}
-use mathlib.Core.Logic.{_≢_, _↔_}
+use mathlib.Core.Logic.{_↔_}
 use mathlib.Core.Bool.{Bool, true, false, Bool·beq}
 use mathlib.Core.List.{List, List·Memᴰ, List·Memᴰ·head, Memᴰ·append-left, Memᴰ·append-right}
 use lib.ListN.{length, drop, length-drop}
@@ -25,7 +25,7 @@ use Rattle.rules.specs.Calls.{audit}
 use Rattle.rules.proofs.Chains.{length-page, at-page}
 use Rattle.rules.proofs.Whole.{linked-chain, chains-once, of-pages}
 use Rattle.facts.proofs.Steps.{steps-le, Holds}
-use Rattle.facts.proofs.Laid.{spare, beyond, mine, Body}
+use Rattle.facts.proofs.Laid.{spare≢beyond, mine≢beyond, Body}
 use Rattle.facts.proofs.Filled.{vals-used, filled-of, fields-of}
 use Rattle.facts.proofs.Goods.{page-ends, body-holds, body-ends, of-good, of-const}
 use Rattle.facts.proofs.Sound.{Within, Chained, in-free, in-region, Sound, Passes}
@@ -58,16 +58,10 @@ module _ (s : Store) (S : Sound s) where
   paged = S .within .paged
 
   mine-there : (j k : ℕ) → j < R → List·Memᴰ k (S .pages j) → k < N
-  mine-there j k b m = S .laid .known k (λ q. no-beyond (sym (S .laid .mine-own j k b m) ∙ q))
-    where
-      no-beyond : mine j ≢ beyond
-      no-beyond e = let z : _≡_ {A = ℕ} 0 1 = cc in omega arith
+  mine-there j k b m = S .laid .known k (mine≢beyond (S .laid .mine-own j k b m))
 
   free-there : (k : ℕ) → List·Memᴰ k (S .free) → k < N
-  free-there k m = S .laid .known k (λ q. no-beyond (sym (S .laid .free-own k m) ∙ q))
-    where
-      no-beyond : spare ≢ beyond
-      no-beyond e = let z : _≡_ {A = ℕ} 0 1 = cc in omega arith
+  free-there k m = S .laid .known k (spare≢beyond (S .laid .free-own k m))
 
   -- ---- the chains are those that the facts name
 

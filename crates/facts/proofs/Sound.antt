@@ -13,7 +13,7 @@ use Rattle.rules.specs.Pages.{begun}
 use Rattle.rules.specs.Audit.{brokenRule}
 use Rattle.rules.specs.Refusals.{Paged, withinLimits, commonTest}
 use Rattle.facts.proofs.Steps.{Stands, Steps, steps-le}
-use Rattle.facts.proofs.Laid.{Owner, spare, mine, last-in, Layout}
+use Rattle.facts.proofs.Laid.{mine-inj, spare≢mine, Owner, spare, mine, last-in, Layout}
 
 -- ---- Lengths and n within their limits.
 
@@ -115,13 +115,10 @@ pub record Passes (s : Store) : Type 0 where
 module _ (s : Store) (S : Sound s) where
   -- no page is in two chains
   pub one-region : (i j k : ℕ) → i < s .ctl .regions → j < s .ctl .regions → List·Memᴰ k (S .pages i) → List·Memᴰ k (S .pages j) → i ≡ j
-  one-region i j k a b p q = let e : mine i ≡ mine j = sym (S .laid .mine-own i k a p) ∙ S .laid .mine-own j k b q in cc
+  one-region i j k a b p q = mine-inj (sym (S .laid .mine-own i k a p) ∙ S .laid .mine-own j k b q)
 
   pub region-or-free : (j k : ℕ) → j < s .ctl .regions → List·Memᴰ k (S .pages j) → List·Memᴰ k (S .free) → ⊥
-  region-or-free j k b p q =
-      let e : mine j ≡ spare = sym (S .laid .mine-own j k b p) ∙ S .laid .free-own k q in
-      let z : _≡_ {A = ℕ} 0 1 = cc in
-      omega arith
+  region-or-free j k b p q = spare≢mine (S .laid .free-own k q) (S .laid .mine-own j k b p)
 
   -- "a lies from e-P+2 to e"
   pub top-lies : (j : ℕ) → j < s .ctl .regions → (endOf (s .table) j + 2 ≤ topOf (s .table) j + 2 ^ s .ctl .n) × (topOf (s .table) j ≤ endOf (s .table) j)

@@ -23,43 +23,21 @@ use Rattle.rules.specs.Memory.{Store, lent, pageCount, endOf, topOf}
 use Rattle.rules.specs.Words.{headOf, lengthBy, isRecord}
 use Rattle.rules.specs.Audit.{goodWord}
 use Rattle.rules.specs.Refusals.{refusedValue}
-use Rattle.rules.specs.Pages.{Scan, Run, begun, recordAfter, withStack, linkFits, join, room, store, place}
+use Rattle.rules.specs.Pages.{Run, begun, recordAfter, linkFits, join, room, store, place}
 use Rattle.rules.specs.Calls.{rowFits, headerFor, wordsFit, allocateOn, allocateIn, allocate}
 use Rattle.facts.proofs.Steps.{Stands, Steps, steps-le, steps-same, same-length, apart}
 use Rattle.facts.proofs.Audited.{steps-at}
-use Rattle.facts.proofs.Laid.{upd, upd-same, upd-other, Owner, old, spare, mine, Body, put-elsewhere, Layout, Value}
+use Rattle.facts.proofs.Laid.{spare≢mine, mine≢beyond, upd, upd-same, upd-other, old, spare, mine, Body, put-elsewhere, Layout, Value}
 use Rattle.facts.proofs.Framed.{below-end}
 use Rattle.facts.proofs.Goods.{good-of}
 use Rattle.facts.proofs.Sound.{Good, Sound}
-use Rattle.working.proofs.Owned.{spare≢mine, mine≢beyond}
+use Rattle.working.proofs.Aside.{stack-laid}
 use Rattle.working.proofs.Stored.{store-laid}
 use Rattle.working.proofs.Placed.{Roomed, room-was, room-made}
 use Rattle.working.proofs.Taken.{taken}
 use Rattle.promises.specs.Left.{leftValued}
 use Rattle.promises.proofs.KeepsGood.{admitted-keeps, good-kept, record-was, field-was, not-old, owned, chained-by}
 use Rattle.promises.proofs.KeepsPush.{some-free}
-
--- the layout says nothing of the scan stack
-pub restacked : {n N R : ℕ} {own : ℕ → Owner} {fin : ℕ → ℕ} {pages : ℕ → List ℕ} {free : List ℕ} {r : Run} (st : List Scan) → Layout n N R own fin pages free r
-    → Layout n N R own fin pages free (withStack r st)
-restacked st L =
-    record {
-      size = L .size;
-      big = L .big;
-      rows = L .rows;
-      known = L .known;
-      free-own = L .free-own;
-      free-once = L .free-once;
-      free-links = L .free-links;
-      free-last = L .free-last;
-      free-count = L .free-count;
-      free-clean = L .free-clean;
-      mine-own = L .mine-own;
-      mine-once = L .mine-once;
-      mine-links = L .mine-links;
-      mine-body = L .mine-body;
-      mine-top = L .mine-top;
-    }
 
 -- ---- the header of a value
 
@@ -317,7 +295,7 @@ module _ (s : Store) (S : Sound s) (j : ℕ) (jR : j < s .ctl .regions) (kind : 
         regions = S .regions;
         past = λ x p q. table-is x (omega arith) (omega arith) ∙ S .past x p q;
         idle = λ i b. table-is (4 * i + 3) (omega arith) (omega arith) ∙ S .idle i b;
-        laid = rw long (restacked [] L₂);
+        laid = rw long (stack-laid n N R (rm .own₁) fin′ (rm .pages₁) (rm .free₁) r₂ L₂ []);
         chained = rw long (chained-by (rm .owned (owned s S)) none-old);
         fields = fields′;
         roots = λ i b. good′ _ (S .roots i b);

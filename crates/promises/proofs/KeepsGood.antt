@@ -16,7 +16,7 @@ use Rattle.rules.specs.Words.{inHeap, wordOf}
 use Rattle.rules.specs.Audit.{brokenRule}
 use Rattle.rules.specs.Refusals.{withinLimits, commonTest, admitted, unbroken, audited}
 use Rattle.facts.proofs.Steps.{Stands, Steps, steps-le}
-use Rattle.facts.proofs.Laid.{Owner, old, spare, beyond, mine, Body}
+use Rattle.facts.proofs.Laid.{mine-inj, old≢spare, old≢mine, old≢beyond, spare≢mine, spare≢beyond, mine≢beyond, Owner, old, spare, beyond, mine, Body}
 use Rattle.facts.proofs.Framed.{value-kept, value-was, good-in}
 use Rattle.facts.proofs.Sound.{InHeap, Good, a-number, to-heap, to-const, Chained, in-free, in-region, Sound}
 use Rattle.working.proofs.Owned.{Owned}
@@ -71,14 +71,11 @@ module _ (s : Store) (S : Sound s) where
 
   -- nobody's page is from-space
   pub not-old : (k : ℕ) → S .own k ≢ old
-  not-old k e = go (S .chained k (S .laid .known k (λ q. apart (sym e ∙ q))))
+  not-old k e = go (S .chained k (S .laid .known k (old≢beyond e)))
     where
-      apart : old ≢ beyond
-      apart q = let z : _≡_ {A = ℕ} 0 1 = cc in omega arith
-
       go : Chained R (S .own) (S .pages) (S .free) k → ⊥
-      go (in-free o m) = let z : _≡_ {A = ℕ} 0 1 = cc in omega arith
-      go (in-region j b o m) = let z : _≡_ {A = ℕ} 0 1 = cc in omega arith
+      go (in-free o m) = old≢spare e o
+      go (in-region j b o m) = old≢mine e o
 
   pub owned : Owned (pageCount n (s .heap)) R (S .own) (S .pages) (S .free)
   owned = record { whole = whole; spares = spares; mines = mines }
@@ -87,25 +84,22 @@ module _ (s : Store) (S : Sound s) where
       whole k b e = go (S .chained k b)
         where
           go : Chained R (S .own) (S .pages) (S .free) k → ⊥
-          go (in-free o m) = let z : _≡_ {A = ℕ} 0 1 = cc in omega arith
-          go (in-region j b o m) = let z : _≡_ {A = ℕ} 0 1 = cc in omega arith
-
-      there : (k : ℕ) (o : Owner) → o ≢ beyond → S .own k ≡ o → k < pageCount n (s .heap)
-      there k o ne e = S .laid .known k (λ q. ne (sym e ∙ q))
+          go (in-free o m) = spare≢beyond o e
+          go (in-region j b o m) = mine≢beyond o e
 
       spares : (k : ℕ) → S .own k ≡ spare → List·Memᴰ k (S .free)
-      spares k e = go (S .chained k (there k spare (λ q. let z : _≡_ {A = ℕ} 0 1 = cc in omega arith) e))
+      spares k e = go (S .chained k (S .laid .known k (spare≢beyond e)))
         where
           go : Chained R (S .own) (S .pages) (S .free) k → List·Memᴰ k (S .free)
           go (in-free o m) = m
-          go (in-region j b o m) = let z : _≡_ {A = ℕ} 0 1 = cc in absurd (omega arith)
+          go (in-region j b o m) = spare≢mine e o
 
       mines : (k j : ℕ) → S .own k ≡ mine j → (j < R) × List·Memᴰ k (S .pages j)
-      mines k j e = go (S .chained k (there k (mine j) (λ q. let z : _≡_ {A = ℕ} 0 1 = cc in omega arith) e))
+      mines k j e = go (S .chained k (S .laid .known k (mine≢beyond e)))
         where
           go : Chained R (S .own) (S .pages) (S .free) k → (j < R) × List·Memᴰ k (S .pages j)
-          go (in-free o m) = let z : _≡_ {A = ℕ} 0 1 = cc in absurd (omega arith)
-          go (in-region i b o m) = let q : i ≡ j = cc in rw (← q) (b, m)
+          go (in-free o m) = spare≢mine o e
+          go (in-region i b o m) = let q : i ≡ j = mine-inj (sym o ∙ e) in rw (← q) (b, m)
 
   -- the heap h has the words of the regions below R′, up to the end of the values of each page
   module _ (R′ : ℕ) (h : List ℕ) (len : length h ≡ length (s .heap))

@@ -22,14 +22,14 @@ use Rattle.rules.specs.Pages.{Run, begun, recordAfter, giveBackAll}
 use Rattle.rules.specs.Calls.{pointsInto, letGo, popOn, popTop, pop}
 use Rattle.rules.proofs.Chains.{page-of}
 use Rattle.facts.proofs.Steps.{Stands, Steps, steps-le}
-use Rattle.facts.proofs.Laid.{Owner, old, spare, beyond, mine, Layout}
+use Rattle.facts.proofs.Laid.{old≢beyond, mine-inj, old≢mine, old≢spare, spare≢mine, mine≢beyond, spare≢beyond, Owner, old, spare, beyond, mine, Layout}
 use Rattle.facts.proofs.Given.{spared, spared-in, spared-out, GivenAll, given-all}
 use Rattle.facts.proofs.Filled.{fields-in}
 use Rattle.facts.proofs.Framed.{below-end}
 use Rattle.facts.proofs.Goods.{body-holds, body-ends}
 use Rattle.facts.proofs.Passing.{pages-are}
 use Rattle.facts.proofs.Sound.{InHeap, Good, Sound}
-use Rattle.working.proofs.Owned.{Owned, mine-inj, old≢mine, old≢spare, spare≢mine, mine≢beyond, spare≢beyond}
+use Rattle.working.proofs.Owned.{Owned}
 use Rattle.working.proofs.Fresh.{row-width, row-else, row-end, row-first, row-top, row-status}
 use Rattle.promises.specs.Left.{leftPlain}
 use Rattle.promises.proofs.KeepsGood.{audited-keeps, good-kept, record-was, field-was, not-old, owned, chained-by}
@@ -66,7 +66,7 @@ leaving-back j (mine i) p ne e = go (ℕ-discrete i j)
 -- ---- a region that is not held
 
 -- a good pointer that does not point into region j names another
-other-region : (n R : ℕ) (heap : List ℕ) (j w a : ℕ) (p : InHeap n R heap a) → wordOf w ≡ inHeap a → pointsInto n heap j w ≡ false → p .region ≢ j
+pub other-region : (n R : ℕ) (heap : List ℕ) (j w a : ℕ) (p : InHeap n R heap a) → wordOf w ≡ inHeap a → pointsInto n heap j w ≡ false → p .region ≢ j
 unfolding pointsInto origin
 other-region n R heap j w a p e t q =
     let x = steps-le (p .steps) in
@@ -97,7 +97,7 @@ module _ (s : Store) (S : Sound s) (j : ℕ) (top : s .ctl .regions ≡ suc j) (
   jR : j < R
   jR = omega arith
 
-  below-R : (i : ℕ) → i < j → i < R
+  pub below-R : (i : ℕ) → i < j → i < R
   below-R i b = omega arith
 
   W : Owned N R (S .own) (S .pages) (S .free)
@@ -127,7 +127,7 @@ module _ (s : Store) (S : Sound s) (j : ℕ) (top : s .ctl .regions ≡ suc j) (
   its : (k : ℕ) → List·Memᴰ k ks → own° k ≡ old
   its k m = ap (leaving j) (S .laid .mine-own j k jR m) ∙ leaving-own j j refl
 
-  abbrev r′ : Run
+  abbrev pub r′ : Run
   r′ = giveBackAll n (S .pages j) (begun s)
 
   G : GivenAll n N j own° (S .fin) (S .pages) (S .free) (S .pages j) (begun s) r′
@@ -136,7 +136,7 @@ module _ (s : Store) (S : Sound s) (j : ℕ) (top : s .ctl .regions ≡ suc j) (
   abbrev own′ : ℕ → Owner
   own′ = spared own° (S .pages j)
 
-  abbrev table′ : List ℕ
+  abbrev pub table′ : List ℕ
   table′ = setRow (r′ .table) j 0 0 0 0
 
   else : (x : ℕ) → (x < 4 * j) ⊎ (4 * j + 3 < x) → at table′ x ≡ at (s .table) x
@@ -148,7 +148,7 @@ module _ (s : Store) (S : Sound s) (j : ℕ) (top : s .ctl .regions ≡ suc j) (
   width : length table′ ≡ 256
   width = row-width (r′ .table) j 0 0 0 0 ∙ ap length (G .table) ∙ S .within .table
 
-  abbrev s′ : Store
+  abbrev pub s′ : Store
   s′ = lent (r′ .heap) table′ (s .roots) (s .consts) (recordAfter s j r′)
 
   laid : Layout n N j own′ (S .fin) (S .pages) (S .free ++ S .pages j) (begun s′)
@@ -174,33 +174,33 @@ module _ (s : Store) (S : Sound s) (j : ℕ) (top : s .ctl .regions ≡ suc j) (
             (t .0, t .1, (rw e at (row-at i 0 b (omega arith))) ∙ t .2, row-at i 2 b (omega arith) ∙ t .3);
       }
 
-  long : length (r′ .heap) ≡ length (s .heap)
+  pub long : length (r′ .heap) ≡ length (s .heap)
   long = G .laid .size ∙ sym (S .laid .size)
 
   -- the pages of the other regions are not given back
   not-its : (i k : ℕ) → i < j → List·Memᴰ k (S .pages i) → List·Memᴰ k ks → ⊥
   not-its i k b m m′ = let e = mine-inj (sym (S .laid .mine-own i k (below-R i b) m) ∙ S .laid .mine-own j k jR m′) in omega arith
 
-  keeps : (i k x : ℕ) → i < R → i < j → List·Memᴰ k (S .pages i) → k * P < x → x < S .fin k → at (s .heap) x ≡ at (r′ .heap) x
+  pub keeps : (i k x : ℕ) → i < R → i < j → List·Memᴰ k (S .pages i) → k * P < x → x < S .fin k → at (s .heap) x ≡ at (r′ .heap) x
   keeps i k x b c m p q =
       let hi = S .laid .mine-body i k (S .laid .mine-own i k b m) .inside in
       G .like k (not-its i k c m) .word x p (omega arith)
 
   -- a good word that does not point into region j stays good
-  good′ : (w : ℕ) → pointsInto n (s .heap) j w ≡ false → Good n R (s .heap) (s .consts) w → Good n j (r′ .heap) (s .consts) w
+  pub good′ : (w : ℕ) → pointsInto n (s .heap) j w ≡ false → Good n R (s .heap) (s .consts) w → Good n j (r′ .heap) (s .consts) w
   good′ w t g =
       good-kept s S j (r′ .heap) long keeps w
       (λ a p e. let ne = other-region n R (s .heap) j w a p e t in let b = p .known in omega arith) g
 
-  abbrev out : ℕ → Bool
+  abbrev pub out : ℕ → Bool
   out w = not (pointsInto n (s .heap) j w)
 
-  roots-out : all out (s .roots) ≡ true
+  pub roots-out : all out (s .roots) ≡ true
   unfolding letGo
   roots-out = both {a = all out (s .roots)} free .0
 
   -- nor does a field of another region's record
-  field-out : (i k a l t : ℕ) → i < j → List·Memᴰ k (S .pages i) → Steps (s .heap) (k * P + P) (k * P + 2) a → Stands (s .heap) (k * P + P) a l
+  pub field-out : (i k a l t : ℕ) → i < j → List·Memᴰ k (S .pages i) → Steps (s .heap) (k * P + P) (k * P + 2) a → Stands (s .heap) (k * P + P) a l
       → isRecord (at (s .heap) a) ≡ true → t < l → pointsInto n (s .heap) j (at (s .heap) (a + suc t)) ≡ false
   unfolding letGo pageVals
   field-out i k a l t b m r st rec q =
@@ -242,7 +242,7 @@ module _ (s : Store) (S : Sound s) (j : ℕ) (top : s .ctl .regions ≡ suc j) (
       by : (List·Memᴰ k ks → ⊥) → (o : Owner) → S .own k ≡ o → leaving j o ≡ old → ⊥
       by f old q u = not-old s S k q
       by f spare q u = old≢spare u refl
-      by f beyond q u = let z : _≡_ {A = ℕ} 0 1 = cc in omega arith
+      by f beyond q u = old≢beyond u refl
       by f (mine i) q u = go (ℕ-discrete i j)
         where
           go : Dec (i ≡ j) → ⊥
@@ -261,7 +261,7 @@ module _ (s : Store) (S : Sound s) (j : ℕ) (top : s .ctl .regions ≡ suc j) (
         where
           go : (List·Memᴰ k ks × (own′ k ≡ spare)) ⊎ ((List·Memᴰ k ks → ⊥) × (own′ k ≡ own° k)) → ⊥
           go (inl t) = spare≢beyond (t .1) e
-          go (inr t) = W .whole k b (leaving-back j (S .own k) beyond (λ q. let z : _≡_ {A = ℕ} 0 1 = cc in omega arith) (sym (t .1) ∙ e))
+          go (inr t) = W .whole k b (leaving-back j (S .own k) beyond (λ q. old≢beyond q refl) (sym (t .1) ∙ e))
 
       spares : (k : ℕ) → own′ k ≡ spare → List·Memᴰ k (S .free ++ S .pages j)
       spares k e = go (own-cases k)

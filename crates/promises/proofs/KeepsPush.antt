@@ -18,10 +18,10 @@ use Rattle.rules.specs.Refusals.{refused}
 use Rattle.rules.specs.Pages.{Run, begun, recordAfter, linkFits}
 use Rattle.rules.specs.Calls.{pushOn, push}
 use Rattle.facts.proofs.Steps.{Stands, Steps, steps-le}
-use Rattle.facts.proofs.Laid.{upd, upd-same, upd-other, Owner, old, spare, beyond, mine, Layout}
+use Rattle.facts.proofs.Laid.{old≢mine, mine-inj, spare≢mine, mine≢beyond, upd, upd-same, upd-other, Owner, old, spare, beyond, mine, Layout}
 use Rattle.facts.proofs.Framed.{below-end}
 use Rattle.facts.proofs.Sound.{Good, Sound}
-use Rattle.working.proofs.Owned.{Owned, mine-inj, spare≢mine, mine≢beyond}
+use Rattle.working.proofs.Owned.{Owned}
 use Rattle.working.proofs.Taken.{taken, takes, taken-laid, others, k-link}
 use Rattle.working.proofs.Fresh.{row-width, row-else, row-end, row-first, row-top, row-status}
 use Rattle.promises.specs.Left.{leftPlain}
@@ -256,7 +256,7 @@ module _ (s : Store) (S : Sound s) (k : ℕ) (ks : List ℕ) (free : S .free ≡
   none-old l e = go (own-cases l old e)
     where
       go : ((l ≡ k) × (old ≡ mine R)) ⊎ ((l ≢ k) × (S .own l ≡ old)) → ⊥
-      go (inl t) = let q = t .1 in let z : _≡_ {A = ℕ} 0 1 = cc in omega arith
+      go (inl t) = old≢mine refl (t .1)
       go (inr t) = not-old s S l (t .1)
 
   idle′ : (j : ℕ) → j < suc R → statusOf table′ j ≡ 0

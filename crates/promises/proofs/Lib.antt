@@ -4,3 +4,6 @@ pub mod KeepsFields
 pub mod KeepsPush
 pub mod KeepsAllocate
 pub mod KeepsPop
+pub mod KeepsSetUp
+pub mod Keeps
+pub mod KeepsReading

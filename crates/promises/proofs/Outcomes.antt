@@ -3,7 +3,7 @@
 use Prim.Native.Nat.{ℕ, zero, suc, _+_, _-_, _*_, _/_, _%_, _^_}
 use native.Mathlib.Omega.{arith}
 use mathlib.Core.Path.{_≡_, refl, sym, ap, _∙_}
-use mathlib.Core.Logic.{_↔_, _≢_}
+use mathlib.Core.Logic.{_↔_, _⊎_, inl, inr}
 use mathlib.Core.Bool.{Bool, true, false, _&&_, _||_, not, true≢false}
 use mathlib.Core.Option.{Option, none, some}
 use mathlib.Core.List.{List, [], _∷_, List·Memᴰ, List·Memᴰ·head, List·Memᴰ·tail}
@@ -31,6 +31,11 @@ use Rattle.rules.specs.Calls.{lookIn, headerIn, fieldsIn, wordOfNumber, numberO
 use Rattle.rules.specs.Collection.{Ended, finished, lacksPage, unfinished, freshen, evacuateAll, workStack, leaves, ending, collected, collect}
 use Rattle.rules.specs.Image.{Written, refusedText, writeText, writeImage, Frames, frames, malformed, readText, storeOf, sameLengths, readStore, readOn, readImage}
 use Rattle.rules.proofs.Limits.{admits}
+use Rattle.facts.specs.Observed.{Demand3}
+use Rattle.facts.proofs.Passing.{meaning}
+use Rattle.facts.proofs.Sound.{Sound}
+use Rattle.working.proofs.Running.{Refusing as LacksPage}
+use Rattle.working.proofs.Collecting.{leaving, collects}
 use Rattle.promises.specs.Order.{Test, test, firstOf, numbers, whyPlain, whyValued, whyTold, whyOpened, whyWorded, whyNumbered, limitsTest, recordTest, auditTest, setUpTests, noPage, badLink, pushTests, popTests, allocateTests, fetchTests, isConst, assignTests, setRootTests, stepTests, stepNumbers, walkTests, auditTests, dueTests, usedTests, pageTests, lacks, collectTests, writeTests, isMalformed, faultLine, wordsOf, readTests, wordTests, numberTests}
 
 -- ---- determined
@@ -167,6 +172,9 @@ toWorded = record { refuse = Worded.Refused; why = whyWorded; says = λ r. refl 
 
 abbrev pub toNumbered : Refusing Numbered
 toNumbered = record { refuse = Numbered.Refused; why = whyNumbered; says = λ r. refl }
+
+abbrev plain : Outcome Plain → Option Refusal
+plain o = whyPlain (o .answer)
 
 -- ---- the calls
 
@@ -419,33 +427,45 @@ page-empty s k r e = go (withinLimits s) refl (commonTest s) refl (leb (pageCoun
     go true p true q true x = rw (p, q, x)
     go true p true q false x = let z : Plain.Done (s .ctl) ≡ Plain.Refused r (s .ctl) = rw (p, q, x) at e in let w : _≡_ {A = ℕ} 0 1 = cc in absurd (omega arith)
 
--- the collection, on a heap on which its fuel does not run out
-pub collect-lawful : (s : Store) → (brokenRule s ≡ 0 → (r : Run) (p : List ℕ × Run) → freshen (s .ctl .n) (s .ctl .regions) 0 (begun s) ≡ some r
-    → evacuateAll (s .ctl .n) (s .roots) r ≡ some p → workStack (s .ctl .n) (p .1) ≢ unfinished)
-    → Lawful (onPlain s) (collectTests s) (collect s)
+-- the collection: on a heap that passes its fuel does not run out
+pub collect-lawful : (s : Store) → Lawful (onPlain s) (collectTests s) (collect s)
 unfolding collect collected lacks ending leaves
-collect-lawful s ended = after-audit (onPlain s) s _ _ (λ l c b. fresh b (freshen (s .ctl .n) (s .ctl .regions) 0 (begun s)) refl)
+collect-lawful s =
+    after-audit (onPlain s) s _ _
+    (λ l c b. fresh (collects s (meaning s .0 (record { limits = l; common = c; unbroken = b }))) (freshen (s .ctl .n) (s .ctl .regions) 0 (begun s)) refl)
   where
+    Ends : Sound s → Type 0
+    Ends S = ((collected s ≡ refused s Refusal.NoPage) × LacksPage s S) ⊎ ((s′ : Store) × (collected s ≡ leaving s′) × Sound s′ × Demand3 s s′)
+
     none-left : lacks s ≡ true → collected s ≡ refused s Refusal.NoPage → Lawful (onPlain s) (test (lacks s) Refusal.NoPage ∷ []) (collected s)
     none-left e q = rw (e, q) (stopped (onPlain s) Refusal.NoPage [])
 
-    worked : brokenRule s ≡ 0 → (r : Run) → freshen (s .ctl .n) (s .ctl .regions) 0 (begun s) ≡ some r → (p : List ℕ × Run) → evacuateAll (s .ctl .n) (s .roots) r ≡ some p
+    never : {A : Type 0} {S : Sound s} → Ends S → collected s ≡ refused s (Refusal.Broken 0) → A
+    never (inl u) e =
+        let q : plain (refused s Refusal.NoPage) ≡ plain (refused s (Refusal.Broken 0)) = ap plain (sym (u .0) ∙ e) in
+        let z : _≡_ {A = ℕ} 0 1 = cc in
+        absurd (omega arith)
+    never (inr u) e =
+        let q : plain (leaving (u .0)) ≡ plain (refused s (Refusal.Broken 0)) = ap plain (sym (u .1) ∙ e) in
+        let z : _≡_ {A = ℕ} 0 1 = cc in
+        absurd (omega arith)
+
+    worked : {S : Sound s} → Ends S → (r : Run) → freshen (s .ctl .n) (s .ctl .regions) 0 (begun s) ≡ some r → (p : List ℕ × Run) → evacuateAll (s .ctl .n) (s .roots) r ≡ some p
         → (e : Ended) → workStack (s .ctl .n) (p .1) ≡ e → Lawful (onPlain s) (test (lacks s) Refusal.NoPage ∷ []) (collected s)
-    worked b r q p x (finished t) y =
+    worked E r q p x (finished t) y =
         let f : lacks s ≡ false = rw (lacks, q, x, y) in
-        rw (f, collected, q, x, y)
-        (passed (onPlain s) Refusal.NoPage [] _ (is-done (onPlain s) _ refl))
-    worked b r q p x lacksPage y = none-left (rw (lacks, q, x, y)) (rw (collected, q, x, y))
-    worked b r q p x unfinished y = absurd (ended b r p q x y)
+        rw (f, collected, q, x, y) (passed (onPlain s) Refusal.NoPage [] _ (is-done (onPlain s) _ refl))
+    worked E r q p x lacksPage y = none-left (rw (lacks, q, x, y)) (rw (collected, q, x, y))
+    worked E r q p x unfinished y = never E (rw (collected, q, x, y))
 
-    evacuated : brokenRule s ≡ 0 → (r : Run) → freshen (s .ctl .n) (s .ctl .regions) 0 (begun s) ≡ some r → (o : Option (List ℕ × Run)) → evacuateAll (s .ctl .n) (s .roots) r ≡ o
+    evacuated : {S : Sound s} → Ends S → (r : Run) → freshen (s .ctl .n) (s .ctl .regions) 0 (begun s) ≡ some r → (o : Option (List ℕ × Run)) → evacuateAll (s .ctl .n) (s .roots) r ≡ o
         → Lawful (onPlain s) (test (lacks s) Refusal.NoPage ∷ []) (collected s)
-    evacuated b r q none x = none-left (rw (lacks, q, x)) (rw (collected, q, x))
-    evacuated b r q (some p) x = worked b r q p x (workStack (s .ctl .n) (p .1)) refl
+    evacuated E r q none x = none-left (rw (lacks, q, x)) (rw (collected, q, x))
+    evacuated E r q (some p) x = worked E r q p x (workStack (s .ctl .n) (p .1)) refl
 
-    fresh : brokenRule s ≡ 0 → (o : Option Run) → freshen (s .ctl .n) (s .ctl .regions) 0 (begun s) ≡ o → Lawful (onPlain s) (test (lacks s) Refusal.NoPage ∷ []) (collected s)
-    fresh b none q = none-left (rw (lacks, q)) (rw (collected, q))
-    fresh b (some r) q = evacuated b r q (evacuateAll (s .ctl .n) (s .roots) r) refl
+    fresh : {S : Sound s} → Ends S → (o : Option Run) → freshen (s .ctl .n) (s .ctl .regions) 0 (begun s) ≡ o → Lawful (onPlain s) (test (lacks s) Refusal.NoPage ∷ []) (collected s)
+    fresh E none q = none-left (rw (lacks, q)) (rw (collected, q))
+    fresh E (some r) q = evacuated E r q (evacuateAll (s .ctl .n) (s .roots) r) refl
 
 pub write-lawful : (s : Store) (bytes : List ℕ) → Lawful (onText s bytes) (writeTests s bytes) (writeImage s bytes)
 unfolding writeImage writeText
