@@ -154,22 +154,35 @@ leaving s = outcome (Plain.Done (s .ctl)) (s .heap) (s .table) (s .roots) (s .co
 
 -- the four steps on a sound heap: refused for want of a page, or done
 pub collects : (s : Store) (S : Sound s)
-    → ((collected s ≡ refused s Refusal.NoPage) × (s .ctl .count < wanted s)) ⊎ ((s′ : Store) × (collected s ≡ leaving s′) × Sound s′ × Demand3 s s′ × Pages s s′)
+    → ((collected s ≡ refused s Refusal.NoPage) × Refusing s S) ⊎ ((s′ : Store) × (collected s ≡ leaving s′) × Sound s′ × Demand3 s s′)
 unfolding ending leaves
 collects s S = go (runs s S)
   where
     go : ((collected s ≡ refused s Refusal.NoPage) × Refusing s S) ⊎ ((roots : List ℕ) × (r : Run) × (collected s ≡ ending s roots (finished r)) × Ran s S roots r)
-        → ((collected s ≡ refused s Refusal.NoPage) × (s .ctl .count < wanted s)) ⊎ ((s′ : Store) × (collected s ≡ leaving s′) × Sound s′ × Demand3 s s′ × Pages s s′)
+        → ((collected s ≡ refused s Refusal.NoPage) × Refusing s S) ⊎ ((s′ : Store) × (collected s ≡ leaving s′) × Sound s′ × Demand3 s s′)
+    go (inl u) = inl u
+    go (inr u) =
+        let A = u .3 in
+        inr (left-store s S (u .0) (u .1) A, u .2, left-sound s S (u .0) (u .1) A, demand3 s S (u .0) (u .1) A)
+
+-- and with the pages that its working wants
+pub collects-pages : (s : Store) (S : Sound s)
+    → ((collected s ≡ refused s Refusal.NoPage) × (s .ctl .count < wanted s)) ⊎ ((s′ : Store) × (collected s ≡ leaving s′) × Demand3 s s′ × Pages s s′)
+unfolding ending leaves
+collects-pages s S = go (runs s S)
+  where
+    go : ((collected s ≡ refused s Refusal.NoPage) × Refusing s S) ⊎ ((roots : List ℕ) × (r : Run) × (collected s ≡ ending s roots (finished r)) × Ran s S roots r)
+        → ((collected s ≡ refused s Refusal.NoPage) × (s .ctl .count < wanted s)) ⊎ ((s′ : Store) × (collected s ≡ leaving s′) × Demand3 s s′ × Pages s s′)
     go (inl u) = inl (u .0, refusing-more s S (u .1))
     go (inr u) =
         let A = u .3 in
-        inr (left-store s S (u .0) (u .1) A, u .2, left-sound s S (u .0) (u .1) A, demand3 s S (u .0) (u .1) A, done-pages s S (u .0) (u .1) A)
+        inr (left-store s S (u .0) (u .1) A, u .2, demand3 s S (u .0) (u .1) A, done-pages s S (u .0) (u .1) A)
 
 -- the call on a heap that the audit passes: refused, and then its working wants more pages than are free; or done, and then they are enough
 pub theorem3 : (s : Store) → audit s ≡ Plain.Done (s .ctl)
     → ((collect s ≡ refused s Refusal.NoPage) × (s .ctl .count < wanted s)) ⊎ ((s′ : Store) × (collect s ≡ leaving s′) × Demand3 s s′ × Pages s s′)
 unfolding collect
-theorem3 s e = go (collects s (meaning s .0 p))
+theorem3 s e = go (collects-pages s (meaning s .0 p))
   where
     p : Passes s
     p = audit-yes s .0 e
@@ -177,7 +190,7 @@ theorem3 s e = go (collects s (meaning s .0 p))
     is : collect s ≡ collected s
     is = rw (p .limits, p .common, p .unbroken)
 
-    go : ((collected s ≡ refused s Refusal.NoPage) × (s .ctl .count < wanted s)) ⊎ ((s′ : Store) × (collected s ≡ leaving s′) × Sound s′ × Demand3 s s′ × Pages s s′)
+    go : ((collected s ≡ refused s Refusal.NoPage) × (s .ctl .count < wanted s)) ⊎ ((s′ : Store) × (collected s ≡ leaving s′) × Demand3 s s′ × Pages s s′)
         → ((collect s ≡ refused s Refusal.NoPage) × (s .ctl .count < wanted s)) ⊎ ((s′ : Store) × (collect s ≡ leaving s′) × Demand3 s s′ × Pages s s′)
     go (inl u) = inl (is ∙ u .0, u .1)
-    go (inr u) = inr (u .0, is ∙ u .1, u .3, u .4)
+    go (inr u) = inr (u .0, is ∙ u .1, u .2, u .3)
