@@ -9,3 +9,4 @@ pub mod Pages
 pub mod Whole
 pub mod Soundings
 pub mod Fresh
+pub mod Rows

@@ -7,7 +7,6 @@ use mathlib.Core.Logic.{_≢_, _⊎_, inl, inr}
 use mathlib.Core.List.{List, _∷_}
 use lib.ListN.{set, length-set}
 use lib.Seq.{getD-set-other}
-use Rattle.working.proofs.Stored as S
 use Rattle.rules.specs.Memory.{link, statusOf, setStatus}
 use Rattle.laws.specs.Lists.{at}
 use Rattle.rules.specs.Pages.{Scan, Run, withHeap, withTable, withStack}

@@ -33,6 +33,8 @@ use Rattle.working.proofs.Evacuating.{of-pointers}
 use Rattle.working.proofs.Running.{Ran, Refusing, runs}
 use Rattle.working.proofs.Ending.{left-store, left-sound, left-filled}
 use Rattle.working.proofs.Views.{left-copied, home-before}
+use Rattle.working.specs.Unbounded.{wanted, Pages}
+use Rattle.working.proofs.Refused.{refusing-more, done-pages}
 use Rattle.working.proofs.Counting.{used-filled, used-bound}
 
 -- each pointer of the log is moved once
@@ -163,10 +165,24 @@ collects s S = go (runs s S)
         let A = u .3 in
         inr (left-store s S (u .0) (u .1) A, u .2, left-sound s S (u .0) (u .1) A, demand3 s S (u .0) (u .1) A)
 
--- the call, on a heap that the audit passes
-pub theorem3 : (s : Store) → audit s ≡ Plain.Done (s .ctl) → (collect s ≡ refused s Refusal.NoPage) ⊎ ((s′ : Store) × (collect s ≡ leaving s′) × Demand3 s s′)
+-- and with the pages that its working wants
+pub collects-pages : (s : Store) (S : Sound s)
+    → ((collected s ≡ refused s Refusal.NoPage) × (s .ctl .count < wanted s)) ⊎ ((s′ : Store) × (collected s ≡ leaving s′) × Demand3 s s′ × Pages s s′)
+unfolding ending leaves
+collects-pages s S = go (runs s S)
+  where
+    go : ((collected s ≡ refused s Refusal.NoPage) × Refusing s S) ⊎ ((roots : List ℕ) × (r : Run) × (collected s ≡ ending s roots (finished r)) × Ran s S roots r)
+        → ((collected s ≡ refused s Refusal.NoPage) × (s .ctl .count < wanted s)) ⊎ ((s′ : Store) × (collected s ≡ leaving s′) × Demand3 s s′ × Pages s s′)
+    go (inl u) = inl (u .0, refusing-more s S (u .1))
+    go (inr u) =
+        let A = u .3 in
+        inr (left-store s S (u .0) (u .1) A, u .2, demand3 s S (u .0) (u .1) A, done-pages s S (u .0) (u .1) A)
+
+-- the call on a heap that the audit passes: refused, and then its working wants more pages than are free; or done, and then they are enough
+pub theorem3 : (s : Store) → audit s ≡ Plain.Done (s .ctl)
+    → ((collect s ≡ refused s Refusal.NoPage) × (s .ctl .count < wanted s)) ⊎ ((s′ : Store) × (collect s ≡ leaving s′) × Demand3 s s′ × Pages s s′)
 unfolding collect
-theorem3 s e = go (collects s (meaning s .0 p))
+theorem3 s e = go (collects-pages s (meaning s .0 p))
   where
     p : Passes s
     p = audit-yes s .0 e
@@ -174,7 +190,7 @@ theorem3 s e = go (collects s (meaning s .0 p))
     is : collect s ≡ collected s
     is = rw (p .limits, p .common, p .unbroken)
 
-    go : ((collected s ≡ refused s Refusal.NoPage) × Refusing s (meaning s .0 p)) ⊎ ((s′ : Store) × (collected s ≡ leaving s′) × Sound s′ × Demand3 s s′)
-        → (collect s ≡ refused s Refusal.NoPage) ⊎ ((s′ : Store) × (collect s ≡ leaving s′) × Demand3 s s′)
-    go (inl u) = inl (is ∙ u .0)
-    go (inr u) = inr (u .0, is ∙ u .1, u .3)
+    go : ((collected s ≡ refused s Refusal.NoPage) × (s .ctl .count < wanted s)) ⊎ ((s′ : Store) × (collected s ≡ leaving s′) × Demand3 s s′ × Pages s s′)
+        → ((collect s ≡ refused s Refusal.NoPage) × (s .ctl .count < wanted s)) ⊎ ((s′ : Store) × (collect s ≡ leaving s′) × Demand3 s s′ × Pages s s′)
+    go (inl u) = inl (is ∙ u .0, u .1)
+    go (inr u) = inr (u .0, is ∙ u .1, u .2, u .3)

@@ -8,7 +8,7 @@ use mathlib.Core.Logic.{_⊎_, inl, inr}
 use mathlib.Core.Bool.{true, false}
 use mathlib.Core.Option.{none, some}
 use mathlib.Core.List.{List, [], _++_, List·Memᴰ, Memᴰ·append-left, Memᴰ·append-right}
-use lib.ListN.{length}
+use lib.ListN.{length, length-append}
 use Rattle.laws.specs.Lists.{at}
 use Rattle.laws.specs.Sums.{sumOver}
 use Rattle.laws.proofs.Once.{Once, member?}
@@ -262,6 +262,10 @@ module _ (s : Store) (S : Sound s) (roots : List ℕ) (r : Run) (A : Ran s S roo
         roots = λ i b. rel-good (A .rels i (rw (A .count) b));
         consts = S .consts;
       }
+
+  -- the pages still free, and the old ones
+  pub left-count : left-store .ctl .count ≡ length (g .free) + length (fromSpace s)
+  left-count = G .laid .free-count ∙ length-append (g .free) (fromSpace s)
 
   -- its chains, and what they hold, are those of the run
   pub left-pages : (j : ℕ) → left-sound .pages j ≡ g .pages j

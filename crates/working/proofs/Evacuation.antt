@@ -3,14 +3,18 @@
 use Prim.Native.Nat.{ℕ, suc, _+_, _*_, _^_, _<_, zero-le}
 use native.Mathlib.Nat.{add-zero, mul-le-mul-right}
 use native.Mathlib.Omega.{arith}
-use mathlib.Core.Path.{_≡_, refl, sym, ap, _∙_}
+use mathlib.Core.Path.{_≡_, refl, sym, ap, _∙_, subst}
+use mathlib.Core.Bool.{false}
 use mathlib.Core.Logic.{_⊎_, inl, inr}
 use mathlib.Core.Option.{none, some}
-use mathlib.Core.List.{[], List·Memᴰ, List·Memᴰ·head}
+use mathlib.Core.List.{List, [], List·Memᴰ, List·Memᴰ·head}
 use lib.ListN.{length, take, drop, length-drop}
 use lib.Seq.{length-take-le}
 use Rattle.laws.specs.Lists.{at}
-use Rattle.rules.specs.Memory.{Store, pageCount, origin, endOf, topOf}
+use borrow.Author.Tests.{lt-leb}
+use lib.Dec.{leb}
+use Rattle.laws.proofs.Once.{Linked, linked-none}
+use Rattle.rules.specs.Memory.{Store, pageCount, link, origin, endOf, topOf}
 use Rattle.rules.specs.Words.{Head, rec, raw, moved, wrong, headOf, lengthBy}
 use Rattle.rules.specs.Pages.{Run, room, place}
 use Rattle.rules.specs.Collection.{moveOn, moveTo, regionAt, evacuateAt, evacuate}
@@ -25,7 +29,9 @@ use Rattle.working.proofs.Owned.{old≢beyond}
 use Rattle.working.proofs.Log.{pointers}
 use Rattle.working.proofs.Placed.{Roomed}
 use Rattle.working.proofs.Moving.{still, still-whose}
-use Rattle.working.proofs.Invariant.{Ghost, Kept, Inv, later-refl, Lacking, Became}
+use Rattle.working.specs.Unbounded.{anyPage, joined, roomFor, moveFor, evacuateAtFor, evacuateFor}
+use Rattle.working.proofs.Dry.{Dry, page-dry, join-dry, forward-dry}
+use Rattle.working.proofs.Invariant.{lacking-on, Ghost, Kept, Inv, later-refl, Lacking, Became}
 use Rattle.working.proofs.Evacuating.{forward-head, in-log, in-pointers, room-or}
 use Rattle.working.proofs.Copying.{Uncopied, fin₂, made, made-moves}
 use Rattle.working.proofs.CopyPending.{copied, copied-later, copied-count}
@@ -118,11 +124,34 @@ module _ (s : Store) (S : Sound s) (g : Ghost) (r : Run) (I : Inv s S g r) where
           let w = x .stands .ends in
           length-take-le (suc l) (drop a (r .heap)) (omega arith)
 
+      -- and so goes the working with as many pages as it wants
+      by-head-for : (y : Head) → headOf (at (s .heap) a) ≡ y → lengthBy y ≡ some l → evacuateAtFor n a r ≡ moveFor n j a l r
+      unfolding evacuateAtFor
+      by-head-for (rec m) q t = let e : headOf (at (r .heap) a) ≡ rec m = ap headOf header ∙ q in let d : m ≡ l = cc in rw (e, evacuateAtFor, region, d)
+      by-head-for (raw m) q t = let e : headOf (at (r .heap) a) ≡ raw m = ap headOf header ∙ q in let d : m ≡ l = cc in rw (e, evacuateAtFor, region, d)
+      by-head-for (moved m) q t = let z : _≡_ {A = ℕ} 0 1 = cc in absurd (omega arith)
+      by-head-for wrong q t = let z : _≡_ {A = ℕ} 0 1 = cc in absurd (omega arith)
+
+      over : g .free ≡ [] → endOf (r .table) j < topOf (r .table) j + suc l → Dry (length (s .heap) + 2 ^ n) (evacuateAtFor n a r .1)
+      unfolding moveFor roomFor
+      over e b =
+          let size = I .laid .size in
+          let size₀ = S .laid .size in
+          let links : Linked (link n (r .heap)) (r .first) [] = subst (λ fs. Linked (link n (r .heap)) (r .first) fs) e (I .laid .free-links) in
+          let count = I .laid .free-count in
+          let none-left : length (g .free) ≡ 0 = ap length e in
+          let dry : Dry (length (s .heap)) r = record { first = linked-none links; count = omega arith; long = omega arith } in
+          let ws : List ℕ = take (suc l) (drop a (r .heap)) in
+          let test : leb (topOf (r .table) j + length (take (suc l) (drop a (r .heap)))) (endOf (r .table) j) ≡ false
+          = lt-leb (topOf (r .table) j + length (take (suc l) (drop a (r .heap)))) (endOf (r .table) j) (rw len b) in
+          rw (by-head-for (headOf (at (s .heap) a)) refl (x .stands .head), test, roomFor)
+          (forward-dry n (length (s .heap) + 2 ^ n) j a ws (joined n j (anyPage n j r)) (join-dry n (length (s .heap) + 2 ^ n) j (anyPage n j r) (page-dry n (length (s .heap)) j r dry)))
+
       no-room : room n j (suc l) r ≡ none → moveTo n j a l r ≡ none
       unfolding moveTo place moveOn
       no-room e = let q : place n j (take (suc l) (drop a (r .heap))) r ≡ none = rw (ap (λ y. room n j y r) len ∙ e, place) in rw q
 
-      now : ((evacuateAt n a r ≡ none) × Lacking s S) ⊎ ((v : ℕ) × (r′ : Run) × (evacuateAt n a r ≡ some (v, r′)) × Became s S g r (4 * a) v r′)
+      now : ((evacuateAt n a r ≡ none) × Lacking s S (evacuateAtFor n a r .1)) ⊎ ((v : ℕ) × (r′ : Run) × (evacuateAt n a r ≡ some (v, r′)) × Became s S g r (4 * a) v r′)
       unfolding value
       now = go (room-or n N R (g .own) (g .fin) (g .pages) (g .free) r (I .laid) j (suc l) (x .known) (let lo = steps-le (x .steps) in let hi = x .stands .ends in omega arith))
         where
@@ -131,9 +160,9 @@ module _ (s : Store) (S : Sound s) (g : Ghost) (r : Run) (I : Inv s S g r) where
 
           go : ((room n j (suc l) r ≡ none) × (g .free ≡ []) × (endOf (r .table) j < topOf (r .table) j + suc l))
               ⊎ ((r₁ : Run) × (room n j (suc l) r ≡ some r₁) × Roomed n N R (g .own) (g .fin) (g .pages) (g .free) r j (suc l) r₁)
-              → ((evacuateAt n a r ≡ none) × Lacking s S) ⊎ ((v : ℕ) × (r′ : Run) × (evacuateAt n a r ≡ some (v, r′)) × Became s S g r (4 * a) v r′)
+              → ((evacuateAt n a r ≡ none) × Lacking s S (evacuateAtFor n a r .1)) ⊎ ((v : ℕ) × (r′ : Run) × (evacuateAt n a r ≡ some (v, r′)) × Became s S g r (4 * a) v r′)
           go (inl u) =
-              inl (head ∙ no-room (u .0), record { ghost = g; run = r; inv = I; none-free = u .1; region = j; words = suc l; known = x .known; wants = u .2 })
+              inl (head ∙ no-room (u .0), record { ghost = g; run = r; inv = I; none-free = u .1; region = j; words = suc l; known = x .known; wants = u .2; over = over (u .1) (u .2) })
           go (inr u) =
               let r₁ = u .0 in
               let K = u .2 in
@@ -151,18 +180,18 @@ module _ (s : Store) (S : Sound s) (g : Ghost) (r : Run) (I : Inv s S g r) where
                 },
               )
 
-    pub evacuates-at : ((evacuateAt n a r ≡ none) × Lacking s S) ⊎ ((v : ℕ) × (r′ : Run) × (evacuateAt n a r ≡ some (v, r′)) × Became s S g r (4 * a) v r′)
+    pub evacuates-at : ((evacuateAt n a r ≡ none) × Lacking s S (evacuateAtFor n a r .1)) ⊎ ((v : ℕ) × (r′ : Run) × (evacuateAt n a r ≡ some (v, r′)) × Became s S g r (4 * a) v r′)
     evacuates-at = go (in-log a (g .log))
       where
         go : ((b : ℕ) × List·Memᴰ (to a b) (g .log)) ⊎ ((b : ℕ) → List·Memᴰ (to a b) (g .log) → ⊥)
-            → ((evacuateAt n a r ≡ none) × Lacking s S) ⊎ ((v : ℕ) × (r′ : Run) × (evacuateAt n a r ≡ some (v, r′)) × Became s S g r (4 * a) v r′)
+            → ((evacuateAt n a r ≡ none) × Lacking s S (evacuateAtFor n a r .1)) ⊎ ((v : ℕ) × (r′ : Run) × (evacuateAt n a r ≡ some (v, r′)) × Became s S g r (4 * a) v r′)
         go (inl u) = let t = again (u .0) (u .1) in inr (4 * u .0, r, t .0, t .1)
         go (inr new) = now new
 
   -- any word
   pub evacuates : (w : ℕ) → Good n R (s .heap) (s .consts) w → Reached (seen s) (s .roots) w
-      → ((evacuate n w r ≡ none) × Lacking s S) ⊎ ((v : ℕ) × (r′ : Run) × (evacuate n w r ≡ some (v, r′)) × Became s S g r w v r′)
-  unfolding evacuate
+      → ((evacuate n w r ≡ none) × Lacking s S (evacuateFor n w r .1)) ⊎ ((v : ℕ) × (r′ : Run) × (evacuate n w r ≡ some (v, r′)) × Became s S g r w v r′)
+  unfolding evacuate evacuateFor
   evacuates w (a-number e) q = inr (w, r, rw (e, evacuate), stays w w (num (rw e)))
   evacuates w (to-const a e k) q = inr (w, r, rw (e, evacuate), stays w w (stay (record { address = a; word = e; good = k })))
   evacuates w (to-heap a e x) q =
@@ -172,7 +201,10 @@ module _ (s : Store) (S : Sound s) (g : Ghost) (r : Run) (I : Inv s S g r) where
       by : evacuate n (4 * a) r ≡ evacuateAt n a r
       by = rw (pointer a, evacuate)
 
-      go : ((evacuateAt n a r ≡ none) × Lacking s S) ⊎ ((v : ℕ) × (r′ : Run) × (evacuateAt n a r ≡ some (v, r′)) × Became s S g r (4 * a) v r′)
-          → ((evacuate n (4 * a) r ≡ none) × Lacking s S) ⊎ ((v : ℕ) × (r′ : Run) × (evacuate n (4 * a) r ≡ some (v, r′)) × Became s S g r (4 * a) v r′)
-      go (inl u) = inl (by ∙ u .0, u .1)
+      by-for : evacuateFor n (4 * a) r ≡ evacuateAtFor n a r
+      by-for = rw (pointer a, evacuateFor)
+
+      go : ((evacuateAt n a r ≡ none) × Lacking s S (evacuateAtFor n a r .1)) ⊎ ((v : ℕ) × (r′ : Run) × (evacuateAt n a r ≡ some (v, r′)) × Became s S g r (4 * a) v r′)
+          → ((evacuate n (4 * a) r ≡ none) × Lacking s S (evacuateFor n (4 * a) r .1)) ⊎ ((v : ℕ) × (r′ : Run) × (evacuate n (4 * a) r ≡ some (v, r′)) × Became s S g r (4 * a) v r′)
+      go (inl u) = inl (by ∙ u .0, lacking-on (λ d. rw by-for d) (u .1))
       go (inr u) = inr (u .0, u .1, by ∙ u .2, u .3)

@@ -17,6 +17,9 @@ use Rattle.facts.proofs.Laid.{Owner, old, spare, mine, Layout, upd, upd-same, u
 use Rattle.facts.proofs.Sound.{Sound}
 use Rattle.working.proofs.Owned.{old≢spare, old≢mine, spare≢mine, Owned, taken-owned}
 use Rattle.working.proofs.Taken.{taken, takes, takes-none, taken-laid, k-link, others}
+use Rattle.working.specs.Unbounded.{anyPage, freshRow, freshenFor}
+use Rattle.working.proofs.Wanting.{follows-some, page-follows}
+use Rattle.working.proofs.Dry.{Dry, page-dry, fresh-dry}
 use Rattle.working.proofs.Fresh.{row-width, row-else, row-end, row-first, row-top, row-status, Fresh}
 
 module _ (s : Store) (S : Sound s) (j : ℕ) (r : Run) (F : Fresh s S j r) (jR : j < s .ctl .regions) (k : ℕ) (ks : List ℕ) (free : F .free ≡ k ∷ ks) where
@@ -202,18 +205,20 @@ module _ (s : Store) (S : Sound s) (j : ℕ) (r : Run) (F : Fresh s S j r) (jR :
 module _ (s : Store) (S : Sound s) where
   -- there are fewer free pages than regions, or each region has its own
   pub freshens : (m j : ℕ) (r : Run) → j + m ≡ s .ctl .regions → Fresh s S j r
-      → ((freshen (s .ctl .n) m j r ≡ none) × (s .ctl .count < s .ctl .regions)) ⊎ ((r′ : Run) × (freshen (s .ctl .n) m j r ≡ some r′) × Fresh s S (s .ctl .regions) r′)
-  unfolding freshen
+      → ((freshen (s .ctl .n) m j r ≡ none) × (s .ctl .count < s .ctl .regions) × Dry (length (s .heap) + 2 ^ s .ctl .n) (freshenFor (s .ctl .n) m j r)) ⊎ ((r′ : Run) × (freshen (s .ctl .n) m j r ≡ some r′) × Fresh s S (s .ctl .regions) r′)
+  unfolding freshen freshenFor
   freshens zero j r e F = let q : j ≡ s .ctl .regions = omega arith in inr (r, refl, rw q at F)
   freshens (suc m) j r e F = go (F .free) refl (λ r′ F′. freshens m (suc j) r′ (omega arith) F′)
     where
       Result : ℕ → ℕ → Run → Type 0
-      Result m j r = ((freshen (s .ctl .n) m j r ≡ none) × (s .ctl .count < s .ctl .regions)) ⊎ ((r′ : Run) × (freshen (s .ctl .n) m j r ≡ some r′) × Fresh s S (s .ctl .regions) r′)
+      Result m j r = ((freshen (s .ctl .n) m j r ≡ none) × (s .ctl .count < s .ctl .regions) × Dry (length (s .heap) + 2 ^ s .ctl .n) (freshenFor (s .ctl .n) m j r)) ⊎ ((r′ : Run) × (freshen (s .ctl .n) m j r ≡ some r′) × Fresh s S (s .ctl .regions) r′)
 
       up : (k : ℕ) → takePage (s .ctl .n) j r ≡ some (k, taken (s .ctl .n) j k r)
           → (r′ : Run) → r′ ≡ withTable (taken (s .ctl .n) j k r) (setRow (taken (s .ctl .n) j k r .table) j (pageEnd (s .ctl .n) k) (pageAddress (s .ctl .n) k) (bodyAddress (s .ctl .n) k) 0)
           → Result m (suc j) r′ → Result (suc m) j r
-      up k t r′ q (inl u) = inl (rw (t, freshen, ← q) (u .0), u .1)
+      up k t r′ q (inl u) =
+          let v : anyPage (s .ctl .n) j r ≡ (k, taken (s .ctl .n) j k r) = follows-some (k, taken (s .ctl .n) j k r) (page-follows (s .ctl .n) j r) t in
+          inl (rw (t, freshen, ← q) (u .0), u .1, rw (v, ← q) (u .2))
       up k t r′ q (inr u) = inr (u .0, rw (t, freshen, ← q) (u .1), u .2)
 
       go : (fr : List ℕ) → F .free ≡ fr → ((r′ : Run) → Fresh s S (suc j) r′ → Result m (suc j) r′) → Result (suc m) j r
@@ -221,7 +226,17 @@ module _ (s : Store) (S : Sound s) where
           let l : Linked (link (s .ctl .n) (r .heap)) (r .first) [] = subst (λ fr. Linked (link (s .ctl .n) (r .heap)) (r .first) fr) q (F .laid .free-links) in
           let t = F .taken in
           let z : length (F .free) ≡ 0 = ap length q in
-          inl (rw (takes-none (s .ctl .n) j r (linked-none l), freshen), omega arith)
+          let c = F .laid .free-count in
+          let a = F .laid .size in
+          let b = S .laid .size in
+          let dry : Dry (length (s .heap)) r = record { first = linked-none l; count = omega arith; long = omega arith } in
+          let p : ℕ × Run = anyPage (s .ctl .n) j r in
+          let d = page-dry (s .ctl .n) (length (s .heap)) j r dry in
+          inl (
+            rw (takes-none (s .ctl .n) j r (linked-none l), freshen),
+            omega arith,
+            fresh-dry (s .ctl .n) (length (s .heap) + 2 ^ s .ctl .n) m (suc j) (freshRow (s .ctl .n) j p) (record { first = d .first; count = d .count; long = d .long }),
+          )
       go (k ∷ ks) q rest =
           let l : Linked (link (s .ctl .n) (r .heap)) (r .first) (k ∷ ks) = subst (λ fr. Linked (link (s .ctl .n) (r .heap)) (r .first) fr) q (F .laid .free-links) in
           up k (takes (s .ctl .n) j k r (linked-first l .0)) _ refl (rest _ (fresh-step s S j r F (omega arith) k ks q))

@@ -1,6 +1,6 @@
 -- The invariant of a running collection: how the heap is laid out, what was copied where, and what is still to be scanned. Each step of the
 -- run keeps it. What it takes beside the run's own words is the ghost state.
-use Prim.Native.Nat.{ℕ, suc, _+_, _-_, _*_, _≤_, _<_}
+use Prim.Native.Nat.{ℕ, suc, _+_, _-_, _*_, _^_, _≤_, _<_}
 use native.Mathlib.Nat.{le-refl}
 use native.Mathlib.Omega.{arith}
 use mathlib.Core.Path.{_≡_, refl, sym, ap, _∙_}
@@ -22,6 +22,7 @@ use Rattle.facts.proofs.Sound.{InConst, Sound}
 use Rattle.working.proofs.Owned.{Owned, total}
 use Rattle.working.proofs.Log.{pointers, olds, Log}
 use Rattle.working.proofs.Next.{Row}
+use Rattle.working.proofs.Dry.{Dry}
 
 -- ---- the ghost state
 
@@ -126,8 +127,8 @@ later-trans {R} {g} {r} {g₁} {r₁} {g₂} {r₂} p q =
 
 -- ---- how a step ends
 
--- a page is wanted and none is free
-pub record Lacking (s : Store) (S : Sound s) : Type 0 where
+-- a page is wanted and none is free; x is what the working with as many pages as it wants then comes to
+pub record Lacking (s : Store) (S : Sound s) (x : Run) : Type 0 where
   pub ghost : Ghost
   pub run : Run
   pub inv : Inv s S ghost run
@@ -136,6 +137,21 @@ pub record Lacking (s : Store) (S : Sound s) : Type 0 where
   pub words : ℕ
   pub known : region < s .ctl .regions
   pub wants : endOf (run .table) region < topOf (run .table) region + words
+  pub over : Dry (length (s .heap) + 2 ^ s .ctl .n) x
+
+pub lacking-on : {s : Store} {S : Sound s} {x y : Run} → (Dry (length (s .heap) + 2 ^ s .ctl .n) x → Dry (length (s .heap) + 2 ^ s .ctl .n) y) → Lacking s S x → Lacking s S y
+lacking-on f L =
+    record {
+      ghost = L .ghost;
+      run = L .run;
+      inv = L .inv;
+      none-free = L .none-free;
+      region = L .region;
+      words = L .words;
+      known = L .known;
+      wants = L .wants;
+      over = f (L .over);
+    }
 
 -- the word w became v
 pub record Became (s : Store) (S : Sound s) (g : Ghost) (r : Run) (w v : ℕ) (r′ : Run) : Type 0 where

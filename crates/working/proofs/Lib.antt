@@ -31,3 +31,6 @@ pub mod Ending
 pub mod Views
 pub mod Counting
 pub mod Collecting
+pub mod Wanting
+pub mod Dry
+pub mod Refused

@@ -1,4 +1,5 @@
--- The log of a collection: which value was copied where, and what its copy holds. An evacuation adds one entry.
+-- The log of a collection: which value was copied where, and what its copy holds. An evacuation adds one entry; the place of the copy is new,
+-- so what the log says of earlier copies stays.
 use Prim.Native.Nat.{ℕ, suc, _+_, _*_, _^_, _≤_, _<_, zero-le}
 use native.Mathlib.Nat.{add-zero}
 use native.Mathlib.Omega.{arith}

@@ -9,7 +9,6 @@ use mathlib.Core.Logic.{_≢_, _⊎_, inl, inr}
 use mathlib.Core.List.{List, List·Memᴰ}
 use lib.ListN.{length, set, take, drop, length-drop}
 use lib.Seq.{getD-set-same, getD-set-other, length-take-le, getD-take, getD-drop}
-use Rattle.working.proofs.Stored as S
 use Rattle.rules.specs.Words.{headOf, lengthBy}
 use Rattle.rules.specs.Memory.{Store, endOf, topOf}
 use Rattle.laws.specs.Lists.{at, put}

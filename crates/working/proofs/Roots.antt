@@ -18,7 +18,10 @@ use Rattle.working.proofs.Owned.{total}
 use Rattle.working.proofs.Log.{pointers}
 use Rattle.working.proofs.Next.{headOr}
 use Rattle.working.proofs.Aside.{stack-laid}
-use Rattle.working.proofs.Invariant.{Ghost, Kept, regionsOf, Waits, Pending, Inv, Later, later-refl, later-trans, Lacking, Became, Enough}
+use Rattle.working.specs.Unbounded.{evacuateFor, rootsFor, workFor, stackFor}
+use Rattle.working.proofs.Wanting.{follows-some, evacuate-follows}
+use Rattle.working.proofs.Dry.{roots-dry}
+use Rattle.working.proofs.Invariant.{lacking-on, Ghost, Kept, regionsOf, Waits, Pending, Inv, Later, later-refl, later-trans, Lacking, Became, Enough}
 use Rattle.working.proofs.Waking.{in-regions}
 use Rattle.working.proofs.Evacuating.{in-pointers, of-pointers}
 use Rattle.working.proofs.Evacuation.{evacuates}
@@ -53,18 +56,20 @@ module _ (s : Store) (S : Sound s) where
 
   pub evacuates-all : (ws : List ℕ) (g : Ghost) (r : Run) → Inv s S g r → ((i : ℕ) → i < length ws → Good n R (s .heap) (s .consts) (at ws i))
       → ((i : ℕ) → i < length ws → Reached (seen s) (s .roots) (at ws i))
-      → ((evacuateAll n ws r ≡ none) × Lacking s S) ⊎ ((vs : List ℕ) × (r′ : Run) × (evacuateAll n ws r ≡ some (vs, r′)) × AllBecame s S g r ws vs r′)
-  unfolding evacuateAll
+      → ((evacuateAll n ws r ≡ none) × Lacking s S (rootsFor n ws r)) ⊎ ((vs : List ℕ) × (r′ : Run) × (evacuateAll n ws r ≡ some (vs, r′)) × AllBecame s S g r ws vs r′)
+  unfolding evacuateAll rootsFor
   evacuates-all [] g r I good reached = inr ([], r, refl, record { ghost = g; inv = I; later = later-refl R g r; count = refl; rels = λ i b. absurd (omega arith) })
   evacuates-all (w ∷ ws) g r I good reached =
       go (λ g′ r′ I′. evacuates-all ws g′ r′ I′ (λ i b. good (suc i) (suc-le-suc b)) (λ i b. reached (suc i) (suc-le-suc b)))
       (evacuates s S g r I w (good 0 (suc-le-suc zero-le)) (reached 0 (suc-le-suc zero-le)))
     where
       Result : List ℕ → Ghost → Run → Type 0
-      Result xs h q = ((evacuateAll n xs q ≡ none) × Lacking s S) ⊎ ((vs : List ℕ) × (r′ : Run) × (evacuateAll n xs q ≡ some (vs, r′)) × AllBecame s S h q xs vs r′)
+      Result xs h q = ((evacuateAll n xs q ≡ none) × Lacking s S (rootsFor n xs q)) ⊎ ((vs : List ℕ) × (r′ : Run) × (evacuateAll n xs q ≡ some (vs, r′)) × AllBecame s S h q xs vs r′)
 
       then : (v : ℕ) (r₁ : Run) → evacuate n w r ≡ some (v, r₁) → (B : Became s S g r w v r₁) → Result ws (B .ghost) r₁ → Result (w ∷ ws) g r
-      then v r₁ e B (inl u) = inl (rw (e, evacuateAll, u .0), u .1)
+      then v r₁ e B (inl u) =
+          let t : evacuateFor n w r ≡ (v, r₁) = follows-some (v, r₁) (evacuate-follows n w r) e in
+          inl (rw (e, evacuateAll, u .0), lacking-on (λ y. rw t y) (u .1))
       then v r₁ e B (inr u) =
           let A = u .3 in
           inr (
@@ -85,8 +90,8 @@ module _ (s : Store) (S : Sound s) where
           each (suc i) b A = A .rels i (omega arith)
 
       go : ((g′ : Ghost) (r′ : Run) → Inv s S g′ r′ → Result ws g′ r′)
-          → ((evacuate n w r ≡ none) × Lacking s S) ⊎ ((v : ℕ) × (r₁ : Run) × (evacuate n w r ≡ some (v, r₁)) × Became s S g r w v r₁) → Result (w ∷ ws) g r
-      go rest (inl u) = inl (rw (u .0, evacuateAll), u .1)
+          → ((evacuate n w r ≡ none) × Lacking s S (evacuateFor n w r .1)) ⊎ ((v : ℕ) × (r₁ : Run) × (evacuate n w r ≡ some (v, r₁)) × Became s S g r w v r₁) → Result (w ∷ ws) g r
+      go rest (inl u) = inl (rw (u .0, evacuateAll), lacking-on (λ y. roots-dry n _ ws _ y) (u .1))
       go rest (inr u) = then (u .0) (u .1) (u .2) (u .3) (rest (u .3 .ghost) (u .1) (u .3 .inv))
 
   -- ---- the scan begins
@@ -144,11 +149,11 @@ module _ (s : Store) (S : Sound s) where
 
   -- the whole scan, from a state in which no region is being scanned and what waits costs no more than the log pays
   pub works-stack : (g : Ghost) (r : Run) → Inv s S g r → g .cur ≡ none → g .half ≡ none → total (g .todo) R + length (r .stack) ≤ 2 * length (g .log)
-      → ((workStack n r ≡ lacksPage) × Lacking s S) ⊎ ((r′ : Run) × (workStack n r ≡ finished r′) × Finished s S g r′)
-  unfolding workStack
+      → ((workStack n r ≡ lacksPage) × Lacking s S (stackFor n r)) ⊎ ((r′ : Run) × (workStack n r ≡ finished r′) × Finished s S g r′)
+  unfolding workStack stackFor
   works-stack g r I none-cur none-open cost = go (r .stack) refl
     where
-      go : (st : List Scan) → r .stack ≡ st → ((workStack n r ≡ lacksPage) × Lacking s S) ⊎ ((r′ : Run) × (workStack n r ≡ finished r′) × Finished s S g r′)
+      go : (st : List Scan) → r .stack ≡ st → ((workStack n r ≡ lacksPage) × Lacking s S (stackFor n r)) ⊎ ((r′ : Run) × (workStack n r ≡ finished r′) × Finished s S g r′)
       go [] e = inr (r, rw (e, workStack) (ap (λ st. finished (withStack r st)) e), record { ghost = g; inv = I; no-cur = none-cur; none-open = none-open; stack = e; log = λ x m. m })
       go (t ∷ ts) e = by (works s S f (scanning g (some (t .region))) (withStack r ts) (t .region) (entered-inv g r I none-cur t ts e) refl none-open enough)
         where
@@ -168,10 +173,13 @@ module _ (s : Store) (S : Sound s) where
           is : workStack n r ≡ work n f (t .region) a (withStack r ts)
           is = let W = I .pending .stacked t (rw e (List·Memᴰ·head refl)) in rw (e, workStack) (ap (λ x. work n f (t .region) x (withStack r ts)) (rw (W .begins)))
 
-          by : ((work n f (t .region) a (withStack r ts) ≡ lacksPage) × Lacking s S)
+          is-for : stackFor n r ≡ workFor n f (t .region) a (withStack r ts)
+          is-for = let W = I .pending .stacked t (rw e (List·Memᴰ·head refl)) in rw (e, stackFor) (ap (λ x. workFor n f (t .region) x (withStack r ts)) (rw (W .begins)))
+
+          by : ((work n f (t .region) a (withStack r ts) ≡ lacksPage) × Lacking s S (workFor n f (t .region) a (withStack r ts)))
               ⊎ ((r′ : Run) × (work n f (t .region) a (withStack r ts) ≡ finished r′) × Finished s S (scanning g (some (t .region))) r′)
-              → ((workStack n r ≡ lacksPage) × Lacking s S) ⊎ ((r′ : Run) × (workStack n r ≡ finished r′) × Finished s S g r′)
-          by (inl u) = inl (is ∙ u .0, u .1)
+              → ((workStack n r ≡ lacksPage) × Lacking s S (stackFor n r)) ⊎ ((r′ : Run) × (workStack n r ≡ finished r′) × Finished s S g r′)
+          by (inl u) = inl (is ∙ u .0, lacking-on (λ y. rw is-for y) (u .1))
           by (inr u) =
               let F = u .2 in
               inr (u .0, is ∙ u .1, record { ghost = F .ghost; inv = F .inv; no-cur = F .no-cur; none-open = F .none-open; stack = F .stack; log = F .log })

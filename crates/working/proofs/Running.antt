@@ -22,7 +22,10 @@ use Rattle.facts.proofs.Sound.{Sound}
 use Rattle.working.proofs.Owned.{total}
 use Rattle.working.proofs.Log.{pointers, Log}
 use Rattle.working.proofs.Next.{Row, row-last, Vals, vals-none}
-use Rattle.working.proofs.Invariant.{Ghost, Kept, Pending, Inv, Lacking}
+use Rattle.working.specs.Unbounded.{freshenFor, rootsFor, stackFor, unbounded}
+use Rattle.working.proofs.Wanting.{follows-some, ends-finished, fresh-follows, roots-follow, stack-ends}
+use Rattle.working.proofs.Dry.{Dry, roots-dry, stack-dry}
+use Rattle.working.proofs.Invariant.{lacking-on, Ghost, Kept, Pending, Inv, Lacking}
 use Rattle.working.proofs.Fresh.{Fresh, fresh-start}
 use Rattle.working.proofs.Freshening.{freshens}
 use Rattle.working.proofs.Roots.{rel-grows, AllBecame, evacuates-all, works-stack}
@@ -128,29 +131,33 @@ module _ (s : Store) (S : Sound s) (r : Run) (F : Fresh s S (s .ctl .regions) r)
 
 -- why a run is refused: fewer free pages than regions, or a page wanted later and none free
 pub data Refusing (s : Store) (S : Sound s) : Type 0 where
-  few : s .ctl .count < s .ctl .regions → Refusing s S
-  out : Lacking s S → Refusing s S
+  few : s .ctl .count < s .ctl .regions → Dry (length (s .heap) + 2 ^ s .ctl .n) (unbounded s) → Refusing s S
+  out : Lacking s S (unbounded s) → Refusing s S
 
 -- all is scanned; `roots` are the new roots
 pub record Ran (s : Store) (S : Sound s) (roots : List ℕ) (r : Run) : Type 0 where
   pub start : Ghost
   pub end : Finished s S start r
   pub count : length (s .roots) ≡ length roots
+  pub unbound : unbounded s ≡ r
   pub rels : (i : ℕ) → i < length (s .roots) → Rel (Kept s) (pointers (end .ghost .log)) (at (s .roots) i) (at roots i)
 
 module _ (s : Store) (S : Sound s) where
   pub runs : ((collected s ≡ refused s Refusal.NoPage) × Refusing s S)
       ⊎ ((roots : List ℕ) × (r : Run) × (collected s ≡ ending s roots (finished r)) × Ran s S roots r)
-  unfolding collected ending
+  unfolding collected ending unbounded
   runs = freshened (freshens s S (s .ctl .regions) 0 (begun s) (omega arith) (fresh-start s S))
     where
       Result : Type 0
       Result = ((collected s ≡ refused s Refusal.NoPage) × Refusing s S) ⊎ ((roots : List ℕ) × (r : Run) × (collected s ≡ ending s roots (finished r)) × Ran s S roots r)
 
+      fresh-is : (r : Run) → freshen (s .ctl .n) (s .ctl .regions) 0 (begun s) ≡ some r → freshenFor (s .ctl .n) (s .ctl .regions) 0 (begun s) ≡ r
+      fresh-is r e = follows-some r (fresh-follows (s .ctl .n) (s .ctl .regions) 0 (begun s)) e
+
       scanned : (r : Run) (F : Fresh s S (s .ctl .regions) r) → freshen (s .ctl .n) (s .ctl .regions) 0 (begun s) ≡ some r
           → (roots : List ℕ) (r₁ : Run) → evacuateAll (s .ctl .n) (s .roots) r ≡ some (roots, r₁) → (A : AllBecame s S (first s S r F) r (s .roots) roots r₁)
-          → ((workStack (s .ctl .n) r₁ ≡ lacksPage) × Lacking s S) ⊎ ((r₂ : Run) × (workStack (s .ctl .n) r₁ ≡ finished r₂) × Finished s S (A .ghost) r₂) → Result
-      scanned r F e roots r₁ e₁ A (inl u) = inl (rw (e, collected, e₁, u .0), out (u .1))
+          → ((workStack (s .ctl .n) r₁ ≡ lacksPage) × Lacking s S (stackFor (s .ctl .n) r₁)) ⊎ ((r₂ : Run) × (workStack (s .ctl .n) r₁ ≡ finished r₂) × Finished s S (A .ghost) r₂) → Result
+      scanned r F e roots r₁ e₁ A (inl u) = inl (rw (e, collected, e₁, u .0), out (lacking-on (λ y. rw (fresh-is r e, roots-follow (s .ctl .n) (s .roots) roots r r₁ e₁) y) (u .1)))
       scanned r F e roots r₁ e₁ A (inr u) =
           inr (
             roots,
@@ -160,14 +167,15 @@ module _ (s : Store) (S : Sound s) where
               start = A .ghost;
               end = u .2;
               count = A .count;
+              unbound = rw (fresh-is r e, roots-follow (s .ctl .n) (s .roots) roots r r₁ e₁) (ends-finished (u .0) (stack-ends (s .ctl .n) r₁) (u .1));
               rels = λ i b. rel-grows (A .ghost .log) (u .2 .ghost .log) (u .2 .log) (A .rels i b);
             },
           )
 
       rooted : (r : Run) (F : Fresh s S (s .ctl .regions) r) → freshen (s .ctl .n) (s .ctl .regions) 0 (begun s) ≡ some r
-          → ((evacuateAll (s .ctl .n) (s .roots) r ≡ none) × Lacking s S)
+          → ((evacuateAll (s .ctl .n) (s .roots) r ≡ none) × Lacking s S (rootsFor (s .ctl .n) (s .roots) r))
           ⊎ ((roots : List ℕ) × (r₁ : Run) × (evacuateAll (s .ctl .n) (s .roots) r ≡ some (roots, r₁)) × AllBecame s S (first s S r F) r (s .roots) roots r₁) → Result
-      rooted r F e (inl u) = inl (rw (e, collected, u .0), out (u .1))
+      rooted r F e (inl u) = inl (rw (e, collected, u .0), out (lacking-on (λ y. rw (fresh-is r e) (stack-dry (s .ctl .n) (length (s .heap) + 2 ^ s .ctl .n) (rootsFor (s .ctl .n) (s .roots) r) y)) (u .1)))
       rooted r F e (inr u) =
           let A = u .3 in
           let cost = A .later .cost in
@@ -175,9 +183,16 @@ module _ (s : Store) (S : Sound s) where
           let d : length (r .stack) ≡ 0 = ap length (F .stack) in
           scanned r F e (u .0) (u .1) (u .2) A (works-stack s S (A .ghost) (u .1) (A .inv) (A .later .cur) (A .later .half) (omega arith))
 
-      freshened : ((freshen (s .ctl .n) (s .ctl .regions) 0 (begun s) ≡ none) × (s .ctl .count < s .ctl .regions))
+      freshened : ((freshen (s .ctl .n) (s .ctl .regions) 0 (begun s) ≡ none) × (s .ctl .count < s .ctl .regions)
+          × Dry (length (s .heap) + 2 ^ s .ctl .n) (freshenFor (s .ctl .n) (s .ctl .regions) 0 (begun s)))
           ⊎ ((r : Run) × (freshen (s .ctl .n) (s .ctl .regions) 0 (begun s) ≡ some r) × Fresh s S (s .ctl .regions) r) → Result
-      freshened (inl u) = inl (rw (u .0, collected), few (u .1))
+      freshened (inl u) =
+          inl (
+            rw (u .0, collected),
+            few (u .1)
+                (stack-dry (s .ctl .n) (length (s .heap) + 2 ^ s .ctl .n) (rootsFor (s .ctl .n) (s .roots) (freshenFor (s .ctl .n) (s .ctl .regions) 0 (begun s)))
+                (roots-dry (s .ctl .n) (length (s .heap) + 2 ^ s .ctl .n) (s .roots) (freshenFor (s .ctl .n) (s .ctl .regions) 0 (begun s)) (u .2))),
+          )
       freshened (inr u) =
           let r = u .0 in
           let F = u .2 in

@@ -23,7 +23,10 @@ use Rattle.facts.proofs.Looked.{look-at}
 use Rattle.facts.proofs.Sound.{Good, Sound}
 use Rattle.working.proofs.Owned.{old≢beyond}
 use Rattle.working.proofs.Log.{Copy}
-use Rattle.working.proofs.Invariant.{Ghost, Kept, Inv, Later, later-trans, Lacking, Became}
+use Rattle.working.specs.Unbounded.{evacuateFor, fieldSet, fieldsFor}
+use Rattle.working.proofs.Wanting.{follows-some, evacuate-follows}
+use Rattle.working.proofs.Dry.{Dry, field-dry, fields-dry}
+use Rattle.working.proofs.Invariant.{lacking-on, Ghost, Kept, Inv, Later, later-trans, Lacking, Became}
 use Rattle.working.proofs.Evacuation.{evacuates}
 use Rattle.working.proofs.Fielding.{counted, field-inv}
 
@@ -122,10 +125,10 @@ module _ (s : Store) (S : Sound s) (g₀ : Ghost) (r₀ : Run) (c d l : ℕ) whe
         }
 
     abbrev Result : Run → ℕ → ℕ → Type 0
-    Result r m i = ((scanFields (s .ctl .n) m (d + suc i) r ≡ none) × Lacking s S) ⊎ ((r′ : Run) × (scanFields (s .ctl .n) m (d + suc i) r ≡ some r′) × Ready r′ l)
+    Result r m i = ((scanFields (s .ctl .n) m (d + suc i) r ≡ none) × Lacking s S (fieldsFor (s .ctl .n) m (d + suc i) r)) ⊎ ((r′ : Run) × (scanFields (s .ctl .n) m (d + suc i) r ≡ some r′) × Ready r′ l)
 
     pub scans-fields : (m : ℕ) (r : Run) (i : ℕ) → i + m ≡ l → Ready r i → Result r m i
-    unfolding scanFields
+    unfolding scanFields fieldsFor
     scans-fields zero r i e Q = let q : i ≡ l = omega arith in inr (r, refl, rw q at Q)
     scans-fields (suc m) r i e Q =
         let I = Q .inv in
@@ -144,16 +147,34 @@ module _ (s : Store) (S : Sound s) (g₀ : Ghost) (r₀ : Run) (c d l : ℕ) whe
             let t : suc (d + suc i) ≡ d + suc (suc i) = omega arith in
             rw (q′, scanFields) (ap (λ x. scanFields (s .ctl .n) m x (withHeap r′ (set (r′ .heap) (d + suc i) v))) t)
 
-        up : (r′ : Run) → scanFields (s .ctl .n) (suc m) (d + suc i) r ≡ scanFields (s .ctl .n) m (d + suc (suc i)) r′ → Result r′ m (suc i) → Result r (suc m) i
-        up r′ q (inl u) = inl (q ∙ u .0, u .1)
-        up r′ q (inr u) = inr (u .0, q ∙ u .1, u .2)
+        -- and so goes the working with as many pages as it wants
+        step-for : (v : ℕ) (r′ : Run) → evacuate (s .ctl .n) (at (s .heap) (c + suc i)) r ≡ some (v, r′)
+            → fieldsFor (s .ctl .n) (suc m) (d + suc i) r ≡ fieldsFor (s .ctl .n) m (d + suc (suc i)) (withHeap r′ (set (r′ .heap) (d + suc i) v))
+        step-for v r′ q =
+            let e : evacuateFor (s .ctl .n) (at (s .heap) (c + suc i)) r ≡ (v, r′) = follows-some (v, r′) (evacuate-follows (s .ctl .n) (at (s .heap) (c + suc i)) r) q in
+            let t : suc (d + suc i) ≡ d + suc (suc i) = omega arith in
+            rw (w-is, e) (ap (λ x. fieldsFor (s .ctl .n) m x (withHeap r′ (set (r′ .heap) (d + suc i) v))) t)
+
+        up : (r′ : Run) → scanFields (s .ctl .n) (suc m) (d + suc i) r ≡ scanFields (s .ctl .n) m (d + suc (suc i)) r′
+            → fieldsFor (s .ctl .n) (suc m) (d + suc i) r ≡ fieldsFor (s .ctl .n) m (d + suc (suc i)) r′ → Result r′ m (suc i) → Result r (suc m) i
+        up r′ q t (inl u) = inl (q ∙ u .0, lacking-on (λ y. rw t y) (u .1))
+        up r′ q t (inr u) = inr (u .0, q ∙ u .1, u .2)
+
+        long : ℕ
+        long = length (s .heap) + 2 ^ s .ctl .n
+
+        on : Dry long (evacuateFor (s .ctl .n) (at (s .heap) (c + suc i)) r .1) → Dry long (fieldsFor (s .ctl .n) (suc m) (d + suc i) r)
+        on y =
+            let y′ : Dry long (evacuateFor (s .ctl .n) (at (r .heap) (d + suc i)) r .1) = rw w-is y in
+            fields-dry (s .ctl .n) long m (suc (d + suc i)) (fieldSet (s .ctl .n) (d + suc i) (evacuateFor (s .ctl .n) (at (r .heap) (d + suc i)) r))
+            (field-dry (s .ctl .n) long (d + suc i) (evacuateFor (s .ctl .n) (at (r .heap) (d + suc i)) r) y′)
 
         go : ((r′ : Run) → Ready r′ (suc i) → Result r′ m (suc i))
-            → ((evacuate (s .ctl .n) (at (s .heap) (c + suc i)) r ≡ none) × Lacking s S)
+            → ((evacuate (s .ctl .n) (at (s .heap) (c + suc i)) r ≡ none) × Lacking s S (evacuateFor (s .ctl .n) (at (s .heap) (c + suc i)) r .1))
             ⊎ ((v : ℕ) × (r′ : Run) × (evacuate (s .ctl .n) (at (s .heap) (c + suc i)) r ≡ some (v, r′)) × Became s S (Q .ghost) r (at (s .heap) (c + suc i)) v r′)
             → Result r (suc m) i
         go rest (inl q) =
             let q′ : evacuate (s .ctl .n) (at (r .heap) (d + suc i)) r ≡ none = ap (λ x. evacuate (s .ctl .n) x r) w-is ∙ q .0 in
-            inl (rw (q′, scanFields), q .1)
+            inl (rw (q′, scanFields), lacking-on on (q .1))
         go rest (inr u) =
-            up _ (step (u .0) (u .1) (u .2)) (rest (withHeap (u .1) (set (u .1 .heap) (d + suc i) (u .0))) (stepped (omega arith) Q (u .0) (u .1) (u .3)))
+            up _ (step (u .0) (u .1) (u .2)) (step-for (u .0) (u .1) (u .2)) (rest (withHeap (u .1) (set (u .1 .heap) (d + suc i) (u .0))) (stepped (omega arith) Q (u .0) (u .1) (u .3)))

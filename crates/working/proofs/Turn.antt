@@ -20,7 +20,8 @@ use Rattle.facts.proofs.Sound.{Sound}
 use Rattle.working.proofs.Owned.{mine-inj, total, total-tail}
 use Rattle.working.proofs.Next.{Row}
 use Rattle.working.proofs.Rows.{InRow, row-in, row-once, pages-differ}
-use Rattle.working.proofs.Invariant.{Ghost, Waits, Pending, Inv, Later, later-refl, Lacking}
+use Rattle.working.specs.Unbounded.{fieldsFor, valueFor}
+use Rattle.working.proofs.Invariant.{lacking-on, Ghost, Waits, Pending, Inv, Later, later-refl, Lacking}
 use Rattle.working.proofs.Scanning.{Ready, scans-fields}
 
 -- the copy at b, the first that waits in region j, is being scanned; ts wait behind it
@@ -234,8 +235,8 @@ module _ (s : Store) (S : Sound s) (g : Ghost) (r : Run) (I : Inv s S g r) (j b 
         cost = omega arith;
       }
 
-  by-head : (y : Head) → headOf (at (r .heap) b) ≡ y → ((scanValue (s .ctl .n) b r ≡ none) × Lacking s S) ⊎ ((r′ : Run) × (scanValue (s .ctl .n) b r ≡ some r′) × Turned s S g r j b r′)
-  unfolding scanValue
+  by-head : (y : Head) → headOf (at (r .heap) b) ≡ y → ((scanValue (s .ctl .n) b r ≡ none) × Lacking s S (valueFor (s .ctl .n) b r)) ⊎ ((r′ : Run) × (scanValue (s .ctl .n) b r ≡ some r′) × Turned s S g r j b r′)
+  unfolding scanValue valueFor
   by-head (raw l) e =
       inr (r, rw (e, scanValue), turned start (later-refl _ _ _) (λ k q. let z : raw l ≡ rec k = sym e ∙ q in let z′ : _≡_ {A = ℕ} 0 1 = cc in absurd (omega arith)))
   by-head (rec l) e = go (scans-fields s S (opened g j b ts) r c b l (ap headOf (sym header) ∙ e) l r 0 (omega arith) ready)
@@ -255,6 +256,9 @@ module _ (s : Store) (S : Sound s) (g : Ghost) (r : Run) (I : Inv s S g r) (j b 
       is : scanValue (s .ctl .n) b r ≡ scanFields (s .ctl .n) l (b + suc 0) r
       is = let q : suc b ≡ b + suc 0 = omega arith in rw (e, scanValue) (ap (λ x. scanFields (s .ctl .n) l x r) q)
 
+      is-for : valueFor (s .ctl .n) b r ≡ fieldsFor (s .ctl .n) l (b + suc 0) r
+      is-for = let q : suc b ≡ b + suc 0 = omega arith in rw (e, valueFor) (ap (λ x. fieldsFor (s .ctl .n) l x r) q)
+
       full : (r′ : Run) (Q : Ready s S (opened g j b ts) r c b l r′ l) (k : ℕ) → headOf (at (r′ .heap) b) ≡ rec k → k ≤ Q .ghost .count b
       full r′ Q k q =
           let t : rec k ≡ rec l = sym q ∙ ap headOf (Q .inv .logged .copies (Q .entry) .head ∙ sym header) ∙ e in
@@ -262,9 +266,9 @@ module _ (s : Store) (S : Sound s) (g : Ghost) (r : Run) (I : Inv s S g r) (j b 
           let w = Q .next in
           omega arith
 
-      go : ((scanFields (s .ctl .n) l (b + suc 0) r ≡ none) × Lacking s S) ⊎ ((r′ : Run) × (scanFields (s .ctl .n) l (b + suc 0) r ≡ some r′) × Ready s S (opened g j b ts) r c b l r′ l)
-          → ((scanValue (s .ctl .n) b r ≡ none) × Lacking s S) ⊎ ((r′ : Run) × (scanValue (s .ctl .n) b r ≡ some r′) × Turned s S g r j b r′)
-      go (inl u) = inl (is ∙ u .0, u .1)
+      go : ((scanFields (s .ctl .n) l (b + suc 0) r ≡ none) × Lacking s S (fieldsFor (s .ctl .n) l (b + suc 0) r)) ⊎ ((r′ : Run) × (scanFields (s .ctl .n) l (b + suc 0) r ≡ some r′) × Ready s S (opened g j b ts) r c b l r′ l)
+          → ((scanValue (s .ctl .n) b r ≡ none) × Lacking s S (valueFor (s .ctl .n) b r)) ⊎ ((r′ : Run) × (scanValue (s .ctl .n) b r ≡ some r′) × Turned s S g r j b r′)
+      go (inl u) = inl (is ∙ u .0, lacking-on (λ y. rw is-for y) (u .1))
       go (inr u) = inr (u .0, is ∙ u .1, turned (u .2 .inv) (u .2 .later) (full (u .0) (u .2)))
   by-head (moved k) e = no-head (sym (ap lengthBy e) ∙ I .logged .copies m .into-stands .head)
     where
@@ -275,5 +279,5 @@ module _ (s : Store) (S : Sound s) (g : Ghost) (r : Run) (I : Inv s S g r) (j b 
       no-head : {A : Type 0} {l : ℕ} → none ≡ some l → A
       no-head z = let z′ : _≡_ {A = ℕ} 0 1 = cc in absurd (omega arith)
 
-  pub scans-value : ((scanValue (s .ctl .n) b r ≡ none) × Lacking s S) ⊎ ((r′ : Run) × (scanValue (s .ctl .n) b r ≡ some r′) × Turned s S g r j b r′)
+  pub scans-value : ((scanValue (s .ctl .n) b r ≡ none) × Lacking s S (valueFor (s .ctl .n) b r)) ⊎ ((r′ : Run) × (scanValue (s .ctl .n) b r ≡ some r′) × Turned s S g r j b r′)
   scans-value = by-head (headOf (at (r .heap) b)) refl

@@ -25,7 +25,10 @@ use Rattle.working.proofs.Owned.{old≢beyond}
 use Rattle.working.proofs.Log.{olds, in-olds}
 use Rattle.working.proofs.Next.{Row, headOr, After, after-here, after-there, next-row}
 use Rattle.working.proofs.Rows.{InRow, row-in}
-use Rattle.working.proofs.Invariant.{Ghost, regionsOf, Inv, Lacking, Enough}
+use Rattle.working.specs.Unbounded.{valueFor, workFor}
+use Rattle.working.proofs.Wanting.{follows-some, value-follows}
+use Rattle.working.proofs.Dry.{work-dry}
+use Rattle.working.proofs.Invariant.{lacking-on, Ghost, regionsOf, Inv, Lacking, Enough}
 use Rattle.working.proofs.Turn.{Turned, scans-value}
 use Rattle.working.proofs.Leaving.{scanning, left, left-last, left-next}
 
@@ -117,12 +120,12 @@ module _ (s : Store) (S : Sound s) where
         (subst (λ xs. Row n (r .heap) (g .fin) (g .pages j) (xs ++ g .todo j)) e (I .pending .rows j jR)) (mid past)
 
   abbrev Result : Ghost → Run → ℕ → ℕ → ℕ → Type 0
-  Result g r f j a = ((work n f j a r ≡ lacksPage) × Lacking s S) ⊎ ((r′ : Run) × (work n f j a r ≡ finished r′) × Finished s S g r′)
+  Result g r f j a = ((work n f j a r ≡ lacksPage) × Lacking s S (workFor n f j a r)) ⊎ ((r′ : Run) × (work n f j a r ≡ finished r′) × Finished s S g r′)
 
   -- ---- all of it
   pub works : (f : ℕ) (g : Ghost) (r : Run) (j : ℕ) → Inv s S g r → g .cur ≡ some j → g .half ≡ none → Enough s g r f
       → Result g r f j (headOr (topOf (r .table) j) (g .todo j))
-  unfolding work
+  unfolding work workFor
   works zero g r j I cur shut enough = let a = log-bound g r I in let b = enough .steps in absurd (omega arith)
   works (suc f) g r j I cur shut enough = go (g .todo j) refl (λ g′ r′ i. works f g′ r′ i)
     where
@@ -132,9 +135,10 @@ module _ (s : Store) (S : Sound s) where
       Rest : Type 0
       Rest = (g′ : Ghost) (r′ : Run) (i : ℕ) → Inv s S g′ r′ → g′ .cur ≡ some i → g′ .half ≡ none → Enough s g′ r′ f → Result g′ r′ f i (headOr (topOf (r′ .table) i) (g′ .todo i))
 
-      up : (g′ : Ghost) (r′ : Run) (i a a′ : ℕ) → ((x : Moved) → List·Memᴰ x (g .log) → List·Memᴰ x (g′ .log)) → work n (suc f) j a r ≡ work n f i a′ r′ → Result g′ r′ f i a′ → Result g r (suc f) j a
-      up g′ r′ i a a′ grew e (inl u) = inl (e ∙ u .0, u .1)
-      up g′ r′ i a a′ grew e (inr u) =
+      up : (g′ : Ghost) (r′ : Run) (i a a′ : ℕ) → ((x : Moved) → List·Memᴰ x (g .log) → List·Memᴰ x (g′ .log)) → work n (suc f) j a r ≡ work n f i a′ r′ → workFor n (suc f) j a r ≡ workFor n f i a′ r′
+          → Result g′ r′ f i a′ → Result g r (suc f) j a
+      up g′ r′ i a a′ grew e t (inl u) = inl (e ∙ u .0, lacking-on (λ y. rw t y) (u .1))
+      up g′ r′ i a a′ grew e t (inr u) =
           let F = u .2 in
           inr (u .0, e ∙ u .1, record { ghost = F .ghost; inv = F .inv; no-cur = F .no-cur; none-open = F .none-open; stack = F .stack; log = λ x m. F .log x (grew x m) })
 
@@ -152,22 +156,23 @@ module _ (s : Store) (S : Sound s) where
           let b = enough .steps in
           let d : length (r .stack) ≡ suc (length ts) = ap length q in
           let a : t .address ≡ headOr (topOf (r′ .table) (t .region)) (g .todo (t .region)) = rw (W .begins) in
-          up g′ r′ (t .region) (topOf (r .table) j) (headOr (topOf (r′ .table) (t .region)) (g .todo (t .region))) (λ x m. m) (rw (p, work, q) (ap (λ x. work n f (t .region) x r′) a))
+          up g′ r′ (t .region) (topOf (r .table) j) (headOr (topOf (r′ .table) (t .region)) (g .todo (t .region))) (λ x m. m) (rw (p, work, q) (ap (λ x. work n f (t .region) x r′) a)) (rw (p, workFor, q) (ap (λ x. workFor n f (t .region) x r′) a))
           (rest g′ r′ (t .region) (left-next s S g r I j cur e t ts q) refl shut (record { steps = omega arith }))
 
       -- a copy is scanned
-      scan : (b : ℕ) (ts : List ℕ) → g .todo j ≡ b ∷ ts → Rest → ((scanValue n b r ≡ none) × Lacking s S) ⊎ ((r′ : Run) × (scanValue n b r ≡ some r′) × Turned s S g r j b r′) → Result g r (suc f) j b
+      scan : (b : ℕ) (ts : List ℕ) → g .todo j ≡ b ∷ ts → Rest → ((scanValue n b r ≡ none) × Lacking s S (valueFor n b r)) ⊎ ((r′ : Run) × (scanValue n b r ≡ some r′) × Turned s S g r j b r′) → Result g r (suc f) j b
       scan b ts e rest (inl u) =
           let p : eqb b (topOf (r .table) j) ≡ false = ne-eqb b (topOf (r .table) j) (not-top g r I j jR b (rw e (List·Memᴰ·head refl))) in
-          inl (rw (p, work, u .0), u .1)
+          inl (rw (p, work, u .0), lacking-on (λ y. rw (p, workFor) (work-dry n _ f j _ _ y)) (u .1))
       scan b ts e rest (inr u) =
           let p : eqb b (topOf (r .table) j) ≡ false = ne-eqb b (topOf (r .table) j) (not-top g r I j jR b (rw e (List·Memᴰ·head refl))) in
           let r₁ : Run = u .0 in
           let T = u .2 in
           let a : nextScan n j b r₁ ≡ headOr (topOf (r₁ .table) j) (T .ghost .todo j) = next (T .ghost) r₁ (T .inv) j jR (g .past j) b (T .past) in
+          let v : valueFor n b r ≡ r₁ = follows-some r₁ (value-follows n b r) (u .1) in
           let c = T .cost in
           let d = enough .steps in
-          up (T .ghost) r₁ j b (headOr (topOf (r₁ .table) j) (T .ghost .todo j)) (T .log) (rw (p, work, u .1) (ap (λ x. work n f j x r₁) a))
+          up (T .ghost) r₁ j b (headOr (topOf (r₁ .table) j) (T .ghost .todo j)) (T .log) (rw (p, work, u .1) (ap (λ x. work n f j x r₁) a)) (rw (p, workFor, v) (ap (λ x. workFor n f j x r₁) a))
           (rest (T .ghost) r₁ j (T .inv) (T .cur) (T .none-open) (record { steps = omega arith }))
 
       go : (xs : List ℕ) → g .todo j ≡ xs → Rest → Result g r (suc f) j (headOr (topOf (r .table) j) xs)
