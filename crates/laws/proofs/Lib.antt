@@ -2,3 +2,4 @@ pub mod Loops
 pub mod Lists
 pub mod Tests
 pub mod Each
+pub mod Parts

@@ -3,4 +3,5 @@ pub mod Limits
 pub mod Stepping
 pub mod Chains
 pub mod Good
+pub mod Pages
 pub mod Soundings

@@ -7,7 +7,7 @@ use lib.Dec.{leb, eqb}
 use Rattle.laws.proofs.Tests.{both}
 use native.Mathlib.Omega.{arith}
 use native.Mathlib.Nat.{mul-le-mul-right, div-add-mod', div-lt-iff-lt-mul}
-use lib.Pow.{pow-mono}
+use lib.Pow.{pow-mono, shr-le}
 use Rattle.rules.specs.declared.Control.{Control}
 use Rattle.rules.specs.Memory.{limits}
 use Rattle.rules.specs.Refusals.{common, Paged, Admitted}
@@ -36,6 +36,10 @@ page-inside n h p k q g b =
       size = g .size;
     })
 
+-- a page's number is small enough for its address
+pub page-number : (n h k : ℕ) → Paged n h → k < h / 2 ^ n → (k ≤ 65536) × (n ≤ 8)
+page-number n h k g b = (omega (arith, shr-le h n, g .size), g .high)
+
 -- the page of address a lies inside
 pub in-page : (n h p a : ℕ) → p ≡ 2 ^ n → Paged n h → a < h → Inside p (a / p * p) h
 in-page n h p a q g b =
@@ -44,6 +48,18 @@ in-page n h p a q g b =
     page-inside n h p (a / p) q g (rw q d)
 
 -- ---- the tests of every call, as facts
+
+pub exponent : (n h t r k : ℕ) → limits n h t r k ≡ true → (4 ≤ n) × (n ≤ 8)
+unfolding limits
+exponent n h t r k l =
+    let (l7, k1) = both l in
+    let (l6, r1) = both l7 in
+    let (l5, t1) = both l6 in
+    let (l4, h1) = both l5 in
+    let (l3, w2) = both l4 in
+    let (l2, w1) = both l3 in
+    let (n4, n8) = both l2 in
+    (leb-true _ _ n4, leb-true _ _ n8)
 
 -- first and count are 0 together
 both-some : (f k : ℕ) → Bool·beq (eqb f 0) (eqb k 0) ≡ true → 0 < k → 0 < f
