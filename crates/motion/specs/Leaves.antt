@@ -1,6 +1,6 @@
 -- The collection at work, its leaves: the heap and the notes, and what it reads and writes in them. Each is total by one test: what would leave
 -- the heap does nothing. So the work is defined for every heap, sound or not.
-use Prim.Native.Nat.{ℕ, _+_, _-_, _*_, _%_}
+use Prim.Native.Nat.{ℕ, _+_, _-_, _*_, _%_, _<_}
 use mathlib.Core.Bool.{Bool, true, false, _&&_, _||_}
 use mathlib.Core.List.{List}
 use lib.ListN.{length, take, drop, set, replicate}
@@ -109,6 +109,12 @@ abbrev pub onStep : {A : Type 0} → Step → (ℕ → ℕ → A) → A → A �
 onStep (Step.Go j s) f a b = f (j .0) (s .0)
 onStep Step.Finished f a b = a
 onStep Step.NoPage f a b = b
+
+-- what a step goes on with fits into words
+abbrev pub Narrow : Step → Type 0
+Narrow (Step.Go j s) = (j .0 < 4294967296) × (s .0 < 4294967296)
+Narrow Step.Finished = Unit {0}
+Narrow Step.NoPage = Unit {0}
 
 -- i is the depth
 unfoldable pub popOn : ℕ → List ℕ → After Step (List ℕ)

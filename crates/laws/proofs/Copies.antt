@@ -1,0 +1,49 @@
+-- A copy made word by word: what was copied so far, one word more, and the whole. `paste d b s i` is d with its words from b on replaced by the first
+-- i words of s. A word that is read from the same list lies outside the words written so far, because the two parts lie apart.
+use Prim.Native.Nat.{ℕ, suc, _+_, _-_, _≤_, _<_}
+use mathlib.Core.Path.{_≡_, refl, sym, ap, _∙_}
+use mathlib.Core.Logic.{_⊎_, inl, inr, ⊎-elim}
+use mathlib.Core.List.{List, append-nil}
+use native.Mathlib.Omega.{arith}
+use native.Mathlib.Numerals.{add-one}
+use lib.ListN.{length, take, drop, set, length-drop}
+use lib.Seq.{paste, paste-suc, length-take-le, getD-drop, drop-length}
+use Rattle.laws.specs.Lists.{at, put}
+use Rattle.laws.proofs.Lists.{at-put-below, at-put-above}
+
+pub paste-put : (h : List ℕ) (b : ℕ) (s : List ℕ) (i : ℕ) → i ≤ length s → paste h b s i ≡ put h b (take i s)
+unfolding put
+paste-put h b s i l = rw (length-take-le i s l)
+
+-- a word outside the part written
+at-paste : (h : List ℕ) (b : ℕ) (s : List ℕ) (i x : ℕ) → i ≤ length s → b + i ≤ length h → (x < b) ⊎ (b + i ≤ x) → at (paste h b s i) x ≡ at h x
+at-paste h b s i x l m w =
+    let q : length (take i s) ≡ i = length-take-le i s l in
+    rw (paste-put h b s i l)
+    (⊎-elim (λ u. at-put-below h b (take i s) x (omega arith) u) (λ u. at-put-above h b (take i s) x (omega arith) (omega arith)) w)
+
+-- one word more, from another list
+pub paste-more : (d : List ℕ) (b : ℕ) (s : List ℕ) (i v : ℕ) → b + i < length d → i < length s → v ≡ at s i
+    → set (paste d b s i) (b + i) v ≡ paste d b s (i + 1)
+paste-more d b s i v m l e = rw (e, add-one i) (paste-suc d b s i 0 m l)
+
+-- one word more, from the same list: m words at a go to b, which lies apart
+pub copy-more : (h : List ℕ) (a b m i v : ℕ) → i < m → a + m ≤ length h → b + m ≤ length h → (a + m ≤ b) ⊎ (b + m ≤ a)
+    → v ≡ at (paste h b (drop a h) i) (a + i) → set (paste h b (drop a h) i) (b + i) v ≡ paste h b (drop a h) (i + 1)
+copy-more h a b m i v l p q w e =
+    let k : length (drop a h) ≡ length h - a = length-drop a h in
+    let out : (a + i < b) ⊎ (b + i ≤ a + i) = ⊎-elim (λ u. inl (omega arith)) (λ u. inr (omega arith)) w in
+    paste-more h b (drop a h) i v (omega arith) (omega arith)
+    (e ∙ at-paste h b (drop a h) i (a + i) (omega arith) (omega arith) out ∙ sym (getD-drop a h i 0))
+
+-- the whole list replaced
+pub put-whole : (h ws : List ℕ) → length ws ≡ length h → put h 0 ws ≡ ws
+unfolding put
+put-whole h ws e = let q : 0 + length ws ≡ length h = omega arith in rw (q, drop-length h) (append-nil ws)
+
+-- all m words are there
+pub copy-done : (h : List ℕ) (a b m i : ℕ) → i ≤ m → m ≤ i → a + m ≤ length h → paste h b (drop a h) i ≡ put h b (take m (drop a h))
+copy-done h a b m i l l′ p =
+    let e : i ≡ m = omega arith in
+    let k : length (drop a h) ≡ length h - a = length-drop a h in
+    rw e (paste-put h b (drop a h) m (omega arith))
