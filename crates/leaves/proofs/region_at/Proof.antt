@@ -1,8 +1,8 @@
--- `copying::region_at` meets its contract: the origins 0 and 1 both give region 0, as the difference does.
+-- `leaves::region_at` meets its contract: the origins 0 and 1 both give region 0, as the difference does.
 use native.Mathlib.Omega.{arith}
 use borrow.Author.Needs.{needs}
-use Rattle.copying.proofs.region_at.Statement.{statement}
-use Rattle.copying.proofs.region_at.Tie as tie
+use Rattle.leaves.proofs.region_at.Statement.{statement}
+use Rattle.leaves.proofs.region_at.Tie as tie
 
 start-at-requires : tie.Need-start-at-requires
 start-at-requires c κs = search needs

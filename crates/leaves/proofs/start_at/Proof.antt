@@ -1,7 +1,7 @@
--- `copying::start_at` meets its contract: by its two callees.
+-- `leaves::start_at` meets its contract: by its two callees.
 use borrow.Author.Needs.{needs}
-use Rattle.copying.proofs.start_at.Statement.{statement}
-use Rattle.copying.proofs.start_at.Tie as tie
+use Rattle.leaves.proofs.start_at.Statement.{statement}
+use Rattle.leaves.proofs.start_at.Tie as tie
 
 address-page-requires : tie.Need-address-page-requires
 address-page-requires c κs = search needs

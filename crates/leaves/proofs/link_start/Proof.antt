@@ -1,7 +1,7 @@
--- `copying::link_start` meets its contract: the link 0 and the link 1 both give the first page, as the difference does.
+-- `leaves::link_start` meets its contract: the link 0 and the link 1 both give the first page, as the difference does.
 use borrow.Author.Needs.{needs}
-use Rattle.copying.proofs.link_start.Statement.{statement}
-use Rattle.copying.proofs.link_start.Tie as tie
+use Rattle.leaves.proofs.link_start.Statement.{statement}
+use Rattle.leaves.proofs.link_start.Tie as tie
 
 page-start-requires : tie.Need-page-start-requires
 page-start-requires c κs = search needs

@@ -1,10 +1,10 @@
--- `copying::word` meets its contract: a place outside reads 0 in the list too, and an element of the slice is a 32-bit word.
+-- `leaves::word` meets its contract: a place outside reads 0 in the list too, and an element of the slice is a 32-bit word.
 use mathlib.Core.Path.{refl, sym}
 use native.Mathlib.Omega.{arith}
 use lib.ListN.{List·getD-eq-default}
 use borrow.Author.Needs.{needs}
-use Rattle.copying.proofs.word.Statement.{statement}
-use Rattle.copying.proofs.word.Tie as tie
+use Rattle.leaves.proofs.word.Statement.{statement}
+use Rattle.leaves.proofs.word.Tie as tie
 
 returns : tie.Need-returns
 returns c = (sym (List·getD-eq-default (c .before .args .s .now) 0 (c .if1 .taken)), omega arith)

@@ -1,8 +1,8 @@
--- `copying::apart` meets its contract: it makes the definition's tests, and each decides where it stands.
+-- `leaves::apart` meets its contract: it makes the definition's tests, and each decides where it stands.
 use Rattle.laws.proofs.Tests.{tests}
 use borrow.Author.Needs.{needs}
-use Rattle.copying.proofs.apart.Statement.{statement}
-use Rattle.copying.proofs.apart.Tie as tie
+use Rattle.leaves.proofs.apart.Statement.{statement}
+use Rattle.leaves.proofs.apart.Tie as tie
 
 add-if1 : tie.Need-add-if1
 add-if1 c = search needs

@@ -1,9 +1,9 @@
--- `copying::wake` meets its contract: each write is one of the definition's, in its order.
+-- `leaves::wake` meets its contract: each write is one of the definition's, in its order.
 use Rattle.laws.proofs.Tests.{tests}
 use Rattle.motion.specs.Leaves.{wakeOn}
 use borrow.Author.Needs.{needs}
-use Rattle.copying.proofs.wake.Statement.{statement}
-use Rattle.copying.proofs.wake.Tie as tie
+use Rattle.leaves.proofs.wake.Statement.{statement}
+use Rattle.leaves.proofs.wake.Tie as tie
 
 word-requires : tie.Need-word-requires
 word-requires c κs = search needs

@@ -1,9 +1,9 @@
--- `copying::forward` meets its contract: the pointer to an address of a heap is a word.
+-- `leaves::forward` meets its contract: the pointer to an address of a heap is a word.
 use Rattle.laws.proofs.Tests.{tests}
 use Rattle.motion.specs.Leaves.{forwarded}
 use borrow.Author.Needs.{needs}
-use Rattle.copying.proofs.forward.Statement.{statement}
-use Rattle.copying.proofs.forward.Tie as tie
+use Rattle.leaves.proofs.forward.Statement.{statement}
+use Rattle.leaves.proofs.forward.Tie as tie
 
 returns : tie.Need-returns
 unfolding forwarded

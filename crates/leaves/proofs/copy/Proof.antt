@@ -1,4 +1,4 @@
--- `copying::copy` meets its contract: after i turns the first i words are pasted at b, and the words at a are still as they were.
+-- `leaves::copy` meets its contract: after i turns the first i words are pasted at b, and the words at a are still as they were.
 use Prim.Native.Nat.{_-_, _≤_}
 use mathlib.Core.Path.{_≡_, refl}
 use native.Mathlib.Omega.{arith}
@@ -8,8 +8,8 @@ use lib.Seq.{paste, paste-zero}
 use Rattle.laws.proofs.Copies.{copy-more, copy-done}
 use Rattle.motion.specs.Leaves.{copied}
 use Rattle.motion.proofs.Leaves.{Apart, apart-says}
-use Rattle.copying.proofs.copy.Statement.{statement}
-use Rattle.copying.proofs.copy.Tie as tie
+use Rattle.leaves.proofs.copy.Statement.{statement}
+use Rattle.leaves.proofs.copy.Tie as tie
 
 abbrev Inv-loop : tie.InvT-loop
 Inv-loop heap₀ m from to i₀ heap i = (heap ≡ paste heap₀ to (drop from heap₀) i) × (length heap ≡ length heap₀) × (i ≤ m)

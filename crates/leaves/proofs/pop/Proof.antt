@@ -1,9 +1,9 @@
--- `copying::pop` meets its contract: the entry is read before the depth falls.
+-- `leaves::pop` meets its contract: the entry is read before the depth falls.
 use Rattle.laws.proofs.Tests.{tests}
 use Rattle.motion.specs.Leaves.{popOn}
 use borrow.Author.Needs.{needs}
-use Rattle.copying.proofs.pop.Statement.{statement}
-use Rattle.copying.proofs.pop.Tie as tie
+use Rattle.leaves.proofs.pop.Statement.{statement}
+use Rattle.leaves.proofs.pop.Tie as tie
 
 word-requires : tie.Need-word-requires
 word-requires c κs = search needs

@@ -1,9 +1,9 @@
--- `copying::write` meets its contract: a place outside is set in no list.
+-- `leaves::write` meets its contract: a place outside is set in no list.
 use mathlib.Core.Path.{sym}
 use lib.Seq.{set-out}
 use borrow.Author.Needs.{needs}
-use Rattle.copying.proofs.write.Statement.{statement}
-use Rattle.copying.proofs.write.Tie as tie
+use Rattle.leaves.proofs.write.Statement.{statement}
+use Rattle.leaves.proofs.write.Tie as tie
 
 returns : tie.Need-returns
 returns c = sym (set-out _ _ _ (c .if1 .taken))

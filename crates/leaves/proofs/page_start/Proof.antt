@@ -1,4 +1,4 @@
--- `copying::page_start` meets its contract: the number of a page of a heap is at most 65,536, so its address fits; any other gives the number past every heap.
+-- `leaves::page_start` meets its contract: the number of a page of a heap is at most 65,536, so its address fits; any other gives the number past every heap.
 use Prim.Native.Nat.{_≤_, _^_}
 use native.Mathlib.Omega.{arith}
 use lib.Pow.{pow-mono}
@@ -6,8 +6,8 @@ use native.Mathlib.Nat.{mul-le-mul}
 use Rattle.laws.proofs.Tests.{tests}
 use Rattle.motion.specs.Leaves.{pageStart}
 use borrow.Author.Needs.{needs}
-use Rattle.copying.proofs.page_start.Statement.{statement}
-use Rattle.copying.proofs.page_start.Tie as tie
+use Rattle.leaves.proofs.page_start.Statement.{statement}
+use Rattle.leaves.proofs.page_start.Tie as tie
 
 page-address-requires : tie.Need-page-address-requires
 page-address-requires c κs = search needs
