@@ -1,7 +1,7 @@
 -- The laws of these loops: one turn more, the turn that ends it, nothing left. Each is one recursion, on its fuel or on its list.
 use Prim.Native.Nat.{ℕ, zero, suc, _+_, _-_, _<_, _≤_}
 use mathlib.Core.Bool.{Bool, true, false}
-use mathlib.Core.Path.{_≡_, refl, sym}
+use mathlib.Core.Path.{_≡_, refl, _∙_}
 use mathlib.Core.List.{List, [], _∷_}
 use native.Mathlib.Omega.{arith}
 use native.Mathlib.Numerals.{sub-one, add-one}
@@ -56,15 +56,19 @@ module _ {S : Type 0} where
 
   -- page k, which the link l names
   pub along-more : (f m : ℕ) (next : S → ℕ → ℕ) (g : ℕ → S → S) (l l′ k : ℕ) (s s′ : S)
-      → 0 < f → l ≡ k + 1 → k < m → l′ ≡ next s k → s′ ≡ g k s → along f m next g l s ≡ along (f - 1) m next g l′ s′
+      → 0 < f → l ≡ suc k → k < m → l′ ≡ next s k → s′ ≡ g k s → along f m next g l s ≡ along (f - 1) m next g l′ s′
   unfolding along
   along-more zero m next g l l′ k s s′ b e i q r = absurd (omega arith)
-  along-more (suc f) m next g l l′ k s s′ b e i q r = rw (sub-one (suc f), e, add-one k, along, lt-ltb k m i, r, q)
+  along-more (suc f) m next g l l′ k s s′ b e i q r = rw (sub-one (suc f), e, along, lt-ltb k m i, r, q)
 
-  pub along-past : (f m : ℕ) (next : S → ℕ → ℕ) (g : ℕ → S → S) (l k : ℕ) (s : S) → l ≡ k + 1 → m ≤ k → along f m next g l s ≡ s
+  pub along-past : (f m : ℕ) (next : S → ℕ → ℕ) (g : ℕ → S → S) (l k : ℕ) (s : S) → l ≡ suc k → m ≤ k → along f m next g l s ≡ s
   unfolding along
   along-past zero m next g l k s e i = refl
-  along-past (suc f) m next g l k s e i = rw (e, add-one k, along, le-ltb k m i)
+  along-past (suc f) m next g l k s e i = rw (e, along, le-ltb k m i)
+
+  pub along-far : (f m : ℕ) (next : S → ℕ → ℕ) (g : ℕ → S → S) (l : ℕ) (s : S) → m < l → along f m next g l s ≡ s
+  along-far f m next g zero s b = absurd (omega arith)
+  along-far f m next g (suc k) s b = along-past f m next g (suc k) k s refl (omega arith)
 
   pub along-none : (f m : ℕ) (next : S → ℕ → ℕ) (g : ℕ → S → S) (l : ℕ) (s : S) → l ≡ 0 → along f m next g l s ≡ s
   unfolding along
@@ -75,3 +79,8 @@ module _ {S : Type 0} where
   unfolding along
   along-end zero m next g l s b = refl
   along-end (suc f) m next g l s b = absurd (omega arith)
+
+  -- the last page: its link is 0
+  pub along-last : (f m : ℕ) (next : S → ℕ → ℕ) (g : ℕ → S → S) (l l′ k : ℕ) (s s′ : S)
+      → 0 < f → l ≡ suc k → k < m → l′ ≡ next s k → l′ ≡ 0 → s′ ≡ g k s → along f m next g l s ≡ s′
+  along-last f m next g l l′ k s s′ b e i q z r = along-more f m next g l l′ k s s′ b e i q r ∙ along-none (f - 1) m next g l′ s′ z

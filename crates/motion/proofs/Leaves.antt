@@ -1,9 +1,11 @@
 -- What the tests of the leaves say as facts.
-use Prim.Native.Nat.{ℕ, _+_, _≤_}
+use Prim.Native.Nat.{ℕ, _+_, _*_, _^_, _≤_}
 use mathlib.Core.Path.{_≡_, refl, sym, _∙_}
 use mathlib.Core.Logic.{_⊎_, inl, inr}
 use mathlib.Core.Bool.{Bool, true, false, _&&_, _||_}
+use native.Mathlib.Nat.{mul-le-mul}
 use lib.Dec.{leb}
+use lib.Pow.{pow-mono}
 use borrow.Author.Tests.{leb-true}
 use Rattle.laws.proofs.Tests.{both}
 use Rattle.motion.specs.Leaves.{apart}
@@ -26,3 +28,7 @@ apart-says m a b size t e q =
     let (x, y) = both (sym e ∙ q) in
     let (u, v) = both x in
     record { first = leb-true _ _ u; second = leb-true _ _ v; clear = either m a b y }
+
+-- a page of a heap starts at a small address
+pub page-below : (n k : ℕ) → n ≤ 8 → k ≤ 65536 → k * 2 ^ n ≤ 16777216
+page-below n k a b = mul-le-mul {n₁ = k} {m₁ = 2 ^ n} {n₂ = 65536} {m₂ = 256} b (pow-mono {j = 8} a)
