@@ -1,7 +1,9 @@
 pub mod Loops
 pub mod Lists
 pub mod Tests
+pub mod Each
 pub mod Parts
 pub mod Once
 pub mod Facts
 pub mod Sums
+pub mod Copies

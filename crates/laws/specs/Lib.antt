@@ -2,3 +2,4 @@ pub mod Choice
 pub mod Lists
 pub mod Loop
 pub mod Sums
+pub mod Each
