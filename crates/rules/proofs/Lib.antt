@@ -6,3 +6,4 @@ pub mod Good
 pub mod Whole
 pub mod Soundings
 pub mod Rows
+pub mod Pointers
