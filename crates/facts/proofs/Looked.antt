@@ -1,11 +1,11 @@
 -- What a pointer names, from where it stands: stepping through its page comes to the address, so the pointer is good, and the value is the
 -- words there.
-use Prim.Native.Nat.{ℕ, zero, suc, _+_, _*_, _/_, _%_, _^_, _≤_, _<_}
-use native.Mathlib.Nat.{add-assoc, mul-mod-right, mul-div-right}
+use Prim.Native.Nat.{ℕ, suc, _+_, _*_, _/_, _^_, _≤_, _<_}
+use native.Mathlib.Nat.{add-assoc}
 use native.Mathlib.Omega.{arith}
 use mathlib.Core.Path.{_≡_, refl, sym, ap, _∙_}
 use mathlib.Core.Bool.{true, false}
-use mathlib.Core.Option.{none, some}
+use mathlib.Core.Option.{none}
 use mathlib.Core.List.{List, []}
 use lib.ListN.{length, take, drop, length-drop}
 use lib.Seq.{getD-drop}
@@ -13,24 +13,13 @@ use lib.Dec.{leb}
 use borrow.Author.Tests.{le-leb}
 use Rattle.laws.specs.Lists.{at}
 use Rattle.rules.specs.Memory.{Store, origin, pageWords}
-use Rattle.rules.specs.Words.{Word, number, inHeap, inConst, wordOf, Head, rec, raw, moved, wrong, headOf, lengthBy, wordsBy, pageVals, goodOn, goodHeap, valueAt, look}
+use Rattle.rules.specs.Words.{Word, number, inHeap, inConst, wordOf, headOf, pageVals, goodOn, goodHeap, valueAt, look}
 use Rattle.rules.specs.Calls.{lookIn, isNumber}
+pub use Rattle.rules.proofs.Pointers.{pointer, pointer-is, words-of}
 use Rattle.rules.proofs.Chains.{length-page, at-page, page-of}
 use Rattle.facts.specs.View.{homeIn, seen}
 use Rattle.facts.proofs.Steps.{Stands, Steps, steps-le, Holds, stands-to}
 use Rattle.facts.proofs.Copied.{Plain}
-
--- a pointer to the heap
-pub pointer : (b : ℕ) → wordOf (4 * b) ≡ inHeap b
-unfolding wordOf
-pointer b = rw (mul-mod-right 4 b, mul-div-right b {m = 4} (omega arith))
-
--- the words that a value takes
-pub words-of : (x : Head) (l : ℕ) → lengthBy x ≡ some l → wordsBy x ≡ suc l
-words-of (rec m) l e = let q : m ≡ l = cc in ap suc q
-words-of (raw m) l e = let q : m ≡ l = cc in ap suc q
-words-of (moved b) l e = let z : _≡_ {A = ℕ} 0 1 = cc in absurd (omega arith)
-words-of wrong l e = let z : _≡_ {A = ℕ} 0 1 = cc in absurd (omega arith)
 
 -- the words of a page behind its descriptor
 pub page-holds : (n : ℕ) (h : List ℕ) (k : ℕ) → k * 2 ^ n + 2 ^ n ≤ length h → 2 ≤ 2 ^ n → Holds h (k * 2 ^ n + 2) (drop 2 (pageWords n h k))
@@ -85,14 +74,3 @@ seen-plain s = record { no-value = λ v e. none v (wordOf v) refl e; no-home = �
     homeless v number q e = unfold homeIn in (rw (q, homeIn))
     homeless v (inHeap a) q e = let z : false ≡ true = rw q at e in let z′ : _≡_ {A = ℕ} 0 1 = cc in absurd (omega arith)
     homeless v (inConst a) q e = let z : false ≡ true = rw q at e in let z′ : _≡_ {A = ℕ} 0 1 = cc in absurd (omega arith)
-
--- a word that points to the heap is the pointer to its address
-pub pointer-is : (w a : ℕ) → wordOf w ≡ inHeap a → w ≡ 4 * a
-unfolding wordOf
-pointer-is w a e = go (w % 4) refl
-  where
-    go : (x : ℕ) → w % 4 ≡ x → w ≡ 4 * a
-    go zero q = let t : inHeap (w / 4) ≡ inHeap a = rw q at e in let u : w / 4 ≡ a = cc in omega arith
-    go (suc zero) q = let t : number ≡ inHeap a = rw q at e in let z : _≡_ {A = ℕ} 0 1 = cc in absurd (omega arith)
-    go (suc (suc zero)) q = let t : inConst (w / 4) ≡ inHeap a = rw q at e in let z : _≡_ {A = ℕ} 0 1 = cc in absurd (omega arith)
-    go (suc (suc (suc x))) q = let t : number ≡ inHeap a = rw q at e in let z : _≡_ {A = ℕ} 0 1 = cc in absurd (omega arith)

@@ -10,3 +10,4 @@ pub mod Whole
 pub mod Soundings
 pub mod Fresh
 pub mod Rows
+pub mod Pointers

@@ -19,14 +19,14 @@ use Rattle.rules.specs.Words.{usedOf, pageVals}
 use Rattle.rules.specs.Audit.{usedOn, usedBy}
 use Rattle.facts.specs.View.{seen}
 use Rattle.facts.proofs.Steps.{Stands, Steps, here, over, steps-le, steps-then, apart}
-use Rattle.facts.proofs.Laid.{mine, Body}
+use Rattle.facts.proofs.Laid.{mine}
 use Rattle.facts.specs.Observed.{wordsAt}
 use Rattle.facts.proofs.Looked.{page-holds, page-ends, look-at, home-at}
 use Rattle.facts.proofs.Filled.{vals-used}
+use Rattle.facts.proofs.Framed.{below-end}
 use Rattle.facts.proofs.Sound.{Sound}
 use Rattle.facts.proofs.Passing.{pages-are}
 use Rattle.working.proofs.Owned.{mine≢beyond}
-use Rattle.working.proofs.Next.{head-not-0}
 use Rattle.working.proofs.Invariant.{filledTo}
 
 module _ (s : Store) (S : Sound s) where
@@ -131,14 +131,10 @@ module _ (s : Store) (S : Sound s) where
         omega arith
       where
         below : (k a l : ℕ) → List·Memᴰ k (S .pages j) → Steps (s .heap) (k * 2 ^ n + 2 ^ n) (k * 2 ^ n + 2) a → Stands (s .heap) (k * 2 ^ n + 2 ^ n) a l → a < S .fin k
-        below k a l m t st = by (apart t st (B .filled))
-          where
-            B : Body n (s .heap) k j (S .fin k)
-            B = S .laid .mine-body j k (S .laid .mine-own j k jR m)
-
-            by : (S .fin k ≤ a) ⊎ (a + suc l ≤ S .fin k) → a < S .fin k
-            by (inl q) = let e = st .ends in absurd (head-not-0 st (B .rest a q (omega arith)))
-            by (inr q) = omega arith
+        below k a l m t st =
+            let B = S .laid .mine-body j k (S .laid .mine-own j k jR m) in
+            let e = below-end (s .heap) (k * 2 ^ n + 2 ^ n) (k * 2 ^ n + 2) (S .fin k) (B .filled) (B .rest) t st in
+            omega arith
 
         go : (w : ℕ) (all : List ℕ) → ((k a : ℕ) → List·Memᴰ k (S .pages j) → Steps (s .heap) (k * 2 ^ n + 2 ^ n) (k * 2 ^ n + 2) a → a < S .fin k → List·Memᴰ (4 * a) all)
             → ((k : ℕ) × (a : ℕ) × (l : ℕ) × (w ≡ 4 * a) × List·Memᴰ k (S .pages j) × Steps (s .heap) (k * 2 ^ n + 2 ^ n) (k * 2 ^ n + 2) a × Stands (s .heap) (k * 2 ^ n + 2 ^ n) a l)

@@ -4,8 +4,7 @@ use Prim.Native.Nat.{ℕ, suc, _+_, _*_, _/_, _^_, _≤_, _<_, zero-le}
 use native.Mathlib.Nat.{mul-le-mul-right}
 use native.Mathlib.Omega.{arith}
 use mathlib.Core.Path.{_≡_, refl, sym, ap, _∙_, subst}
-use mathlib.Core.Logic.{_⊎_, inl, inr}
-use mathlib.Core.Bool.{true, false}
+use mathlib.Core.Bool.{true}
 use mathlib.Core.Option.{none, some}
 use mathlib.Core.List.{List, [], _++_, List·Memᴰ, Memᴰ·append-left, Memᴰ·append-right}
 use lib.ListN.{length, length-append}
@@ -13,41 +12,25 @@ use Rattle.laws.specs.Lists.{at}
 use Rattle.laws.specs.Sums.{sumOver}
 use Rattle.laws.proofs.Once.{Once, member?}
 use Rattle.rules.specs.Memory.{Store, lent, pageCount, origin, statusOf}
-use Rattle.rules.specs.Words.{Word, number, inHeap, inConst, wordOf, Head, rec, raw, moved, wrong, headOf, lengthBy, recordBy, isRecord}
+use Rattle.rules.specs.Words.{wordOf, rec, headOf, lengthBy, isRecord}
 use Rattle.rules.specs.Pages.{Run, begun, recordAfter, giveBackAll}
 use Rattle.rules.specs.Collection.{fromSpace}
-use Rattle.rules.specs.Calls.{isNumber}
 use Rattle.rules.proofs.Whole.{pages-of, of-pages, pages-once}
-use Rattle.facts.proofs.Steps.{Stands, Steps, steps-le, steps-same, stands-same, apart}
-use Rattle.facts.proofs.Laid.{Owner, old, spare, beyond, mine, Body, Like, Layout}
+use Rattle.facts.proofs.Steps.{Stands, Steps, steps-le, steps-same, stands-same}
+use Rattle.facts.proofs.Laid.{Owner, old, spare, beyond, mine, Like, Layout}
 use Rattle.facts.proofs.Copied.{to, Rel, num, stay, went}
-use Rattle.facts.proofs.Looked.{pointer}
+use Rattle.rules.proofs.Pointers.{pointer, is-number, record-head}
 use Rattle.facts.proofs.Sound.{Within, InHeap, Good, a-number, to-heap, to-const, Chained, in-free, in-region, Sound}
 use Rattle.facts.proofs.Passing.{pages-are}
+use Rattle.facts.proofs.Framed.{below-end}
 use Rattle.facts.proofs.Given.{spared, spared-in, spared-out, GivenAll, given-all}
 use Rattle.working.proofs.Owned.{old≢mine, mine≢beyond}
 use Rattle.working.proofs.Log.{pointers, Copy}
-use Rattle.working.proofs.Next.{head-not-0}
 use Rattle.working.proofs.Aside.{stack-laid}
 use Rattle.working.proofs.Invariant.{Ghost, Kept, filledTo, Inv}
 use Rattle.working.proofs.Evacuating.{of-pointers}
 use Rattle.working.proofs.Work.{asleep, none-waits}
 use Rattle.working.proofs.Running.{Ran}
-
-pub is-number : (w : ℕ) → isNumber (wordOf w) ≡ true → wordOf w ≡ number
-is-number w e = go (wordOf w) refl
-  where
-    go : (x : Word) → wordOf w ≡ x → wordOf w ≡ number
-    go number q = q
-    go (inHeap a) q = let z : false ≡ true = rw q at e in let z′ : _≡_ {A = ℕ} 0 1 = cc in absurd (omega arith)
-    go (inConst a) q = let z : false ≡ true = rw q at e in let z′ : _≡_ {A = ℕ} 0 1 = cc in absurd (omega arith)
-
--- the header of a record
-pub record-head : (x : Head) (l : ℕ) → lengthBy x ≡ some l → recordBy x ≡ true → x ≡ rec l
-record-head (rec m) l e k = let q : m ≡ l = cc in ap rec q
-record-head (raw m) l e k = let z : _≡_ {A = ℕ} 0 1 = cc in absurd (omega arith)
-record-head (moved m) l e k = let z : _≡_ {A = ℕ} 0 1 = cc in absurd (omega arith)
-record-head wrong l e k = let z : _≡_ {A = ℕ} 0 1 = cc in absurd (omega arith)
 
 module _ (s : Store) (S : Sound s) (roots : List ℕ) (r : Run) (A : Ran s S roots r) where
   abbrev n : ℕ
@@ -194,11 +177,8 @@ module _ (s : Store) (S : Sound s) (roots : List ℕ) (r : Run) (A : Ran s S roo
       let lo = steps-le t in
       let t′ : Steps (r .heap) (k * 2 ^ n + 2 ^ n) (k * 2 ^ n + 2) b = steps-same (λ x p q. sym (word-same k j x o (omega arith) (omega arith))) t in
       let st′ : Stands (r .heap) (k * 2 ^ n + 2 ^ n) b l = stands-same (sym (word-same k j b o (omega arith) (omega arith))) st in
-      I .logged .every k j b o t′ (below B st′ (apart t′ st′ (B .filled)))
-    where
-      below : Body n (r .heap) k j (g .fin k) → Stands (r .heap) (k * 2 ^ n + 2 ^ n) b l → (g .fin k ≤ b) ⊎ (b + suc l ≤ g .fin k) → b < g .fin k
-      below B st′ (inl q) = let e = st′ .ends in absurd (head-not-0 st′ (B .rest b q (omega arith)))
-      below B st′ (inr q) = omega arith
+      let below = below-end (r .heap) (k * 2 ^ n + 2 ^ n) (k * 2 ^ n + 2) (g .fin k) (B .filled) (B .rest) t′ st′ in
+      I .logged .every k j b o t′ (omega arith)
 
   fields-good : (j k b l i : ℕ) → j < R → List·Memᴰ k (g .pages j) → Steps (back .heap) (k * 2 ^ n + 2 ^ n) (k * 2 ^ n + 2) b → Stands (back .heap) (k * 2 ^ n + 2 ^ n) b l
       → isRecord (at (back .heap) b) ≡ true → i < l → Good n R (back .heap) (s .consts) (at (back .heap) (b + suc i))

@@ -1,6 +1,5 @@
 -- What one evacuation meets: a forward, room or no page.
-use Prim.Native.Nat.{ℕ, _+_, _*_, _/_, _%_, _^_, _≤_, _<_}
-use native.Mathlib.Omega.{arith}
+use Prim.Native.Nat.{ℕ, _+_, _*_, _^_, _≤_, _<_}
 use native.Mathlib.Decide.{ℕ-discrete}
 use mathlib.Core.Path.{_≡_, refl, ap}
 use mathlib.Core.Logic.{_⊎_, inl, inr}
@@ -9,7 +8,6 @@ use mathlib.Core.Option.{none, some}
 use mathlib.Core.List.{List, [], _∷_, List·Memᴰ, List·Memᴰ·head, List·Memᴰ·tail, List·Memᴰ·cases-cons, List·Memᴰ·not-nil}
 use lib.Dec.{leb}
 use borrow.Author.Tests.{leb-false}
-use Rattle.rules.specs.Words.{moved, headBy, headOf}
 use Rattle.rules.specs.Memory.{endOf, topOf}
 use Rattle.rules.specs.Pages.{Run, room}
 use Rattle.facts.proofs.Laid.{Owner, Layout}
@@ -18,18 +16,6 @@ use Rattle.laws.proofs.Once.{linked-none}
 use Rattle.working.proofs.Log.{pointers}
 use Rattle.working.proofs.Taken.{takes-none}
 use Rattle.working.proofs.Placed.{Roomed, room-was, room-made}
-
--- a forward, read as a header
-pub forward-head : (b : ℕ) → headOf (4 * b) ≡ moved b
-unfolding headOf
-forward-head b = go (ℕ-discrete ((4 * b) % 8) 0)
-  where
-    go : Dec ((4 * b) % 8 ≡ 0) → headBy ((4 * b) % 8) ((4 * b) / 8) ≡ moved b
-    go (yes e) = let q : (4 * b) / 8 * 2 ≡ b = omega arith in rw e (ap moved q)
-    go (no ne) =
-        let e : (4 * b) % 8 ≡ 4 = omega arith in
-        let q : (4 * b) / 8 * 2 + 1 ≡ b = omega arith in
-        rw e (ap moved q)
 
 -- the log has an entry of a, or none
 pub in-log : (a : ℕ) (log : List Moved) → ((b : ℕ) × List·Memᴰ (to a b) log) ⊎ ((b : ℕ) → List·Memᴰ (to a b) log → ⊥)

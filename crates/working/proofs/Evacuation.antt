@@ -23,7 +23,7 @@ use Rattle.facts.specs.View.{seen, Reached}
 use Rattle.facts.proofs.Steps.{steps-le}
 use Rattle.facts.proofs.Laid.{old}
 use Rattle.facts.proofs.Copied.{to, Rel, num, stay, went}
-use Rattle.facts.proofs.Looked.{pointer, pointer-is}
+use Rattle.rules.proofs.Pointers.{pointer, pointer-is, forward-head}
 use Rattle.facts.proofs.Sound.{InHeap, Good, a-number, to-heap, to-const, Chained, in-free, in-region, Sound}
 use Rattle.working.proofs.Owned.{old≢beyond}
 use Rattle.working.proofs.Log.{pointers}
@@ -32,7 +32,7 @@ use Rattle.working.proofs.Moving.{still, still-whose}
 use Rattle.working.specs.Unbounded.{anyPage, joined, roomFor, moveFor, evacuateAtFor, evacuateFor}
 use Rattle.working.proofs.Dry.{Dry, page-dry, join-dry, forward-dry}
 use Rattle.working.proofs.Invariant.{lacking-on, Ghost, Kept, Inv, later-refl, Lacking, Became}
-use Rattle.working.proofs.Evacuating.{forward-head, in-log, in-pointers, room-or}
+use Rattle.working.proofs.Evacuating.{in-log, in-pointers, room-or}
 use Rattle.working.proofs.Copying.{Uncopied, fin₂, made, made-moves}
 use Rattle.working.proofs.CopyPending.{copied, copied-later, copied-count}
 use Rattle.working.proofs.CopyInv.{copied-inv}

@@ -8,12 +8,11 @@ use native.Mathlib.Decide.{ℕ-discrete}
 use mathlib.Core.Path.{_≡_, refl, sym, ap, _∙_}
 use mathlib.Core.Logic.{_≢_, _⊎_, inl, inr}
 use mathlib.Core.Bool.{Bool, true, false, _||_}
-use mathlib.Core.Option.{some}
 use mathlib.Core.List.{List, [], _∷_, _++_, append-nil, List·Memᴰ, List·Memᴰ·head, List·Memᴰ·tail}
 use lib.Arith.{digits-mod}
 use lib.Dec.{eqb}
 use borrow.Author.Tests.{eq-eqb, ne-eqb}
-use Rattle.rules.specs.Words.{headOf, lengthBy, wordsBy}
+use Rattle.rules.specs.Words.{headOf, wordsBy}
 use Rattle.laws.specs.Lists.{at}
 use Rattle.rules.specs.Memory.{link, topOf}
 use Rattle.rules.specs.Pages.{Run}
@@ -22,7 +21,8 @@ use Rattle.laws.proofs.Lists.{apart as pages-apart}
 use Rattle.facts.proofs.Steps.{Stands, steps-le}
 use Rattle.laws.proofs.Once.{once-tail, once-head}
 use Rattle.facts.proofs.Laid.{Once, Last, only, later, last-in, Linked, Owner, mine, Body, Layout}
-use Rattle.facts.proofs.Looked.{words-of}
+use Rattle.rules.proofs.Pointers.{words-of}
+use Rattle.facts.proofs.Framed.{no-zero}
 use Rattle.rules.proofs.Chains.{page-of}
 use Rattle.working.proofs.Taken.{linked-first, last-one}
 
@@ -40,14 +40,6 @@ pub data Row (n : ℕ) (h : List ℕ) (fin : ℕ → ℕ) : List ℕ → List �
 abbrev pub headOr : ℕ → List ℕ → ℕ
 headOr t [] = t
 headOr t (x ∷ xs) = x
-
--- a header is not 0
-pub head-not-0 : {h : List ℕ} {hi a l : ℕ} → Stands h hi a l → at h a ≢ 0
-unfolding headOf
-head-not-0 {h} {hi} {a} {l} st e =
-    let q : lengthBy (headOf 0) ≡ some l = ap (λ w. lengthBy (headOf w)) (sym e) ∙ st .head in
-    let z : _≡_ {A = ℕ} 0 1 = cc in
-    omega arith
 
 module _ (n N R : ℕ) (own : ℕ → Owner) (fin : ℕ → ℕ) (pages : ℕ → List ℕ) (free : List ℕ) (r : Run) (L : Layout n N R own fin pages free r)
     (j : ℕ) (jR : j < R) (k s l : ℕ) (own-k : own k ≡ mine j) (lo : k * 2 ^ n + 2 ≤ s) (st : Stands (r .heap) (k * 2 ^ n + 2 ^ n) s l) where
@@ -77,7 +69,7 @@ module _ (n N R : ℕ) (own : ℕ → Owner) (fin : ℕ → ℕ) (pages : ℕ �
   next-here m st′ below =
       let e₁ : eqb (s + suc l) (topOf (r .table) j) ≡ false = ne-eqb _ _ (not-it (ℕ-discrete k z)) in
       let e₂ : eqb ((s + suc l) % 2 ^ n) 0 ≡ false = ne-eqb _ _ not-end in
-      let e₃ : eqb (at (r .heap) (s + suc l)) 0 ≡ false = ne-eqb _ _ (head-not-0 st′) in
+      let e₃ : eqb (at (r .heap) (s + suc l)) 0 ≡ false = ne-eqb _ _ (no-zero st′) in
       ap (λ t. nextFrom n j s t r) t-is ∙ rw (e₁, nextFrom, e₂, e₃)
     where
       not-it : Dec (k ≡ z) → s + suc l ≢ topOf (r .table) j

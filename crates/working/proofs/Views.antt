@@ -6,18 +6,18 @@ use native.Mathlib.Omega.{arith}
 use mathlib.Core.Path.{_≡_, refl, sym, ap, _∙_, subst}
 use mathlib.Core.Logic.{_≢_}
 use mathlib.Core.Bool.{true, false}
-use mathlib.Core.Option.{some}
 use mathlib.Core.List.{List, List·Memᴰ}
 use lib.ListN.{length, take, drop, length-drop}
 use lib.Seq.{length-take-le, getD-take, getD-drop, ext-getD}
 use Rattle.laws.specs.Lists.{at}
 use Rattle.rules.specs.Memory.{Store}
-use Rattle.rules.specs.Words.{wordOf, Head, rec, raw, moved, wrong, headOf, lengthBy, recordBy, isRecord, goodConst, valueAt, look}
+use Rattle.rules.specs.Words.{wordOf, rec, raw, headOf, recordBy, isRecord, goodConst, valueAt, look}
 use Rattle.rules.specs.Pages.{Run}
 use Rattle.rules.specs.Calls.{lookIn, headerIn, isNumber}
 use Rattle.facts.specs.View.{homeIn, seen}
 use Rattle.facts.proofs.Copied.{Moved, to, Rel, num, stay, OneValue, Copied}
-use Rattle.facts.proofs.Looked.{pointer, words-of, look-at, home-at, seen-plain}
+use Rattle.rules.proofs.Pointers.{pointer, words-of, record-head, raw-head}
+use Rattle.facts.proofs.Looked.{look-at, home-at, seen-plain}
 use Rattle.facts.proofs.Sound.{GoodConst, number-there, const-there, Sound}
 use Rattle.facts.proofs.Goods.{const-in}
 use Rattle.working.proofs.Owned.{old≢beyond}
@@ -26,7 +26,7 @@ use Rattle.working.proofs.Invariant.{Kept}
 use Rattle.working.proofs.Evacuating.{of-pointers}
 use Rattle.working.proofs.Scanning.{seen-old}
 use Rattle.working.proofs.Running.{Ran}
-use Rattle.working.proofs.Ending.{back, left-store, record-head, copy-word, copy-steps, copy-stands, copy-known, copy-inside, copy-whose, copy-scanned}
+use Rattle.working.proofs.Ending.{back, left-store, copy-word, copy-steps, copy-stands, copy-known, copy-inside, copy-whose, copy-scanned}
 
 -- a value's words in a list
 module _ (h : List ℕ) (a l : ℕ) (inside : a + suc l ≤ length h) where
@@ -41,13 +41,6 @@ module _ (h : List ℕ) (a l : ℕ) (inside : a + suc l ≤ length h) where
 
   pub words-head : headerIn ws ≡ at h a
   words-head = words-at 0 zero-le ∙ ap (at h) (omega arith)
-
--- a header that is none of a record is one of a raw value
-pub raw-head : (x : Head) (l : ℕ) → lengthBy x ≡ some l → recordBy x ≡ false → x ≡ raw l
-raw-head (rec m) l e k = let z : _≡_ {A = ℕ} 0 1 = cc in absurd (omega arith)
-raw-head (raw m) l e k = let q : m ≡ l = cc in ap raw q
-raw-head (moved m) l e k = let z : _≡_ {A = ℕ} 0 1 = cc in absurd (omega arith)
-raw-head wrong l e k = let z : _≡_ {A = ℕ} 0 1 = cc in absurd (omega arith)
 
 module _ (s : Store) (S : Sound s) (roots : List ℕ) (r : Run) (A : Ran s S roots r) where
   abbrev n : ℕ
