@@ -8,3 +8,7 @@ pub mod KeepsPop
 pub mod KeepsSetUp
 pub mod Keeps
 pub mod KeepsReading
+pub mod NumbersBack
+pub mod Demand1
+pub mod Demand2
+pub mod Demand3
