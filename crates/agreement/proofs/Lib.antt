@@ -1,2 +1,3 @@
 pub mod Matching
 pub mod Walked
+pub mod Restored
