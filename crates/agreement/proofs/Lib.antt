@@ -1,3 +1,4 @@
 pub mod Matching
 pub mod Walked
 pub mod Restored
+pub mod Undone

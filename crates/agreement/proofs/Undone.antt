@@ -1,7 +1,7 @@
 -- A collection that lacks a page is undone: the headers are put back, and each taken page, in the order of taking, is cleared and gets its
 -- link of before, which its origin has kept. The pages still free were never changed. So the heap is as it was.
 use Prim.Native.Nat.{ℕ, zero, suc, _+_, _-_, _*_, _/_, _%_, _^_, _≤_, _<_}
-use native.Mathlib.Nat.{le-refl, mul-le-mul-right}
+use native.Mathlib.Nat.{mul-le-mul-right, div-add-mod', mod-lt, div-lt-iff-lt-mul}
 use native.Mathlib.Omega.{arith}
 use native.Mathlib.Decide.{ℕ-discrete}
 use mathlib.Core.Path.{_≡_, refl, sym, ap, _∙_, subst}
@@ -9,9 +9,8 @@ use mathlib.Core.Logic.{_≢_, _⊎_, inl, inr}
 use mathlib.Core.List.{List, [], _∷_, _++_, List·Memᴰ, List·Memᴰ·head, List·Memᴰ·tail, List·Memᴰ·cases-cons, List·Memᴰ·not-nil, Memᴰ·append-left, Memᴰ·append-right}
 use lib.ListN.{length, set, length-set}
 use lib.Seq.{getD-set-same, getD-set-other, ext-getD}
-use lib.Arith.{div-spec}
 use Rattle.laws.specs.Lists.{at}
-use Rattle.laws.proofs.Once.{Once, once-more, once-tail, once-head}
+use Rattle.laws.proofs.Once.{Once, once-none, once-more, once-tail, once-head, Linked}
 use Rattle.rules.specs.declared.Refusal.{Refusal}
 use Rattle.rules.specs.Memory.{Store, pageCount, link, origin}
 use Rattle.rules.specs.Refusals.{Outcome, outcome, refused}
@@ -33,10 +32,7 @@ pub record Stuck (s : Store) (S : Sound s) (d : Desk) : Type 0 where
   pub matching : Matching s S ghost run d
 
 once-front : (ks ms : List ℕ) → Once (ks ++ ms) → Once ks
-once-front [] ms o = Once·none
-  where
-    Once·none : Once []
-    Once·none = ?
+once-front [] ms o = once-none
 once-front (k ∷ ks) ms o = once-more (λ m. once-head o (Memᴰ·append-left ms m)) (once-front ks ms (once-tail o))
 
 module _ (s : Store) (S : Sound s) (g : Ghost) (r : Run) (I : Inv s S g r) (d : Desk) (M : Matching s S g r d) where
@@ -157,20 +153,17 @@ module _ (s : Store) (S : Sound s) (g : Ghost) (r : Run) (I : Inv s S g r) (d : 
   begin : Linking (M .took) h₁
   begin =
       record {
-        size = H .size;
+        size = headers-back s S g r I d M .size;
         back = λ k x b ne p q. by k x b ne p q (g .own k) refl;
         kept = kept;
         once = once-front (M .took) (g .free) (subst Once (M .front) (S .laid .free-once));
         free = was-free;
       }
     where
-      abbrev H : _
-      H = headers-back s S g r I d M
-
       by : (k x : ℕ) → k < N → (List·Memᴰ k (M .took) → ⊥) → k * P ≤ x → x < k * P + P → (o : Owner) → g .own k ≡ o → at h₁ x ≡ at (s .heap) x
       by k x b ne p q old e = old-back s S g r I d M k x e (p, q)
       by k x b ne p q spare e =
-          H .others k x (λ o. old≢spare o e) (p, q) ∙ same-words k x (λ j o. spare≢mine e o) p q ∙ spare-back k x e p q
+          headers-back s S g r I d M .others k x (λ o. old≢spare o e) (p, q) ∙ same-words k x (λ j o. spare≢mine e o) p q ∙ spare-back k x e p q
       by k x b ne p q beyond e = absurd (I .owned .whole k b e)
       by k x b ne p q (mine j) e = absurd (ne (M .owned k .1 (j, e)))
 
@@ -178,7 +171,7 @@ module _ (s : Store) (S : Sound s) (g : Ghost) (r : Run) (I : Inv s S g r) (d : 
       kept k m =
           let c = S .laid .big in
           let o = M .owned k .0 m in
-          H .others k (k * P + 1) (λ q. old≢mine q (o .1)) (omega arith, omega arith) ∙ M .kept-link k m
+          headers-back s S g r I d M .others k (k * P + 1) (λ q. old≢mine q (o .1)) (omega arith, omega arith) ∙ M .kept-link k m
 
   end : Linking [] (relinkAll n (length (M .took)) N (s .ctl .first) h₁)
   end =
@@ -195,7 +188,11 @@ module _ (s : Store) (S : Sound s) (g : Ghost) (r : Run) (I : Inv s S g r) (d : 
       let e = S .laid .size in
       let f = end .size in
       let b′ : x < length (s .heap) = omega arith in
-      end .back (x / P) x ? (λ m. List·Memᴰ·not-nil m) ? ?))
+      let pos : 0 < P = omega arith in
+      let k-in : x / P < N = div-lt-iff-lt-mul {k = P} pos .1 (omega arith) in
+      let u = div-add-mod' x P in
+      let v = mod-lt x {m = P} pos in
+      end .back (x / P) x k-in (λ m. List·Memᴰ·not-nil m) (omega arith) (omega arith)))
 
 pub lacking-is : (s : Store) (S : Sound s) (d : Desk) → Stuck s S d → lacking s (pageCount (s .ctl .n) (s .heap)) d ≡ refused s Refusal.NoPage
 unfolding lacking
