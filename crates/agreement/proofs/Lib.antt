@@ -2,3 +2,4 @@ pub mod Matching
 pub mod Walked
 pub mod Restored
 pub mod Undone
+pub mod Origins
