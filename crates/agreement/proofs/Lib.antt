@@ -3,3 +3,4 @@ pub mod Walked
 pub mod Restored
 pub mod Undone
 pub mod Origins
+pub mod GivenBack
