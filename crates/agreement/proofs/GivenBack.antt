@@ -71,7 +71,7 @@ module _ (s : Store) (S : Sound s) (g : Ghost) (r : Run) (I : Inv s S g r) (d : 
   abbrev R : ℕ
   R = s .ctl .regions
 
-  N-small : N ≤ 65536
+  pub N-small : N ≤ 65536
   N-small =
       let a = mul-le-mul-left N (S .laid .big) in
       let b = S .laid .size in
@@ -91,7 +91,8 @@ module _ (s : Store) (S : Sound s) (g : Ghost) (r : Run) (I : Inv s S g r) (d : 
     pub table : run .table ≡ r .table
     pub size : length (e .notes) ≡ 400
     pub first : at (e .notes) freeFirst ≡ run .first
-    pub last : free ≢ [] → at (e .notes) freeLast ≡ run .last
+    -- the notes keep free last where the last free page is taken
+    pub last : (free ≡ [] → M .took ≡ []) → at (e .notes) freeLast ≡ run .last
     pub same : (x : ℕ) → x < 256 → at (e .notes) x ≡ at (d .notes) x
     pub took : at (e .notes) taken ≡ at (d .notes) taken
     pub count : at (e .notes) given + length (g .free) ≡ run .count
@@ -155,7 +156,7 @@ module _ (s : Store) (S : Sound s) (g : Ghost) (r : Run) (I : Inv s S g r) (d : 
           table = given-page n N R (K .own) (g .fin) (g .pages) (K .free) (K .run) (K .laid) k own-k .table ∙ K .table;
           size = size;
           first = first;
-          last = λ ne. last;
+          last = λ c. last;
           same = λ x b. notes x (λ (q : x ≡ freeFirst). omega arith) (λ (q : x ≡ freeLast). omega arith) ∙ at-else x (λ (q : x ≡ given). omega arith) ∙ K .same x b;
           took = notes taken (λ (q : taken ≡ freeFirst). omega arith) (λ (q : taken ≡ freeLast). omega arith) ∙ at-else taken (λ (q : taken ≡ given). omega arith) ∙ K .took;
           count =
@@ -201,7 +202,7 @@ module _ (s : Store) (S : Sound s) (g : Ghost) (r : Run) (I : Inv s S g r) (d : 
             later : (z : ℕ) → K .own z ≡ spare → K .run .last ≡ suc z → K .free ≢ [] → K .run .first ≢ 0 → Giving ls (giveDesk n k e)
             later z own-z l some-free not-none =
                 let a = K .first in
-                let A = desk-later n k e z (λ (w : at (e .notes) freeFirst ≡ 0). not-none (omega arith)) (K .last some-free ∙ l) (let v = K .laid .known z (spare≢beyond own-z) in let u = N-small in omega arith) in
+                let A = desk-later n k e z (λ (w : at (e .notes) freeFirst ≡ 0). not-none (omega arith)) (K .last (λ q. absurd (some-free q)) ∙ l) (let v = K .laid .known z (spare≢beyond own-z) in let u = N-small in omega arith) in
                 let B = plain-later n k (K .run) z l in
                 let t = counted n k (e .notes) in
                 let y = counted-size in
@@ -284,17 +285,17 @@ module _ (s : Store) (S : Sound s) (g : Ghost) (r : Run) (I : Inv s S g r) (d : 
       in-other : (f : ℕ) → f * P + 2 ≤ k * P → k * P < f * P + P → ⊥
       in-other f lo hi = let b = S .laid .big in one-page n f k (k * P) (λ q. let w : f * P ≡ k * P = ap (λ y. y * P) q in omega arith) (omega arith) (omega arith) (le-refl _) (omega arith)
 
-  -- the free list's last, where a page is free
-  last-free : g .free ≢ [] → s .ctl .last ≡ r .last
+  -- the free list's last, where a page is free or none was taken
+  last-free : (g .free ≡ [] → M .took ≡ []) → s .ctl .last ≡ r .last
   unfolding lastLink
-  last-free ne = S .laid .free-last ∙ ap lastLink (M .front) ∙ go (g .free) refl ∙ sym (I .laid .free-last)
+  last-free c = S .laid .free-last ∙ ap lastLink (M .front) ∙ go (g .free) refl ∙ sym (I .laid .free-last)
     where
       last-front : (ks : List ℕ) {ms : List ℕ} {z : ℕ} → Last ms z → Last (ks ++ ms) z
       last-front [] u = u
       last-front (k ∷ ks) u = further (last-front ks u)
 
       go : (fs : List ℕ) → g .free ≡ fs → lastLink (M .took ++ g .free) ≡ lastLink (g .free)
-      go [] q = absurd (ne q)
+      go [] q = rw (c q)
       go (f ∷ fs) q = rw q (link-last (last-front (M .took) (last-link f fs)) ∙ refl)
 
   begin : Giving (fromSpace s) (desk (r .heap) (d .notes))
@@ -311,7 +312,7 @@ module _ (s : Store) (S : Sound s) (g : Ghost) (r : Run) (I : Inv s S g r) (d : 
         table = refl;
         size = M .notes-length;
         first = M .free-first;
-        last = λ ne. M .free-last ∙ last-free ne;
+        last = λ c. M .free-last ∙ last-free c;
         same = λ x b. refl;
         took = refl;
         count = let a = M .given-none in let b = I .laid .free-count in omega arith;

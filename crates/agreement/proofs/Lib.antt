@@ -4,3 +4,4 @@ pub mod Restored
 pub mod Undone
 pub mod Origins
 pub mod GivenBack
+pub mod Done
