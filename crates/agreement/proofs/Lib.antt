@@ -5,3 +5,4 @@ pub mod Undone
 pub mod Origins
 pub mod GivenBack
 pub mod Done
+pub mod Ended
