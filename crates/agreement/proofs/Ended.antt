@@ -15,7 +15,8 @@ use Rattle.working.proofs.Running.{Ran}
 use Rattle.motion.specs.Leaves.{Desk, desk, begunNotes}
 use Rattle.motion.specs.Whole.{attempt, writtenRoots, ended, workingCollect}
 use Rattle.agreement.proofs.Matching.{Matching}
-use Rattle.agreement.proofs.Undone.{Stuck, lacking-is}
+use Rattle.agreement.proofs.Stuck.{Stuck}
+use Rattle.agreement.proofs.Undone.{lacking-is}
 use Rattle.agreement.proofs.Done.{done-is}
 
 -- what steps 1 to 3 at work come to

@@ -1,4 +1,5 @@
 pub mod Matching
+pub mod Stuck
 pub mod Walked
 pub mod Restored
 pub mod Undone

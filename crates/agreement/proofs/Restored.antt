@@ -26,11 +26,12 @@ use Rattle.facts.proofs.Steps.{Stands, Steps, here, over as passes, steps-le, s
 use Rattle.facts.proofs.Copied.{to}
 use Rattle.facts.proofs.Sound.{Sound}
 use Rattle.rules.specs.Pages.{Run}
-use Rattle.working.proofs.Invariant.{Ghost, Kept, Inv}
+use Rattle.working.proofs.Invariant.{Ghost, Kept}
 use Rattle.working.proofs.Log.{olds, in-olds, olds-in, Copy}
 use Rattle.motion.specs.Leaves.{Desk}
 use Rattle.motion.specs.Whole.{undoOf, undoTurn, undoVals, undoPage, undoChain, undoHeaders}
 use Rattle.agreement.proofs.Matching.{Matching}
+use Rattle.agreement.proofs.Stuck.{Stuck}
 use Rattle.agreement.proofs.Walked.{steps-keep, along-all, one-page}
 
 -- ---- headers and forwards as numbers
@@ -48,7 +49,16 @@ head-odd w l e = go (w % 8) refl
     go (suc (suc (suc (suc zero)))) q = let t : lengthBy (headBy 4 (w / 8)) ≡ some l = rw q at e in let z : _≡_ {A = ℕ} 0 1 = cc in absurd (omega arith)
     go (suc (suc (suc (suc (suc x))))) q = let t : lengthBy (headBy (suc (suc (suc (suc (suc x))))) (w / 8)) ≡ some l = rw q at e in let z : _≡_ {A = ℕ} 0 1 = cc in absurd (omega arith)
 
-module _ (s : Store) (S : Sound s) (g : Ghost) (r : Run) (I : Inv s S g r) (d : Desk) (M : Matching s S g r d) where
+module _ (s : Store) (S : Sound s) (d : Desk) (A : Stuck s S d) where
+  abbrev g : Ghost
+  g = A .ghost
+
+  abbrev r : Run
+  r = A .run
+
+  abbrev M : Matching s S (A .ghost) (A .run) d
+  M = A .matching
+
   abbrev n : ℕ
   n = s .ctl .n
 
@@ -83,7 +93,7 @@ module _ (s : Store) (S : Sound s) (g : Ghost) (r : Run) (I : Inv s S g r) (d : 
 
   inside : (k x : ℕ) → g .own k ≡ old → In k x → x < length (s .heap)
   inside k x o p =
-      let a = mul-le-mul-right P (I .laid .known k (old≢beyond o)) in
+      let a = mul-le-mul-right P (A .known k (old≢beyond o)) in
       let e = size-N in
       let hi = p .1 in
       omega arith
@@ -91,7 +101,7 @@ module _ (s : Store) (S : Sound s) (g : Ghost) (r : Run) (I : Inv s S g r) (d : 
   -- a logged value stands in its page
   module _ (k x b : ℕ) (p : In k x) (m : List·Memᴰ (to x b) (g .log)) where
     abbrev C : Copy n s (Kept s) (g .own) (g .fin) (r .heap) (g .log) (g .count) x b
-    C = I .logged .copies m
+    C = A .logged .copies m
 
     from-is : C .from ≡ k
     from-is = go (ℕ-discrete (C .from) k)
@@ -153,7 +163,7 @@ module _ (s : Store) (S : Sound s) (g : Ghost) (r : Run) (I : Inv s S g r) (d : 
   -- the copy still has the header
   copy-head : (left : ℕ → Type 0) (h : List ℕ) → Half left h → (x b : ℕ) → List·Memᴰ (to x b) (g .log) → at h b ≡ at (s .heap) x
   copy-head left h H x b m =
-      let D = I .logged .copies m in
+      let D = A .logged .copies m in
       let lo = steps-le (D .into-steps) in
       let hi = D .into-stands .ends in
       let p : In (D .into) b = (omega arith, omega arith) in
@@ -161,7 +171,7 @@ module _ (s : Store) (S : Sound s) (g : Ghost) (r : Run) (I : Inv s S g r) (d : 
       ∙ M .words b (λ k j o q. origin-apart k b q (D .into) lo hi)
       ∙ D .head
     where
-      origin-apart : (k b : ℕ) → b ≡ k * P + 1 → (i : ℕ) → i * P + 2 ≤ b → b + suc (I .logged .copies m .len) ≤ i * P + P → ⊥
+      origin-apart : (k b : ℕ) → b ≡ k * P + 1 → (i : ℕ) → i * P + 2 ≤ b → b + suc (A .logged .copies m .len) ≤ i * P + P → ⊥
       origin-apart k b q i lo hi = go (ℕ-discrete k i)
         where
           go : Dec (k ≡ i) → ⊥
@@ -250,7 +260,7 @@ module _ (s : Store) (S : Sound s) (g : Ghost) (r : Run) (I : Inv s S g r) (d : 
             }
         go (inr u) =
             let b = u .0 in
-            let D = I .logged .copies (u .1) in
+            let D = A .logged .copies (u .1) in
             let w = u .2 in
             let lo = steps-le (D .into-steps) in
             let nz : eqb (at h x) 0 ≡ false = ne-eqb (at h x) 0 (λ (z : at h x ≡ 0). omega arith) in
@@ -335,7 +345,7 @@ module _ (s : Store) (S : Sound s) (g : Ghost) (r : Run) (I : Inv s S g r) (d : 
     unfolding link
     turn k ks h K =
         let m : List·Memᴰ k (S .pages j) = K .theirs k (List·Memᴰ·head refl) in
-        let o : g .own k ≡ old = I .from-space k .1 (j, jR, m) in
+        let o : g .own k ≡ old = A .from-space k .1 (j, jR, m) in
         let B = S .laid .mine-body j k (S .laid .mine-own j k jR m) in
         let U = undo-page (Before (k ∷ ks) (suc j)) k j o B h (K .half) in
         let c = S .laid .big in
@@ -353,7 +363,7 @@ module _ (s : Store) (S : Sound s) (g : Ghost) (r : Run) (I : Inv s S g r) (d : 
           },
         )
       where
-        back-by : PageBack (Before (k ∷ ks) (suc j)) k j (I .from-space k .1 (j, jR, K .theirs k (List·Memᴰ·head refl))) (S .laid .mine-body j k (S .laid .mine-own j k jR (K .theirs k (List·Memᴰ·head refl)))) (undoPage n k h)
+        back-by : PageBack (Before (k ∷ ks) (suc j)) k j (A .from-space k .1 (j, jR, K .theirs k (List·Memᴰ·head refl))) (S .laid .mine-body j k (S .laid .mine-own j k jR (K .theirs k (List·Memᴰ·head refl)))) (undoPage n k h)
             → (l x : ℕ) → g .own l ≡ old → (Before ks (suc j) l → ⊥) → In l x → Dec (l ≡ k) → at (undoPage n k h) x ≡ at (s .heap) x
         back-by U l x w ne p (yes e) = U .page x (subst (λ y. In y x) e p)
         back-by U l x w ne p (no f) = U .half .back l x w (λ q. ne (tails q)) p
@@ -395,10 +405,10 @@ module _ (s : Store) (S : Sound s) (g : Ghost) (r : Run) (I : Inv s S g r) (d : 
   begin : Half (From 0) (d .heap)
   begin =
       record {
-        size = M .heap-length ∙ I .laid .size ∙ sym size-N;
+        size = M .heap-length ∙ A .size ∙ sym size-N;
         others = λ k x ne p. refl;
         either = λ k x o p. rw (same k x o p) (either k x o p);
-        back = λ k x o ne p. let t = I .from-space k .0 o in absurd (ne (t .0, zero-le, t .1, t .2));
+        back = λ k x o ne p. let t = A .from-space k .0 o in absurd (ne (t .0, zero-le, t .1, t .2));
       }
     where
       same : (k x : ℕ) → g .own k ≡ old → In k x → at (d .heap) x ≡ at (r .heap) x
@@ -412,8 +422,8 @@ module _ (s : Store) (S : Sound s) (g : Ghost) (r : Run) (I : Inv s S g r) (d : 
       either k x o p = go (member? x (olds (g .log)))
         where
           go : Dec (List·Memᴰ x (olds (g .log))) → Either (r .heap) x
-          go (yes m) = let t = in-olds (g .log) m in inr (t .0, t .1, I .logged .copies (t .1) .forward)
-          go (no ne) = inl (I .logged .unmoved k x o (p .0) (p .1) (λ b m. ne (olds-in m)))
+          go (yes m) = let t = in-olds (g .log) m in inr (t .0, t .1, A .logged .copies (t .1) .forward)
+          go (no ne) = inl (A .logged .unmoved k x o (p .0) (p .1) (λ b m. ne (olds-in m)))
 
   pub headers-back : Half (From R) (undoHeaders n N R (s .table) (d .heap))
   headers-back = steps-keep (λ j. undoChain n N (firstLink n (s .table) j)) R (λ j h. Half (From j) h) (λ j h jR H. region j jR h H) R 0 (d .heap) (omega arith) begin

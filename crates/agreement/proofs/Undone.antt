@@ -1,5 +1,5 @@
 -- A collection that lacks a page is undone: the headers are put back, and each taken page, in the order of taking, is cleared and gets its
--- link of before, which its origin has kept. The pages still free were never changed. So the heap is as it was.
+-- link of before, which its origin has kept. No page is still free. So the heap is as it was.
 use Prim.Native.Nat.{ℕ, zero, suc, _+_, _-_, _*_, _/_, _%_, _^_, _≤_, _<_}
 use native.Mathlib.Nat.{mul-le-mul-right, div-add-mod', mod-lt, div-lt-iff-lt-mul}
 use native.Mathlib.Omega.{arith}
@@ -21,21 +21,21 @@ use Rattle.working.proofs.Invariant.{Ghost, Inv}
 use Rattle.motion.specs.Leaves.{Desk, taken}
 use Rattle.motion.specs.Whole.{undoHeaders, relink, relinkAll, undo, lacking}
 use Rattle.agreement.proofs.Matching.{Matching}
+use Rattle.agreement.proofs.Stuck.{Stuck}
 use Rattle.agreement.proofs.Walked.{along-front, linked-rest, linked-agree, one-page, clear-length, clear-else, clear-in}
 use Rattle.agreement.proofs.Restored.{headers-back, old-back}
-
--- the work as it is where a page is wanted and none is free
-pub record Stuck (s : Store) (S : Sound s) (d : Desk) : Type 0 where
-  pub ghost : Ghost
-  pub run : Run
-  pub inv : Inv s S ghost run
-  pub matching : Matching s S ghost run d
 
 once-front : (ks ms : List ℕ) → Once (ks ++ ms) → Once ks
 once-front [] ms o = once-none
 once-front (k ∷ ks) ms o = once-more (λ m. once-head o (Memᴰ·append-left ms m)) (once-front ks ms (once-tail o))
 
-module _ (s : Store) (S : Sound s) (g : Ghost) (r : Run) (I : Inv s S g r) (d : Desk) (M : Matching s S g r d) where
+module _ (s : Store) (S : Sound s) (d : Desk) (A : Stuck s S d) where
+  abbrev g : Ghost
+  g = A .ghost
+
+  abbrev M : Matching s S (A .ghost) (A .run) d
+  M = A .matching
+
   abbrev n : ℕ
   n = s .ctl .n
 
@@ -123,37 +123,10 @@ module _ (s : Store) (S : Sound s) (g : Ghost) (r : Run) (I : Inv s S g r) (d : 
           let c = S .laid .big in
           else-same l (l * P + 1) (λ e. once-head (L .once) (subst (λ y. List·Memᴰ y ks) e m)) (omega arith) (omega arith) ∙ L .kept l (List·Memᴰ·tail m)
 
-  -- ---- the pages that were not taken
-
-  -- no origin of a taken page is in another page
-  same-words : (k x : ℕ) → ((j : ℕ) → g .own k ≢ mine j) → k * P ≤ x → x < k * P + P → at (d .heap) x ≡ at (r .heap) x
-  same-words k x ne p q = M .words x (λ l j o e. go l j o e (ℕ-discrete l k))
-    where
-      go : (l j : ℕ) → g .own l ≡ mine j → x ≡ l * P + 1 → Dec (l ≡ k) → ⊥
-      go l j o e (yes z) = ne j (ap (g .own) (sym z) ∙ o)
-      go l j o e (no f) = let c = S .laid .big in one-page n l k x f (omega arith) (omega arith) p q
-
-  -- a page still free
-  spare-back : (k x : ℕ) → g .own k ≡ spare → k * P ≤ x → x < k * P + P → at (r .heap) x ≡ at (s .heap) x
-  unfolding link
-  spare-back k x o p q = go (ℕ-discrete x (k * P))
-    where
-      in-free : List·Memᴰ k (g .free)
-      in-free = I .owned .spares k o
-
-      was : S .own k ≡ spare
-      was = S .laid .free-own k (subst (List·Memᴰ k) (sym (M .front)) (Memᴰ·append-right (M .took) in-free))
-
-      go : Dec (x ≡ k * P) → at (r .heap) x ≡ at (s .heap) x
-      go (yes e) =
-          let t = linked-rest (M .took) (g .free) (subst (λ ks. Linked (link n (s .heap)) (s .ctl .first) ks) (M .front) (S .laid .free-links)) in
-          rw e (linked-agree (g .free) (I .laid .free-links) (t .1) k in-free)
-      go (no ne) = I .laid .free-clean k o .rest x (omega arith) q ∙ sym (S .laid .free-clean k was .rest x (omega arith) q)
-
   begin : Linking (M .took) h₁
   begin =
       record {
-        size = headers-back s S g r I d M .size;
+        size = headers-back s S d A .size;
         back = λ k x b ne p q. by k x b ne p q (g .own k) refl;
         kept = kept;
         once = once-front (M .took) (g .free) (subst Once (M .front) (S .laid .free-once));
@@ -161,17 +134,16 @@ module _ (s : Store) (S : Sound s) (g : Ghost) (r : Run) (I : Inv s S g r) (d : 
       }
     where
       by : (k x : ℕ) → k < N → (List·Memᴰ k (M .took) → ⊥) → k * P ≤ x → x < k * P + P → (o : Owner) → g .own k ≡ o → at h₁ x ≡ at (s .heap) x
-      by k x b ne p q old e = old-back s S g r I d M k x e (p, q)
-      by k x b ne p q spare e =
-          headers-back s S g r I d M .others k x (λ o. old≢spare o e) (p, q) ∙ same-words k x (λ j o. spare≢mine e o) p q ∙ spare-back k x e p q
-      by k x b ne p q beyond e = absurd (I .owned .whole k b e)
+      by k x b ne p q old e = old-back s S d A k x e (p, q)
+      by k x b ne p q spare e = absurd (List·Memᴰ·not-nil (subst (List·Memᴰ k) (A .none-free) (A .owned .spares k e)))
+      by k x b ne p q beyond e = absurd (A .owned .whole k b e)
       by k x b ne p q (mine j) e = absurd (ne (M .owned k .1 (j, e)))
 
       kept : (k : ℕ) → List·Memᴰ k (M .took) → at h₁ (k * P + 1) ≡ link n (s .heap) k
       kept k m =
           let c = S .laid .big in
           let o = M .owned k .0 m in
-          headers-back s S g r I d M .others k (k * P + 1) (λ q. old≢mine q (o .1)) (omega arith, omega arith) ∙ M .kept-link k m
+          headers-back s S d A .others k (k * P + 1) (λ q. old≢mine q (o .1)) (omega arith, omega arith) ∙ M .kept-link k m
 
   end : Linking [] (relinkAll n (length (M .took)) N (s .ctl .first) h₁)
   end =
@@ -196,4 +168,4 @@ module _ (s : Store) (S : Sound s) (g : Ghost) (r : Run) (I : Inv s S g r) (d : 
 
 pub lacking-is : (s : Store) (S : Sound s) (d : Desk) → Stuck s S d → lacking s (pageCount (s .ctl .n) (s .heap)) d ≡ refused s Refusal.NoPage
 unfolding lacking
-lacking-is s S d K = rw (undo-back s S (K .ghost) (K .run) (K .inv) d (K .matching))
+lacking-is s S d A = rw (undo-back s S d A)
