@@ -1,14 +1,14 @@
 -- A collection that is done ends as the plain one: the taken pages have their origins, the old pages are given back, and table, roots and
 -- record are written by the notes and the forwards, which hold what the run holds.
-use Prim.Native.Nat.{ℕ, zero, suc, _+_, _-_, _*_, _/_, _%_, _^_, _≤_, _<_, zero-le}
+use Prim.Native.Nat.{ℕ, _+_, _-_, _*_, _/_, _%_, _≤_, _<_, zero-le}
 use native.Mathlib.Nat.{mod-eq-of-lt}
 use native.Mathlib.Omega.{arith}
 use native.Mathlib.Decide.{decLt}
 use mathlib.Core.Path.{_≡_, refl, sym, ap, _∙_, subst}
-use mathlib.Core.List.{List, [], _∷_, _++_, append-nil, List·Memᴰ, List·Memᴰ·head, List·Memᴰ·not-nil, Memᴰ·append-right}
+use mathlib.Core.List.{List, [], _∷_, _++_, append-nil, List·Memᴰ, List·Memᴰ·head, List·Memᴰ·not-nil}
 use lib.ListN.{length, take, length-append}
 use lib.Seq.{length-take-le, getD-take, ext-getD}
-use Rattle.laws.specs.Lists.{at, put}
+use Rattle.laws.specs.Lists.{at}
 use Rattle.laws.proofs.Lists.{length-put, at-put-in, at-put-above}
 use Rattle.laws.proofs.Once.{last-in, once-most}
 use Rattle.rules.specs.Memory.{Store, pageCount, regionPages}
@@ -21,7 +21,7 @@ use Rattle.facts.proofs.Sound.{Sound}
 use Rattle.working.proofs.Invariant.{Ghost, Inv}
 use Rattle.working.proofs.Running.{Ran}
 use Rattle.motion.specs.Leaves.{Desk, desk, low, freeFirst, taken, freeLast, given}
-use Rattle.motion.specs.Whole.{ownAll, giveAll, writtenRoots, writtenTable, doneAs, done}
+use Rattle.motion.specs.Whole.{giveAll, writtenRoots, writtenTable, doneAs, done}
 use Rattle.agreement.proofs.Matching.{Matching}
 use Rattle.agreement.proofs.Origins.{origins-set}
 use Rattle.agreement.proofs.GivenBack.{N-small, Giving, given-back}

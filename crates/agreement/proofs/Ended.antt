@@ -6,7 +6,7 @@ use mathlib.Core.List.{List}
 use lib.ListN.{length}
 use Rattle.laws.specs.Each.{After}
 use Rattle.rules.specs.declared.Refusal.{Refusal}
-use Rattle.rules.specs.Memory.{Store, pageCount}
+use Rattle.rules.specs.Memory.{Store}
 use Rattle.rules.specs.Refusals.{refused}
 use Rattle.rules.specs.Pages.{Run}
 use Rattle.rules.specs.Collection.{finished, ending, collected}

@@ -1,24 +1,22 @@
 -- The old pages given back, by the notes and by the plain run: both clear the page and set it behind the last free one. The old chains are
 -- still as they were, since a page's link is read before the page is given back. So both end with the same heap and free list.
-use Prim.Native.Nat.{ℕ, zero, suc, _+_, _-_, _*_, _/_, _%_, _^_, _≤_, _<_, zero-le}
+use Prim.Native.Nat.{ℕ, zero, suc, _+_, _-_, _*_, _/_, _^_, _≤_, _<_}
 use native.Mathlib.Nat.{le-refl, mul-le-mul-right, mul-le-mul-left, mul-div-left, mod-eq-of-lt}
 use native.Mathlib.Omega.{arith}
-use native.Mathlib.Decide.{ℕ-discrete}
 use mathlib.Core.Path.{_≡_, refl, sym, ap, _∙_, subst}
-use mathlib.Core.Logic.{_≢_, _⊎_, inl, inr}
-use mathlib.Core.List.{List, [], _∷_, _++_, append-nil, List·Memᴰ, List·Memᴰ·head, List·Memᴰ·tail}
+use mathlib.Core.Logic.{_≢_}
+use mathlib.Core.List.{List, [], _∷_, _++_, List·Memᴰ, List·Memᴰ·head, List·Memᴰ·tail}
 use lib.ListN.{length, set, length-set, length-append}
 use lib.Seq.{append-snoc, getD-set-same, getD-set-other}
-use lib.Dec.{leb, eqb}
 use borrow.Author.Tests.{le-leb, eq-eqb, ne-eqb}
 use Rattle.laws.specs.Lists.{at, lastOr}
 use Rattle.laws.proofs.Once.{Once, once-tail, once-head, once-most, Last, later as further, last-in, Linked, linked-none, linked-first}
-use Rattle.rules.specs.Memory.{Store, pageCount, link, origin, firstLink, regionPages, pagesFrom}
+use Rattle.rules.specs.Memory.{Store, pageCount, link, origin, firstLink, pagesFrom}
 use Rattle.rules.specs.Audit.{lastLink}
 use Rattle.rules.specs.Pages.{Run, withFree, clearPage, giveBack, giveBackAll}
 use Rattle.rules.specs.Collection.{fromSpace}
 use Rattle.rules.proofs.Whole.{pages-of, pages-once}
-use Rattle.facts.proofs.Laid.{upd, upd-other, old≢spare, old≢beyond, spare≢beyond, mine≢beyond, Owner, old, spare, mine, Layout}
+use Rattle.facts.proofs.Laid.{upd, upd-other, old≢spare, old≢beyond, spare≢beyond, mine≢beyond, Owner, old, spare, Layout}
 use Rattle.facts.proofs.Given.{last-link, link-last, given as given-page}
 use Rattle.facts.proofs.Passing.{pages-are}
 use Rattle.facts.proofs.Steps.{steps-le}
@@ -27,7 +25,7 @@ use Rattle.working.proofs.Invariant.{Ghost, Inv}
 use Rattle.motion.specs.Leaves.{Desk, desk, low, freeFirst, taken, freeLast, given, pageStart}
 use Rattle.motion.specs.Whole.{giveOn, giveBack as giveDesk, linkOn, giveChain, giveAll}
 use Rattle.agreement.proofs.Matching.{Matching}
-use Rattle.agreement.proofs.Walked.{steps-keep, along-all, one-page, clear-length, clear-else}
+use Rattle.agreement.proofs.Walked.{steps-keep, along-all, one-page, clear-else}
 
 -- ---- one page, both ways: it is the only free page, or it follows page z
 
@@ -252,9 +250,12 @@ module _ (s : Store) (S : Sound s) (g : Ghost) (r : Run) (I : Inv s S g r) (d : 
     where
       go : (m : ℕ) → j + m ≡ R → Giving (pagesFrom n (s .heap) (s .table) m j) e → Below (suc j) (giveChain n N (firstLink n (s .table) j) e)
       go zero q K = absurd (omega arith)
-      go (suc m) q K =
-          (m, omega arith, region j jR (pagesFrom n (s .heap) (s .table) m (suc j)) e
-          (subst (λ ks. Giving (ks ++ pagesFrom n (s .heap) (s .table) m (suc j)) e) (pages-are s S j jR) K))
+      go (suc m) q K = (
+        m,
+        omega arith,
+        region j jR (pagesFrom n (s .heap) (s .table) m (suc j)) e
+            (subst (λ ks. Giving (ks ++ pagesFrom n (s .heap) (s .table) m (suc j)) e) (pages-are s S j jR) K),
+      )
 
   -- the old pages
   pub from-once : Once (fromSpace s)

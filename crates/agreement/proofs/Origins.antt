@@ -1,6 +1,6 @@
 -- The taken pages get their origins: every taken page is in one region's new chain, and only the origins differed. So the heap is then the
 -- plain run's, word by word.
-use Prim.Native.Nat.{ℕ, zero, suc, _+_, _-_, _*_, _/_, _%_, _^_, _≤_, _<_, zero-le}
+use Prim.Native.Nat.{ℕ, suc, _+_, _*_, _/_, _^_, _≤_, _<_, zero-le}
 use native.Mathlib.Nat.{mul-le-mul-right, mul-div-left}
 use native.Mathlib.Omega.{arith}
 use native.Mathlib.Decide.{ℕ-discrete}
@@ -11,9 +11,9 @@ use lib.ListN.{length, set, length-set}
 use lib.Seq.{getD-set-same, getD-set-other, ext-getD}
 use Rattle.laws.specs.Lists.{at}
 use Rattle.laws.proofs.Once.{once-most}
-use Rattle.rules.specs.Memory.{Store, pageCount, link, firstOf, firstLink}
+use Rattle.rules.specs.Memory.{Store, pageCount, link, firstLink}
 use Rattle.rules.specs.Pages.{Run}
-use Rattle.facts.proofs.Laid.{mine≢beyond, Owner, mine}
+use Rattle.facts.proofs.Laid.{mine≢beyond}
 use Rattle.facts.proofs.Sound.{Sound}
 use Rattle.working.proofs.Invariant.{Ghost, Inv}
 use Rattle.motion.specs.Leaves.{Desk}
@@ -67,14 +67,13 @@ module _ (s : Store) (S : Sound s) (g : Ghost) (r : Run) (I : Inv s S g r) (d : 
 
     turn : (k : ℕ) (ks : List ℕ) (h : List ℕ) → Chain (k ∷ ks) h → (link n h k ≡ link n (r .heap) k) × Chain ks (own n j k h)
     unfolding link own
-    turn k ks h K =
-        (
-          K .half .words (k * P) (λ l q. link-apart k l),
-          record {
-            half = record { size = length-set h (k * P + 1) (suc j) ∙ K .half .size; words = λ x ne. words x ne (ℕ-discrete x (k * P + 1)) };
-            theirs = λ l q. K .theirs l (List·Memᴰ·tail q);
-          },
-        )
+    turn k ks h K = (
+      K .half .words (k * P) (λ l q. link-apart k l),
+      record {
+        half = record { size = length-set h (k * P + 1) (suc j) ∙ K .half .size; words = λ x ne. words x ne (ℕ-discrete x (k * P + 1)) };
+        theirs = λ l q. K .theirs l (List·Memᴰ·tail q);
+      },
+    )
       where
         m : List·Memᴰ k (g .pages j)
         m = K .theirs k (List·Memᴰ·head refl)

@@ -1,7 +1,7 @@
 -- The headers put back: stepping through each old page, a header that is a forward is replaced by the first word of its copy, which is the
 -- header that was moved. So all old pages have their words of before, and no other word changes.
-use Prim.Native.Nat.{ℕ, zero, suc, _+_, _-_, _*_, _/_, _%_, _^_, _≤_, _<_, zero-le}
-use native.Mathlib.Nat.{le-refl, mul-le-mul-right, mul-div-left, mul-div-right, add-zero}
+use Prim.Native.Nat.{ℕ, zero, suc, _+_, _*_, _/_, _%_, _^_, _≤_, _<_, zero-le}
+use native.Mathlib.Nat.{le-refl, mul-le-mul-right, mul-div-left}
 use native.Mathlib.Omega.{arith}
 use native.Mathlib.Decide.{ℕ-discrete, decLt}
 use native.Mathlib.Numerals.{sub-one}
@@ -15,13 +15,13 @@ use lib.Seq.{getD-set-same, getD-set-other}
 use lib.Dec.{leb, eqb}
 use borrow.Author.Tests.{le-leb, lt-leb, eq-eqb, ne-eqb}
 use Rattle.laws.specs.Lists.{at}
-use Rattle.laws.specs.Each.{After, after, along, steps}
-use Rattle.laws.specs.Loop.{loop, more, over}
+use Rattle.laws.specs.Each.{after}
+use Rattle.laws.specs.Loop.{more, over}
 use Rattle.laws.proofs.Loops.{loop-more, loop-over, loop-end}
 use Rattle.laws.proofs.Once.{once-most, member?}
-use Rattle.rules.specs.Memory.{Store, pageCount, link, firstOf, firstLink}
+use Rattle.rules.specs.Memory.{Store, pageCount, link, firstLink}
 use Rattle.rules.specs.Words.{headOf, lengthBy, headBy}
-use Rattle.facts.proofs.Laid.{old≢mine, old≢spare, old≢beyond, mine≢beyond, Owner, old, mine, Body}
+use Rattle.facts.proofs.Laid.{old≢mine, old≢beyond, mine≢beyond, old, mine, Body}
 use Rattle.facts.proofs.Steps.{Stands, Steps, here, over as passes, steps-le, steps-then, apart}
 use Rattle.facts.proofs.Copied.{to}
 use Rattle.facts.proofs.Sound.{Sound}
@@ -348,8 +348,7 @@ module _ (s : Store) (S : Sound s) (d : Desk) (A : Stuck s S d) where
         let o : g .own k ≡ old = A .from-space k .1 (j, jR, m) in
         let B = S .laid .mine-body j k (S .laid .mine-own j k jR m) in
         let U = undo-page (Before (k ∷ ks) (suc j)) k j o B h (K .half) in
-        let c = S .laid .big in
-        (
+        let c = S .laid .big in (
           descriptor (Before (k ∷ ks) (suc j)) k j o B h (K .half) (k * P) (le-refl _) (omega arith),
           record {
             half =

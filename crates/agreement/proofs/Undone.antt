@@ -1,28 +1,28 @@
 -- A collection that lacks a page is undone: the headers are put back, and each taken page, in the order of taking, is cleared and gets its
 -- link of before, which its origin has kept. No page is still free. So the heap is as it was.
-use Prim.Native.Nat.{ℕ, zero, suc, _+_, _-_, _*_, _/_, _%_, _^_, _≤_, _<_}
+use Prim.Native.Nat.{ℕ, _+_, _*_, _/_, _^_, _≤_, _<_}
 use native.Mathlib.Nat.{mul-le-mul-right, div-add-mod', mod-lt, div-lt-iff-lt-mul}
 use native.Mathlib.Omega.{arith}
 use native.Mathlib.Decide.{ℕ-discrete}
 use mathlib.Core.Path.{_≡_, refl, sym, ap, _∙_, subst}
 use mathlib.Core.Logic.{_≢_, _⊎_, inl, inr}
-use mathlib.Core.List.{List, [], _∷_, _++_, List·Memᴰ, List·Memᴰ·head, List·Memᴰ·tail, List·Memᴰ·cases-cons, List·Memᴰ·not-nil, Memᴰ·append-left, Memᴰ·append-right}
+use mathlib.Core.List.{List, [], _∷_, _++_, List·Memᴰ, List·Memᴰ·head, List·Memᴰ·tail, List·Memᴰ·cases-cons, List·Memᴰ·not-nil, Memᴰ·append-left}
 use lib.ListN.{length, set, length-set}
 use lib.Seq.{getD-set-same, getD-set-other, ext-getD}
 use Rattle.laws.specs.Lists.{at}
 use Rattle.laws.proofs.Once.{Once, once-none, once-more, once-tail, once-head, Linked}
 use Rattle.rules.specs.declared.Refusal.{Refusal}
 use Rattle.rules.specs.Memory.{Store, pageCount, link, origin}
-use Rattle.rules.specs.Refusals.{Outcome, outcome, refused}
-use Rattle.rules.specs.Pages.{Run, clearPage}
-use Rattle.facts.proofs.Laid.{old≢spare, old≢mine, spare≢mine, spare≢beyond, mine≢beyond, Owner, old, spare, beyond, mine}
+use Rattle.rules.specs.Refusals.{refused}
+use Rattle.rules.specs.Pages.{clearPage}
+use Rattle.facts.proofs.Laid.{old≢mine, spare≢beyond, Owner, old, spare, beyond, mine}
 use Rattle.facts.proofs.Sound.{Sound}
-use Rattle.working.proofs.Invariant.{Ghost, Inv}
+use Rattle.working.proofs.Invariant.{Ghost}
 use Rattle.motion.specs.Leaves.{Desk, taken}
 use Rattle.motion.specs.Whole.{undoHeaders, relink, relinkAll, undo, lacking}
 use Rattle.agreement.proofs.Matching.{Matching}
 use Rattle.agreement.proofs.Stuck.{Stuck}
-use Rattle.agreement.proofs.Walked.{along-front, linked-rest, linked-agree, one-page, clear-length, clear-else, clear-in}
+use Rattle.agreement.proofs.Walked.{along-front, one-page, clear-length, clear-else, clear-in}
 use Rattle.agreement.proofs.Restored.{headers-back, old-back}
 
 once-front : (ks ms : List ℕ) → Once (ks ++ ms) → Once ks
@@ -68,17 +68,16 @@ module _ (s : Store) (S : Sound s) (d : Desk) (A : Stuck s S d) where
 
   turn : (k : ℕ) (ks : List ℕ) (h : List ℕ) → Linking (k ∷ ks) h → (origin n h k ≡ link n (s .heap) k) × Linking ks (relink n k h)
   unfolding origin link relink
-  turn k ks h L =
-      (
-        L .kept k (List·Memᴰ·head refl),
-        record {
-          size = length-set h₂ (k * P) w ∙ clear-length n h k k-in ∙ L .size;
-          back = λ l x b ne p q. back l x b ne p q (ℕ-discrete l k);
-          kept = λ l m. kept l m;
-          once = once-tail (L .once);
-          free = λ l m. L .free l (List·Memᴰ·tail m);
-        },
-      )
+  turn k ks h L = (
+    L .kept k (List·Memᴰ·head refl),
+    record {
+      size = length-set h₂ (k * P) w ∙ clear-length n h k k-in ∙ L .size;
+      back = λ l x b ne p q. back l x b ne p q (ℕ-discrete l k);
+      kept = λ l m. kept l m;
+      once = once-tail (L .once);
+      free = λ l m. L .free l (List·Memᴰ·tail m);
+    },
+  )
     where
       w : ℕ
       w = origin n h k

@@ -1,18 +1,17 @@
 -- What a loop over numbers or along links keeps: if each turn keeps a fact about what is left to do, then the fact holds at the end, with
 -- nothing left. Each is one recursion.
-use Prim.Native.Nat.{ℕ, zero, suc, _+_, _-_, _*_, _/_, _%_, _^_, _≤_, _<_}
-use native.Mathlib.Nat.{le-refl, mul-le-mul-right}
+use Prim.Native.Nat.{ℕ, zero, suc, _+_, _-_, _*_, _^_, _≤_, _<_}
+use native.Mathlib.Nat.{le-refl}
 use native.Mathlib.Omega.{arith}
 use mathlib.Core.Path.{_≡_, refl, sym, ap, _∙_}
 use mathlib.Core.Logic.{_≢_, _⊎_, inl, inr}
-use mathlib.Core.List.{List, [], _∷_, _++_, append-nil, List·Memᴰ, List·Memᴰ·head, List·Memᴰ·tail}
+use mathlib.Core.List.{List, [], _∷_, _++_, List·Memᴰ, List·Memᴰ·head, List·Memᴰ·tail}
 use lib.ListN.{length, replicate, length-replicate, getD-replicate}
 use borrow.Author.Tests.{lt-ltb}
 use Rattle.laws.specs.Lists.{at}
 use Rattle.laws.specs.Each.{steps, along}
 use Rattle.laws.proofs.Lists.{apart, length-put, at-put-in}
-use Rattle.laws.proofs.Once.{Linked, stop, goes, linked-none, linked-first}
-use Rattle.rules.specs.Memory.{link}
+use Rattle.laws.proofs.Once.{Linked, linked-none, linked-first}
 use Rattle.rules.specs.Pages.{clearPage}
 use Rattle.facts.proofs.Laid.{put-elsewhere}
 
@@ -48,23 +47,6 @@ module _ {S : Type 0} where
         let v = turn k ks s i in
         let rest = along-all f ks (l k) (g k s) (u .1) (λ y p. small y (List·Memᴰ·tail p)) (omega arith) (v .1) in
         rw (u .0, along, lt-ltb k m (small k (List·Memᴰ·head refl)), v .0) rest
-
--- ---- chains
-
--- the rest of a chain is a chain
-pub linked-rest : {l : ℕ → ℕ} (ks ms : List ℕ) {x : ℕ} → Linked l x (ks ++ ms) → (y : ℕ) × Linked l y ms
-linked-rest [] ms {x} t = (x, t)
-linked-rest (k ∷ ks) ms t = linked-rest ks ms (linked-first t .1)
-
--- where a chain starts is decided by its numbers
-linked-start : {l m : ℕ → ℕ} {x y : ℕ} (ks : List ℕ) → Linked l x ks → Linked m y ks → x ≡ y
-linked-start [] t u = linked-none t ∙ sym (linked-none u)
-linked-start (k ∷ ks) t u = linked-first t .0 ∙ sym (linked-first u .0)
-
--- and so are its links
-pub linked-agree : {l m : ℕ → ℕ} {x y : ℕ} (ks : List ℕ) → Linked l x ks → Linked m y ks → (k : ℕ) → List·Memᴰ k ks → l k ≡ m k
-linked-agree {l} {m} (z ∷ ks) t u k (List·Memᴰ·head e) = rw e (linked-start ks (linked-first t .1) (linked-first u .1))
-linked-agree (z ∷ ks) t u k (List·Memᴰ·tail p) = linked-agree ks (linked-first t .1) (linked-first u .1) k p
 
 -- ---- pages
 
