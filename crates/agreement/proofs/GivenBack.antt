@@ -1,7 +1,7 @@
 -- The old pages given back, by the notes and by the plain run: both clear the page and set it behind the last free one. The old chains are
 -- still as they were, since a page's link is read before the page is given back. So both end with the same heap and free list.
-use Prim.Native.Nat.{ℕ, zero, suc, _+_, _-_, _*_, _/_, _^_, _≤_, _<_}
-use native.Mathlib.Nat.{le-refl, mul-le-mul-right, mul-le-mul-left, mul-div-left, mod-eq-of-lt}
+use Prim.Native.Nat.{ℕ, zero, suc, _+_, _-_, _*_, _^_, _≤_, _<_}
+use native.Mathlib.Nat.{le-refl, mul-le-mul-right, mul-le-mul-left, mod-eq-of-lt}
 use native.Mathlib.Omega.{arith}
 use mathlib.Core.Path.{_≡_, refl, sym, ap, _∙_, subst}
 use mathlib.Core.Logic.{_≢_}
@@ -25,7 +25,7 @@ use Rattle.working.proofs.Invariant.{Ghost, Inv}
 use Rattle.motion.specs.Leaves.{Desk, desk, low, freeFirst, taken, freeLast, given, pageStart}
 use Rattle.motion.specs.Whole.{giveOn, giveBack as giveDesk, linkOn, giveChain, giveAll}
 use Rattle.agreement.proofs.Matching.{Matching}
-use Rattle.agreement.proofs.Walked.{steps-keep, along-all, one-page, clear-else}
+use Rattle.agreement.proofs.Walked.{steps-keep, along-all, one-page, clear-else, first-link}
 
 -- ---- one page, both ways: it is the only free page, or it follows page z
 
@@ -231,12 +231,9 @@ module _ (s : Store) (S : Sound s) (g : Ghost) (r : Run) (I : Inv s S g r) (d : 
     small : (k : ℕ) → List·Memᴰ k (S .pages j) → k < N
     small k m = S .laid .known k (mine≢beyond (S .laid .mine-own j k jR m))
 
-    first-page : firstLink n (s .table) j ≡ suc (S .laid .mine-links j jR .0)
-    first-page = ap suc (ap (λ x. x / 2 ^ n) (S .laid .mine-links j jR .1) ∙ mul-div-left (S .laid .mine-links j jR .0) {n = 2 ^ n} (let c = S .laid .big in omega arith))
-
     region : (e : Desk) → Giving (S .pages j ++ ms) e → Giving ms (giveChain n N (firstLink n (s .table) j) e)
     region e K =
-        rw first-page
+        rw (first-link n (s .table) j (S .laid .mine-links j jR .0) (S .laid .big) (S .laid .mine-links j jR .1))
         (along-all N (linkOn n) (giveDesk n) (link n (s .heap)) (λ ks x. Giving (ks ++ ms) x) (λ k ks x K. give k (ks ++ ms) x K) N (S .pages j)
         (suc (S .laid .mine-links j jR .0)) e (S .laid .mine-links j jR .2) small (once-most N small (S .laid .mine-once j jR)) K)
 

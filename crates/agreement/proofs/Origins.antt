@@ -1,10 +1,10 @@
 -- The taken pages get their origins: every taken page is in one region's new chain, and only the origins differed. So the heap is then the
 -- plain run's, word by word.
-use Prim.Native.Nat.{ℕ, suc, _+_, _*_, _/_, _^_, _≤_, _<_, zero-le}
-use native.Mathlib.Nat.{mul-le-mul-right, mul-div-left}
+use Prim.Native.Nat.{ℕ, suc, _+_, _*_, _^_, _<_, zero-le}
+use native.Mathlib.Nat.{mul-le-mul-right}
 use native.Mathlib.Omega.{arith}
 use native.Mathlib.Decide.{ℕ-discrete}
-use mathlib.Core.Path.{_≡_, refl, sym, ap, _∙_, subst}
+use mathlib.Core.Path.{_≡_, refl, sym, ap, _∙_}
 use mathlib.Core.Logic.{_≢_, _⊎_, inl, inr}
 use mathlib.Core.List.{List, [], _∷_, List·Memᴰ, List·Memᴰ·head, List·Memᴰ·tail, List·Memᴰ·cases-cons}
 use lib.ListN.{length, set, length-set}
@@ -19,7 +19,7 @@ use Rattle.working.proofs.Invariant.{Ghost, Inv}
 use Rattle.motion.specs.Leaves.{Desk}
 use Rattle.motion.specs.Whole.{own, ownChain, ownAll}
 use Rattle.agreement.proofs.Matching.{Matching}
-use Rattle.agreement.proofs.Walked.{steps-keep, along-all, one-page}
+use Rattle.agreement.proofs.Walked.{steps-keep, along-all, one-page, first-link, From, Before, from-split, before-none, from-none}
 
 module _ (s : Store) (S : Sound s) (g : Ghost) (r : Run) (I : Inv s S g r) (d : Desk) (M : Matching s S g r d) where
   abbrev n : ℕ
@@ -50,19 +50,12 @@ module _ (s : Store) (S : Sound s) (g : Ghost) (r : Run) (I : Inv s S g r) (d : 
       go (yes q) = let w : k * P ≡ l * P = ap (λ y. y * P) q in omega arith
       go (no ne) = let c = S .laid .big in one-page n k l (k * P) ne (omega arith) (omega arith) (omega arith) (omega arith)
 
-  -- the new pages of the regions from j on, and the pages ks before them
-  abbrev From : ℕ → ℕ → Type 0
-  From j k = (i : ℕ) × (j ≤ i) × (i < R) × List·Memᴰ k (g .pages i)
-
-  abbrev Before : List ℕ → ℕ → ℕ → Type 0
-  Before ks j k = List·Memᴰ k ks ⊎ From j k
-
   module _ (j : ℕ) (jR : j < R) where
     small : (k : ℕ) → List·Memᴰ k (g .pages j) → k < N
     small k m = I .laid .known k (mine≢beyond (I .laid .mine-own j k jR m))
 
     pub record Chain (ks : List ℕ) (h : List ℕ) : Type 0 where
-      pub half : Half (Before ks (suc j)) h
+      pub half : Half (Before R (g .pages) ks (suc j)) h
       pub theirs : (k : ℕ) → List·Memᴰ k ks → List·Memᴰ k (g .pages j)
 
     turn : (k : ℕ) (ks : List ℕ) (h : List ℕ) → Chain (k ∷ ks) h → (link n h k ≡ link n (r .heap) k) × Chain ks (own n j k h)
@@ -78,7 +71,7 @@ module _ (s : Store) (S : Sound s) (g : Ghost) (r : Run) (I : Inv s S g r) (d : 
         m : List·Memᴰ k (g .pages j)
         m = K .theirs k (List·Memᴰ·head refl)
 
-        words : (x : ℕ) → ((l : ℕ) → Before ks (suc j) l → x ≢ l * P + 1) → Dec (x ≡ k * P + 1) → at (set h (k * P + 1) (suc j)) x ≡ at (r .heap) x
+        words : (x : ℕ) → ((l : ℕ) → Before R (g .pages) ks (suc j) l → x ≢ l * P + 1) → Dec (x ≡ k * P + 1) → at (set h (k * P + 1) (suc j)) x ≡ at (r .heap) x
         words x ne (yes e) =
             let a = mul-le-mul-right P (small k m) in
             let b = I .laid .size in
@@ -87,7 +80,7 @@ module _ (s : Store) (S : Sound s) (g : Ghost) (r : Run) (I : Inv s S g r) (d : 
             rw e (getD-set-same h (k * P + 1) (suc j) 0 (omega arith) ∙ sym (I .laid .mine-body j k (I .laid .mine-own j k jR m) .whose))
         words x ne (no f) = getD-set-other h (k * P + 1) x (suc j) 0 f ∙ K .half .words x before
           where
-            before : (l : ℕ) → Before (k ∷ ks) (suc j) l → x ≢ l * P + 1
+            before : (l : ℕ) → Before R (g .pages) (k ∷ ks) (suc j) l → x ≢ l * P + 1
             before l (inr q) = ne l (inr q)
             before l (inl q) = go (List·Memᴰ·cases-cons q)
               where
@@ -95,31 +88,15 @@ module _ (s : Store) (S : Sound s) (g : Ghost) (r : Run) (I : Inv s S g r) (d : 
                 go (inl e) = rw e f
                 go (inr p) = ne l (inl p)
 
-    first-page : firstLink n (d .notes) j ≡ suc (I .laid .mine-links j jR .0)
-    first-page =
-        ap suc (ap (λ x. x / 2 ^ n) (M .rows j 1 jR (omega arith) ∙ I .laid .mine-links j jR .1)
-        ∙ mul-div-left (I .laid .mine-links j jR .0) {n = 2 ^ n} (let c = I .laid .big in omega arith))
-
-    region : (h : List ℕ) → Half (From j) h → Half (From (suc j)) (ownChain n N j (firstLink n (d .notes) j) h)
+    region : (h : List ℕ) → Half (From R (g .pages) j) h → Half (From R (g .pages) (suc j)) (ownChain n N j (firstLink n (d .notes) j) h)
     region h H =
-        let start : Chain (g .pages j) h = record { half = half-more split H; theirs = λ k p. p } in
+        let start : Chain (g .pages j) h = record { half = half-more (from-split R (g .pages) j) H; theirs = λ k p. p } in
         let end : Chain [] (ownChain n N j (suc (I .laid .mine-links j jR .0)) h)
         = along-all N (link n) (own n j) (link n (r .heap)) Chain turn N (g .pages j) (suc (I .laid .mine-links j jR .0)) h (I .laid .mine-links j jR .2) small
         (once-most N small (I .laid .mine-once j jR)) start in
-        rw first-page (half-more gone (end .half))
-      where
-        split : (k : ℕ) → From j k → Before (g .pages j) (suc j) k
-        split k t = go (ℕ-discrete (t .0) j)
-          where
-            go : Dec (t .0 ≡ j) → Before (g .pages j) (suc j) k
-            go (yes e) = inl (subst (λ i. List·Memᴰ k (g .pages i)) e (t .3))
-            go (no ne) = inr (t .0, (let a = t .1 in omega arith), t .2, t .3)
+        rw (first-link n (d .notes) j (I .laid .mine-links j jR .0) (I .laid .big) (M .rows j 1 jR (omega arith) ∙ I .laid .mine-links j jR .1)) (half-more (before-none R (g .pages) (suc j)) (end .half))
 
-        gone : (k : ℕ) → Before [] (suc j) k → From (suc j) k
-        gone k (inl p) = elim p [ ]
-        gone k (inr t) = t
-
-  begin : Half (From 0) (d .heap)
+  begin : Half (From R (g .pages) 0) (d .heap)
   begin =
       record {
         size = M .heap-length;
@@ -128,6 +105,6 @@ module _ (s : Store) (S : Sound s) (g : Ghost) (r : Run) (I : Inv s S g r) (d : 
 
   pub origins-set : ownAll n N R (d .notes) (d .heap) ≡ r .heap
   origins-set =
-      let H : Half (From R) (ownAll n N R (d .notes) (d .heap))
-      = steps-keep (λ j. ownChain n N j (firstLink n (d .notes) j)) R (λ j h. Half (From j) h) (λ j h jR H. region j jR h H) R 0 (d .heap) (omega arith) begin in
-      ext-getD 0 _ _ (H .size) (λ x b. H .words x (λ k t. let a = t .1 in let c = t .2 in absurd (omega arith)))
+      let H : Half (From R (g .pages) R) (ownAll n N R (d .notes) (d .heap))
+      = steps-keep (λ j. ownChain n N j (firstLink n (d .notes) j)) R (λ j h. Half (From R (g .pages) j) h) (λ j h jR H. region j jR h H) R 0 (d .heap) (omega arith) begin in
+      ext-getD 0 _ _ (H .size) (λ x b. H .words x (λ k t. from-none R (g .pages) k t))

@@ -1,7 +1,7 @@
 -- The headers put back: stepping through each old page, a header that is a forward is replaced by the first word of its copy, which is the
 -- header that was moved. So all old pages have their words of before, and no other word changes.
 use Prim.Native.Nat.{ℕ, zero, suc, _+_, _*_, _/_, _%_, _^_, _≤_, _<_, zero-le}
-use native.Mathlib.Nat.{le-refl, mul-le-mul-right, mul-div-left}
+use native.Mathlib.Nat.{le-refl, mul-le-mul-right}
 use native.Mathlib.Omega.{arith}
 use native.Mathlib.Decide.{ℕ-discrete, decLt}
 use native.Mathlib.Numerals.{sub-one}
@@ -32,7 +32,7 @@ use Rattle.motion.specs.Leaves.{Desk}
 use Rattle.motion.specs.Whole.{undoOf, undoTurn, undoVals, undoPage, undoChain, undoHeaders}
 use Rattle.agreement.proofs.Matching.{Matching}
 use Rattle.agreement.proofs.Stuck.{Stuck}
-use Rattle.agreement.proofs.Walked.{steps-keep, along-all, one-page}
+use Rattle.agreement.proofs.Walked.{steps-keep, along-all, one-page, first-link, From, Before, from-split, before-none, from-none}
 
 -- ---- headers and forwards as numbers
 
@@ -328,17 +328,9 @@ module _ (s : Store) (S : Sound s) (d : Desk) (A : Stuck s S d) where
 
   -- ---- all pages
 
-  -- the pages of the regions from j on
-  abbrev From : ℕ → ℕ → Type 0
-  From j k = (i : ℕ) × (j ≤ i) × (i < R) × List·Memᴰ k (S .pages i)
-
-  -- and the pages ks before them
-  abbrev Before : List ℕ → ℕ → ℕ → Type 0
-  Before ks j k = List·Memᴰ k ks ⊎ From j k
-
   module _ (j : ℕ) (jR : j < R) where
     pub record Chain (ks : List ℕ) (h : List ℕ) : Type 0 where
-      pub half : Half (Before ks (suc j)) h
+      pub half : Half (Before R (S .pages) ks (suc j)) h
       pub theirs : (k : ℕ) → List·Memᴰ k ks → List·Memᴰ k (S .pages j)
 
     turn : (k : ℕ) (ks : List ℕ) (h : List ℕ) → Chain (k ∷ ks) h → (link n h k ≡ link n (s .heap) k) × Chain ks (undoPage n k h)
@@ -347,9 +339,9 @@ module _ (s : Store) (S : Sound s) (d : Desk) (A : Stuck s S d) where
         let m : List·Memᴰ k (S .pages j) = K .theirs k (List·Memᴰ·head refl) in
         let o : g .own k ≡ old = A .from-space k .1 (j, jR, m) in
         let B = S .laid .mine-body j k (S .laid .mine-own j k jR m) in
-        let U = undo-page (Before (k ∷ ks) (suc j)) k j o B h (K .half) in
+        let U = undo-page (Before R (S .pages) (k ∷ ks) (suc j)) k j o B h (K .half) in
         let c = S .laid .big in (
-          descriptor (Before (k ∷ ks) (suc j)) k j o B h (K .half) (k * P) (le-refl _) (omega arith),
+          descriptor (Before R (S .pages) (k ∷ ks) (suc j)) k j o B h (K .half) (k * P) (le-refl _) (omega arith),
           record {
             half =
                 record {
@@ -362,46 +354,32 @@ module _ (s : Store) (S : Sound s) (d : Desk) (A : Stuck s S d) where
           },
         )
       where
-        back-by : PageBack (Before (k ∷ ks) (suc j)) k j (A .from-space k .1 (j, jR, K .theirs k (List·Memᴰ·head refl))) (S .laid .mine-body j k (S .laid .mine-own j k jR (K .theirs k (List·Memᴰ·head refl)))) (undoPage n k h)
-            → (l x : ℕ) → g .own l ≡ old → (Before ks (suc j) l → ⊥) → In l x → Dec (l ≡ k) → at (undoPage n k h) x ≡ at (s .heap) x
+        back-by : PageBack (Before R (S .pages) (k ∷ ks) (suc j)) k j (A .from-space k .1 (j, jR, K .theirs k (List·Memᴰ·head refl))) (S .laid .mine-body j k (S .laid .mine-own j k jR (K .theirs k (List·Memᴰ·head refl)))) (undoPage n k h)
+            → (l x : ℕ) → g .own l ≡ old → (Before R (S .pages) ks (suc j) l → ⊥) → In l x → Dec (l ≡ k) → at (undoPage n k h) x ≡ at (s .heap) x
         back-by U l x w ne p (yes e) = U .page x (subst (λ y. In y x) e p)
         back-by U l x w ne p (no f) = U .half .back l x w (λ q. ne (tails q)) p
           where
-            tails : Before (k ∷ ks) (suc j) l → Before ks (suc j) l
+            tails : Before R (S .pages) (k ∷ ks) (suc j) l → Before R (S .pages) ks (suc j) l
             tails (inr q) = inr q
             tails (inl q) = go (List·Memᴰ·cases-cons q)
               where
-                go : (l ≡ k) ⊎ List·Memᴰ l ks → Before ks (suc j) l
+                go : (l ≡ k) ⊎ List·Memᴰ l ks → Before R (S .pages) ks (suc j) l
                 go (inl e) = absurd (f e)
                 go (inr m) = inl m
 
     small : (k : ℕ) → List·Memᴰ k (S .pages j) → k < N
     small k m = S .laid .known k (mine≢beyond (S .laid .mine-own j k jR m))
 
-    first-page : firstLink n (s .table) j ≡ suc (S .laid .mine-links j jR .0)
-    first-page = ap suc (ap (λ x. x / 2 ^ n) (S .laid .mine-links j jR .1) ∙ mul-div-left (S .laid .mine-links j jR .0) {n = 2 ^ n} (let c = S .laid .big in omega arith))
-
-    region : (h : List ℕ) → Half (From j) h → Half (From (suc j)) (undoChain n N (firstLink n (s .table) j) h)
+    region : (h : List ℕ) → Half (From R (S .pages) j) h → Half (From R (S .pages) (suc j)) (undoChain n N (firstLink n (s .table) j) h)
     region h H =
-        let start : Chain (S .pages j) h = record { half = half-more split H; theirs = λ k m. m } in
+        let start : Chain (S .pages j) h = record { half = half-more (from-split R (S .pages) j) H; theirs = λ k m. m } in
         let end : Chain [] (undoChain n N (suc (S .laid .mine-links j jR .0)) h)
         = along-all N (link n) (undoPage n) (link n (s .heap)) Chain turn N (S .pages j) (suc (S .laid .mine-links j jR .0)) h (S .laid .mine-links j jR .2) small
         (once-most N small (S .laid .mine-once j jR)) start in
-        rw first-page (half-more gone (end .half))
-      where
-        split : (k : ℕ) → From j k → Before (S .pages j) (suc j) k
-        split k t = go (ℕ-discrete (t .0) j)
-          where
-            go : Dec (t .0 ≡ j) → Before (S .pages j) (suc j) k
-            go (yes e) = inl (subst (λ i. List·Memᴰ k (S .pages i)) e (t .3))
-            go (no ne) = inr (t .0, (let a = t .1 in omega arith), t .2, t .3)
-
-        gone : (k : ℕ) → Before [] (suc j) k → From (suc j) k
-        gone k (inl m) = elim m [ ]
-        gone k (inr t) = t
+        rw (first-link n (s .table) j (S .laid .mine-links j jR .0) (S .laid .big) (S .laid .mine-links j jR .1)) (half-more (before-none R (S .pages) (suc j)) (end .half))
 
   -- at the start every old page is left
-  begin : Half (From 0) (d .heap)
+  begin : Half (From R (S .pages) 0) (d .heap)
   begin =
       record {
         size = M .heap-length ∙ A .size ∙ sym size-N;
@@ -424,9 +402,9 @@ module _ (s : Store) (S : Sound s) (d : Desk) (A : Stuck s S d) where
           go (yes m) = let t = in-olds (g .log) m in inr (t .0, t .1, A .logged .copies (t .1) .forward)
           go (no ne) = inl (A .logged .unmoved k x o (p .0) (p .1) (λ b m. ne (olds-in m)))
 
-  pub headers-back : Half (From R) (undoHeaders n N R (s .table) (d .heap))
-  headers-back = steps-keep (λ j. undoChain n N (firstLink n (s .table) j)) R (λ j h. Half (From j) h) (λ j h jR H. region j jR h H) R 0 (d .heap) (omega arith) begin
+  pub headers-back : Half (From R (S .pages) R) (undoHeaders n N R (s .table) (d .heap))
+  headers-back = steps-keep (λ j. undoChain n N (firstLink n (s .table) j)) R (λ j h. Half (From R (S .pages) j) h) (λ j h jR H. region j jR h H) R 0 (d .heap) (omega arith) begin
 
   -- the old pages are as before
   pub old-back : (k x : ℕ) → g .own k ≡ old → In k x → at (undoHeaders n N R (s .table) (d .heap)) x ≡ at (s .heap) x
-  old-back k x o p = headers-back .back k x o (λ t. let a = t .1 in let b = t .2 in omega arith) p
+  old-back k x o p = headers-back .back k x o (from-none R (S .pages) k) p

@@ -1,9 +1,10 @@
 -- What a loop over numbers or along links keeps: if each turn keeps a fact about what is left to do, then the fact holds at the end, with
 -- nothing left. Each is one recursion.
-use Prim.Native.Nat.{ℕ, zero, suc, _+_, _-_, _*_, _^_, _≤_, _<_}
-use native.Mathlib.Nat.{le-refl}
+use Prim.Native.Nat.{ℕ, zero, suc, _+_, _-_, _*_, _/_, _^_, _≤_, _<_}
+use native.Mathlib.Nat.{le-refl, mul-div-left}
 use native.Mathlib.Omega.{arith}
-use mathlib.Core.Path.{_≡_, refl, sym, ap, _∙_}
+use native.Mathlib.Decide.{ℕ-discrete}
+use mathlib.Core.Path.{_≡_, refl, sym, ap, _∙_, subst}
 use mathlib.Core.Logic.{_≢_, _⊎_, inl, inr}
 use mathlib.Core.List.{List, [], _∷_, _++_, List·Memᴰ, List·Memᴰ·head, List·Memᴰ·tail}
 use lib.ListN.{length, replicate, length-replicate, getD-replicate}
@@ -12,6 +13,7 @@ use Rattle.laws.specs.Lists.{at}
 use Rattle.laws.specs.Each.{steps, along}
 use Rattle.laws.proofs.Lists.{apart, length-put, at-put-in}
 use Rattle.laws.proofs.Once.{Linked, linked-none, linked-first}
+use Rattle.rules.specs.Memory.{firstOf, firstLink}
 use Rattle.rules.specs.Pages.{clearPage}
 use Rattle.facts.proofs.Laid.{put-elsewhere}
 
@@ -82,3 +84,33 @@ module _ (n : ℕ) (h : List ℕ) (k : ℕ) (inside : k * 2 ^ n + 2 ^ n ≤ leng
       let e : k * 2 ^ n + (x - k * 2 ^ n) ≡ x = omega arith in
       let len = len-Z in
       ap (at (clearPage n h k)) (sym e) ∙ at-put-in h (k * 2 ^ n) Z (x - k * 2 ^ n) fits (omega arith) ∙ getD-replicate {A = ℕ} (2 ^ n) (x - k * 2 ^ n) 0 0 (omega arith)
+
+-- the link to a region's first page
+pub first-link : (n : ℕ) (t : List ℕ) (j k : ℕ) → 16 ≤ 2 ^ n → firstOf t j ≡ k * 2 ^ n → firstLink n t j ≡ suc k
+first-link n t j k big e = ap suc (ap (λ x. x / 2 ^ n) e ∙ mul-div-left k {n = 2 ^ n} (omega arith))
+
+-- ---- the pages of many regions
+
+module _ (R : ℕ) (pages : ℕ → List ℕ) where
+  -- k is a page of a region from j on
+  abbrev pub From : ℕ → ℕ → Type 0
+  From j k = (i : ℕ) × (j ≤ i) × (i < R) × List·Memᴰ k (pages i)
+
+  -- or one of the pages ks before them
+  abbrev pub Before : List ℕ → ℕ → ℕ → Type 0
+  Before ks j k = List·Memᴰ k ks ⊎ From j k
+
+  pub from-split : (j k : ℕ) → From j k → Before (pages j) (suc j) k
+  from-split j k t = go (ℕ-discrete (t .0) j)
+    where
+      go : Dec (t .0 ≡ j) → Before (pages j) (suc j) k
+      go (yes e) = inl (subst (λ i. List·Memᴰ k (pages i)) e (t .3))
+      go (no ne) = inr (t .0, (let a = t .1 in omega arith), t .2, t .3)
+
+  pub before-none : (j k : ℕ) → Before [] j k → From j k
+  before-none j k (inl m) = elim m [ ]
+  before-none j k (inr t) = t
+
+  -- none is left
+  pub from-none : {A : Type 0} (k : ℕ) → From R k → A
+  from-none k t = let a = t .1 in let b = t .2 in absurd (omega arith)
