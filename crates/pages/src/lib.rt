@@ -208,7 +208,8 @@ pub fn page_by_number<'a>(
     if let Tested::Refused(_) = tested {
         return &heap[0..0];
     }
-    if page_count(heap.len(), c.n) <= k.0 {
+    let pages = page_count(heap.len(), c.n);
+    if pages <= k.0 {
         return &heap[0..0];
     }
     let start = page_address(k, c.n);
