@@ -81,12 +81,12 @@ pub fn push(heap: &mut [u32], table: &mut [u32], roots: &[u32], consts: &[u32], 
     if c.count == 0 {
         return Plain::Refused(Refusal::NoPage, c);
     }
-    if !link_fits(heap, link_page(c.first), c.n, c.count) {
+    let k = link_page(c.first);
+    if !link_fits(heap, k, c.n, c.count) {
         return Plain::Refused(Refusal::Broken(0), c);
     }
     let j = Region(c.regions as usize);
-    let taken = take_page(heap, j, c);
-    let k = taken.page;
+    let taken = take_page(heap, k, j, c);
     set_row(
         table,
         j,
@@ -308,11 +308,11 @@ fn put_value(
     if c.count == 0 {
         return Valued::Refused(Refusal::NoPage, c);
     }
-    if !link_fits(heap, link_page(c.first), c.n, c.count) {
+    let k = link_page(c.first);
+    if !link_fits(heap, k, c.n, c.count) {
         return Valued::Refused(Refusal::Broken(0), c);
     }
-    let taken = take_page(heap, j, c);
-    let k = taken.page;
+    let taken = take_page(heap, k, j, c);
     join_page(heap, table, j, k, c.n);
     let body = body_address(k, c.n);
     store_value(heap, table, j, body, header, words);
