@@ -1,7 +1,7 @@
 -- The whole, by what its parts ensure: each part is the definition's, and what it leaves is what the next one starts with.
 use Prim.Native.Nat.{ℕ, _*_, _/_, _^_, _≤_}
 use mathlib.Core.Bool.{Bool, true, false}
-use mathlib.Core.Path.{_≡_, refl, sym, ap, _∙_}
+use mathlib.Core.Path.{_≡_}
 use mathlib.Core.List.{List}
 use native.Mathlib.Omega.{arith}
 use lib.ListN.{length, set, replicate}
@@ -13,7 +13,7 @@ use Rattle.rules.specs.declared.Plain.{Plain}
 use Rattle.rules.specs.declared.Refusal.{Refusal}
 use Rattle.rules.specs.Memory.{lent, pageCount}
 use Rattle.rules.specs.Refusals.{Paged, outcome}
-use Rattle.motion.specs.Leaves.{Desk, desk, freeFirst, freeLast, taken, begunNotes}
+use Rattle.motion.specs.Leaves.{desk, freeFirst, freeLast, taken, begunNotes}
 use Rattle.motion.specs.Whole.{attempt, undo, ownAll, giveAll, writtenRoots, writtenTable, recordBy, doneAs, done, lacking, ended, workingCollect}
 
 -- the number of pages is small

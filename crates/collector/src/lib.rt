@@ -8,7 +8,7 @@ ghost use Rattle.rules.specs.Memory.{lent, pageCount};
 ghost use Rattle.rules.specs.Refusals.{Paged, outcome};
 ghost use Rattle.motion.specs.Leaves.{desk, out};
 ghost use Rattle.motion.specs.Whole.{fresh as freshDef, freshen as freshenDef, moveRoot, moveRoots, workStack, attempt as attemptDef, undo as undoDef};
-ghost use Rattle.motion.specs.Whole.{done, workingCollect};
+ghost use Rattle.motion.specs.Whole.{isFinished, done, workingCollect};
 use copying::move_value;
 use copying::take_page;
 use copying::work;
@@ -29,6 +29,7 @@ use leaves::word;
 use leaves::write;
 use motion::FREE_FIRST;
 use motion::FREE_LAST;
+use motion::NOTES;
 use motion::Step;
 use motion::TAKEN;
 use pages::page_count;
@@ -124,6 +125,17 @@ pub fn work_stack(heap: &mut [u32], notes: &mut [u32], fuel: usize, n: u32) -> S
     }
 }
 
+// Whether all is scanned.
+pub fn finished(t: Step) -> bool
+    ensures { λ r. ⌜ r ≡ isFinished t ⌝ }
+{
+    match t {
+        Step::Go(_, _) => false,
+        Step::Finished => true,
+        Step::NoPage => false,
+    }
+}
+
 // Fresh pages, roots, scan stack. Whether there were pages enough.
 pub fn attempt(
     heap: &mut [u32],
@@ -142,18 +154,7 @@ pub fn attempt(
     if !move_roots(heap, notes, roots, n) {
         return false;
     }
-    let t = work_stack(heap, notes, fuel, n);
-    match t {
-        Step::Go(_, _) => {
-            return false;
-        }
-        Step::Finished => {
-            return true;
-        }
-        Step::NoPage => {
-            return false;
-        }
-    }
+    finished(work_stack(heap, notes, fuel, n))
 }
 
 // The heap as it was before the collection that took so many pages.
@@ -196,7 +197,7 @@ pub fn copy_living(heap: &mut [u32], table: &mut [u32], roots: &mut [u32], c: Co
     ensures { λ r. ⌜ ((k : List ℕ) → outcome r (now (heap .exit)) (now (table .exit)) (now (roots .exit)) k
         ≡ workingCollect (lent (now (heap .entry)) (now (table .entry)) (now (roots .entry)) k c)) ⌝ }
 {
-    let mut notes = [0u32; 400];
+    let mut notes = [0u32; NOTES];
     write(&mut notes, FREE_FIRST, c.first as usize);
     write(&mut notes, FREE_LAST, c.last as usize);
     let fuel = 2 * heap.len();

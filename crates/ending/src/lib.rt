@@ -1,15 +1,13 @@
 // How a collection ends: the undoing of one that lacks a page, and the end of one that is done. Each function does what its definition in motion says.
 ghost use mathlib.Core.Path.{_≡_};
-ghost use mathlib.Core.List.{List};
 ghost use Prim.Native.Nat.{_+_, _≤_, _<_};
 ghost use lib.ListN.{length};
 ghost use Rattle.laws.specs.Each.{after};
-ghost use Rattle.rules.specs.declared.Plain.{Plain};
-ghost use Rattle.rules.specs.Memory.{lent, pageCount, pageLink, row, setLink};
-ghost use Rattle.rules.specs.Refusals.{Paged, outcome};
+ghost use Rattle.rules.specs.Memory.{pageCount, pageLink, row, setLink};
+ghost use Rattle.rules.specs.Refusals.{Paged};
 ghost use Rattle.rules.specs.Pages.{clearPage};
-ghost use Rattle.motion.specs.Leaves.{desk, taken as takenDef};
-ghost use Rattle.motion.specs.Whole.{undoValue, undoPage, undoChain, undoHeaders, relinkAll, undo as undoDef, ownChain, ownAll};
+ghost use Rattle.motion.specs.Leaves.{desk};
+ghost use Rattle.motion.specs.Whole.{undoValue, undoPage, undoChain, undoHeaders, relinkAll, ownChain, ownAll};
 ghost use Rattle.motion.specs.Whole.{giveBack, giveChain, giveAll, rootWord, writtenRoots, writtenTable, recordBy};
 use leaves::first_of;
 use leaves::less;
@@ -190,19 +188,18 @@ pub fn give_back(heap: &mut [u32], notes: &mut [u32], k: Page, n: u32)
     ensures { λ _. ⌜ desk (now (heap .exit)) (now (notes .exit)) ≡ giveBack n (k .0) (desk (now (heap .entry)) (now (notes .entry))) ⌝ }
 {
     let first = word(notes, FREE_FIRST);
+    let last = word(notes, FREE_LAST);
     let given = word(notes, GIVEN);
+    let link = page_link(k) as usize;
     clear_page(heap, k, n);
     write(notes, GIVEN, low(given + 1));
-    let link = page_link(k) as usize;
+    write(notes, FREE_LAST, link);
     if first == 0 {
         write(notes, FREE_FIRST, link);
-        write(notes, FREE_LAST, link);
         return;
     }
-    let last = word(notes, FREE_LAST);
     let start = link_start(last, n);
     write(heap, start.0, link);
-    write(notes, FREE_LAST, link);
 }
 
 // The chain of pages that starts with `first`, given back.

@@ -1,12 +1,10 @@
 -- The collection at work, its leaves: the heap and the notes, and what it reads and writes in them. Each is total by one test: what would leave
 -- the heap does nothing. So the work is defined for every heap, sound or not.
 use Prim.Native.Nat.{ℕ, _+_, _-_, _*_, _%_, _<_}
-use mathlib.Core.Bool.{Bool, true, false, _&&_, _||_}
+use mathlib.Core.Bool.{Bool, _&&_, _||_}
 use mathlib.Core.List.{List}
 use lib.ListN.{length, take, drop, set, replicate}
 use lib.Dec.{leb, eqb}
-use Rattle.rules.specs.declared.Region.{Region}
-use Rattle.rules.specs.declared.Address.{Address}
 use Rattle.rules.specs.Memory.{pageAddress, addressPage, originRegion, statusOf, setStatus}
 use Rattle.rules.specs.Words.{addressPointer}
 use Rattle.laws.specs.Choice.{_⇒_∣_}

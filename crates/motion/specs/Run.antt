@@ -1,6 +1,6 @@
 -- The collection at work, steps 2 and 3 of document 01: taking pages, evacuating, scanning. A taken page keeps its free link in its origin word until
 -- the end, so that a collection that lacks a page can put the free list back. Words that were read, and what a part of the work left, are arguments.
-use Prim.Native.Nat.{ℕ, zero, suc, _+_, _-_, _*_, _/_, _%_, _^_}
+use Prim.Native.Nat.{ℕ, _+_, _-_, _/_, _%_, _^_}
 use mathlib.Core.Bool.{Bool, true, false}
 use mathlib.Core.List.{List}
 use lib.ListN.{set}

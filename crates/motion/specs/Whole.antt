@@ -1,5 +1,5 @@
 -- The collection at work, whole: fresh pages, roots, the scan stack; the end of a collection that is done; and the undoing of one that lacks a page.
-use Prim.Native.Nat.{ℕ, zero, suc, _+_, _-_, _*_, _/_, _%_, _^_}
+use Prim.Native.Nat.{ℕ, _+_, _-_, _*_, _/_, _%_, _^_}
 use mathlib.Core.Bool.{Bool, true, false}
 use mathlib.Core.List.{List, map}
 use lib.ListN.{length, take, set}
@@ -22,8 +22,13 @@ use Rattle.motion.specs.Run.{takeFree, move, work, scanning}
 -- ---- What knows nothing of the page size.
 
 -- all is scanned
+abbrev pub isFinished : Step → Bool
+isFinished (Step.Go j s) = false
+isFinished Step.Finished = true
+isFinished Step.NoPage = false
+
 unfoldable pub workDone : After Step Desk → After Bool Desk
-workDone o = onStep (o .answer) (λ j s. after false (o .state)) (after true (o .state)) (after false (o .state))
+workDone o = after (isFinished (o .answer)) (o .state)
 
 -- w is the word at x: where it is a forward, the header that the copy keeps is put back. The answer is the next value's address.
 unfoldable pub undoOf : ℕ → ℕ → List ℕ → After ℕ (List ℕ)
@@ -122,14 +127,16 @@ module _ (n : ℕ) where
   abbrev pub ownAll : ℕ → ℕ → List ℕ → List ℕ → List ℕ
   ownAll N R notes h = steps R (λ j. ownChain N j (firstLink n notes j)) 0 h
 
-  -- page k, cleared, behind the last free page; first is the link to the first
-  unfoldable pub giveOn : ℕ → ℕ → List ℕ → List ℕ → Desk
-  giveOn k first h t =
-      eqb first 0 ⇒ desk h (set (set t freeFirst (pageLink k)) freeLast (pageLink k)) ∣
-      desk (set h (pageStart n (linkPage (at t freeLast))) (pageLink k)) (set t freeLast (pageLink k))
+  -- page k, cleared, behind the last free page; first and last are the links to the first and the last, 0 where none is free
+  unfoldable pub giveOn : ℕ → ℕ → ℕ → List ℕ → List ℕ → Desk
+  giveOn k first last h t =
+      eqb first 0 ⇒ desk h (set t freeFirst (pageLink k)) ∣
+      desk (set h (pageStart n (linkPage last)) (pageLink k)) t
 
   unfoldable pub giveBack : ℕ → Desk → Desk
-  giveBack k d = giveOn k (at (d .notes) freeFirst) (clearPage n (d .heap) k) (set (d .notes) given (low (at (d .notes) given + 1)))
+  giveBack k d =
+      giveOn k (at (d .notes) freeFirst) (at (d .notes) freeLast) (clearPage n (d .heap) k)
+      (set (set (d .notes) given (low (at (d .notes) given + 1))) freeLast (pageLink k))
 
   abbrev pub linkOn : Desk → ℕ → ℕ
   linkOn d k = link n (d .heap) k

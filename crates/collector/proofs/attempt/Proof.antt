@@ -34,8 +34,8 @@ returns-2 c = rw (← (c .before .before .before .before .before .before .before
 work-stack-requires : tie.Need-work-stack-requires
 work-stack-requires c κs = search needs
 
-enum-told : tie.Need-enum-told
-enum-told c = search needs
+finished-requires : tie.Need-finished-requires
+finished-requires c κs = search needs
 
 same-length-5 : tie.Need-same-length-5
 same-length-5 c = search needs
@@ -45,33 +45,7 @@ same-length-6 c = search needs
 
 returns-3 : tie.Need-returns-3
 unfolding workDone rootsDone freshDone
-returns-3 c = rw (← (c .before .before .before .before .before .before .before .before .before .before .before .before .before .before .before .before .before .before .before .before .before .before .freshen .ensures), not-false (c .before .before .before .before .before .before .before .before .before .before .before .before .before .before .before .before .before .before .before .before .before .before .freshen .result) (c .before .before .before .before .before .before .before .before .before .before .before .before .before .before .before .before .before .if1 .left), ← (c .before .before .before .before .before .before .before .before .before .before .before .before .before .before .move-roots .ensures), not-false (c .before .before .before .before .before .before .before .before .before .before .before .before .before .before .move-roots .result) (c .before .before .before .before .before .before .before .before .before .if2 .left), ← (c .before .before .before .before .before .before .work-stack .ensures), c .enum-told .given .1)
-
-enum-told-2 : tie.Need-enum-told-2
-enum-told-2 c = search needs
-
-same-length-7 : tie.Need-same-length-7
-same-length-7 c = search needs
-
-same-length-8 : tie.Need-same-length-8
-same-length-8 c = search needs
-
-returns-4 : tie.Need-returns-4
-unfolding workDone rootsDone freshDone
-returns-4 c = rw (← (c .before .before .before .before .before .before .before .before .before .before .before .before .before .before .before .before .before .before .before .before .before .before .freshen .ensures), not-false (c .before .before .before .before .before .before .before .before .before .before .before .before .before .before .before .before .before .before .before .before .before .before .freshen .result) (c .before .before .before .before .before .before .before .before .before .before .before .before .before .before .before .before .before .if1 .left), ← (c .before .before .before .before .before .before .before .before .before .before .before .before .before .before .move-roots .ensures), not-false (c .before .before .before .before .before .before .before .before .before .before .before .before .before .before .move-roots .result) (c .before .before .before .before .before .before .before .before .before .if2 .left), ← (c .before .before .before .before .before .before .work-stack .ensures), c .enum-told2 .given .1)
-
-enum-told-3 : tie.Need-enum-told-3
-enum-told-3 c = search needs
-
-same-length-9 : tie.Need-same-length-9
-same-length-9 c = search needs
-
-same-length-10 : tie.Need-same-length-10
-same-length-10 c = search needs
-
-returns-5 : tie.Need-returns-5
-unfolding workDone rootsDone freshDone
-returns-5 c = rw (← (c .before .before .before .before .before .before .before .before .before .before .before .before .before .before .before .before .before .before .before .before .before .before .freshen .ensures), not-false (c .before .before .before .before .before .before .before .before .before .before .before .before .before .before .before .before .before .before .before .before .before .before .freshen .result) (c .before .before .before .before .before .before .before .before .before .before .before .before .before .before .before .before .before .if1 .left), ← (c .before .before .before .before .before .before .before .before .before .before .before .before .before .before .move-roots .ensures), not-false (c .before .before .before .before .before .before .before .before .before .before .before .before .before .before .move-roots .result) (c .before .before .before .before .before .before .before .before .before .if2 .left), ← (c .before .before .before .before .before .before .work-stack .ensures), c .enum-told3 .given .1)
+returns-3 c = rw (c .finished .ensures, ← (c .before .before .before .before .before .before .before .before .before .before .before .before .before .before .before .before .before .before .before .before .before .freshen .ensures), not-false (c .before .before .before .before .before .before .before .before .before .before .before .before .before .before .before .before .before .before .before .before .before .freshen .result) (c .before .before .before .before .before .before .before .before .before .before .before .before .before .before .before .before .if1 .left), ← (c .before .before .before .before .before .before .before .before .before .before .before .before .before .move-roots .ensures), not-false (c .before .before .before .before .before .before .before .before .before .before .before .before .before .move-roots .result) (c .before .before .before .before .before .before .before .before .if2 .left), ← (c .before .before .before .before .before .work-stack .ensures))
 
 pub attempt-spec : {M : Type 1} → statement M
 attempt-spec =
@@ -86,15 +60,7 @@ attempt-spec =
     same-length-4
     returns-2
     work-stack-requires
-    enum-told
+    finished-requires
     same-length-5
     same-length-6
-    returns-3
-    enum-told-2
-    same-length-7
-    same-length-8
-    returns-4
-    enum-told-3
-    same-length-9
-    same-length-10
-    returns-5)
+    returns-3)
