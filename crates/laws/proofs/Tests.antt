@@ -7,8 +7,8 @@ use mathlib.Core.Path.{_≡_, refl, sym, ap, _∙_}
 use mathlib.Core.Logic.{_⊎_, inl, inr}
 use mathlib.Core.Bool.{Bool, true, false, _&&_}
 use mathlib.Core.List.{List, [], _∷_, List·Memᴰ, List·Memᴰ·cases-cons}
-use lib.ListN.{length, getD}
-use lib.Seq.{slice, slice-cons}
+use lib.ListN.{length, getD, drop, drop-of-length-le}
+use lib.Seq.{slice, slice-cons, drop-cons}
 use lib.Dec.{leb, ltb, eqb}
 use borrow.Author.Tests.{lt-ltb, le-ltb, le-leb, lt-leb, eq-eqb, ne-eqb}
 use Rattle.laws.specs.Lists.{all, allFrom, allBelow, zeros}
@@ -102,3 +102,17 @@ module _ (h : List ℕ) (z e : ℕ) (r : Bool) where
   pub zeros-stop : z < e → e ≤ length h → (getD h z 0 ≡ 0 → ⊥) → (zeros (slice z e h) && r) ≡ false
   unfolding zeros
   zeros-stop b c t = rw (slice-cons z e h 0 b c, zeros, ne-eqb _ _ t)
+
+-- zeros, from place i to the end
+module _ (ws : List ℕ) (i : ℕ) where
+  pub zeros-none : length ws ≤ i → zeros (drop i ws) ≡ true
+  unfolding zeros
+  zeros-none b = rw (drop-of-length-le ws b)
+
+  pub zeros-next : i < length ws → getD ws i 0 ≡ 0 → zeros (drop i ws) ≡ zeros (drop (i + 1) ws)
+  unfolding zeros
+  zeros-next b z = rw (drop-cons ws i 0 b, zeros, eq-eqb _ _ z, add-one i)
+
+  pub zeros-found : i < length ws → (getD ws i 0 ≡ 0 → ⊥) → zeros (drop i ws) ≡ false
+  unfolding zeros
+  zeros-found b ne = rw (drop-cons ws i 0 b, zeros, ne-eqb _ _ ne)
