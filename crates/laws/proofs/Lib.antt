@@ -2,3 +2,4 @@ pub mod Loops
 pub mod Lists
 pub mod Tests
 pub mod Writes
+pub mod Parts

@@ -8,6 +8,7 @@ use mathlib.Core.Logic.{_≢_, _⊎_, inl, inr}
 use native.Mathlib.Omega.{arith}
 use native.Mathlib.Numerals.{sub-one, add-one}
 use borrow.Author.Tests.{lt-ltb, le-ltb}
+use lib.Arith.{digits-div}
 use lib.Dec.{ltb}
 use lib.ListN.{length, take, drop, getD, length-take, length-drop}
 use lib.Seq.{slice, drop-drop, length-take-le, getD-take, getD-drop, ext-getD}
@@ -20,6 +21,10 @@ use Rattle.rules.specs.Refusals.{Paged}
 use Rattle.rules.proofs.Limits.{page-span}
 
 -- ---- pages as parts of the heap
+
+-- the page of an address
+pub page-of : (n k x : ℕ) → k * 2 ^ n ≤ x → x < k * 2 ^ n + 2 ^ n → x / 2 ^ n ≡ k
+page-of n k x p q = let e : x ≡ k * 2 ^ n + (x - k * 2 ^ n) = omega arith in ap (λ y. y / 2 ^ n) e ∙ digits-div k {m = 2 ^ n} (omega arith)
 
 pub length-page : (n : ℕ) (h : List ℕ) (k : ℕ) → k * 2 ^ n + 2 ^ n ≤ length h → length (pageWords n h k) ≡ 2 ^ n
 unfolding pageWords

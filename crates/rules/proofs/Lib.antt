@@ -4,3 +4,8 @@ pub mod Stepping
 pub mod Chains
 pub mod Good
 pub mod Frames
+pub mod Looks
+pub mod Walks
+pub mod Pages
+pub mod Soundings
+pub mod Fresh

@@ -1,0 +1,134 @@
+-- How a heap under collection is laid out: whose each page is, and what stands in it. Every fact is about single words.
+use Prim.Native.Nat.{ℕ, zero, suc, pred, _+_, _-_, _*_, _/_, _%_, _^_, _≤_, _<_, zero-le, suc-le-suc}
+use native.Mathlib.Nat.{le-trans, le-refl, add-zero, mul-le-mul-right}
+use native.Mathlib.Omega.{arith}
+use native.Mathlib.Decide.{ℕ-discrete}
+use mathlib.Core.Path.{_≡_, refl, sym, ap, _∙_, subst}
+use mathlib.Core.Logic.{_≢_, _↔_, _⊎_, inl, inr}
+use mathlib.Core.Bool.{Bool, true, false}
+use mathlib.Core.Option.{Option, none, some}
+use mathlib.Core.List.{List, [], _∷_, _++_, List·Memᴰ, List·Memᴰ·head, List·Memᴰ·tail}
+use lib.ListN.{length, getD, set, length-set}
+use lib.Seq.{getD-set-same, getD-set-other}
+use lib.Dec.{eqb}
+use borrow.Author.Tests.{eqb-true, eqb-false}
+use Rattle.rules.specs.Words.{Head, headOf, lengthBy}
+use Rattle.rules.specs.declared.Control.{Control}
+use Rattle.rules.specs.Memory.{Store, link, origin, endOf, firstOf, topOf, statusOf}
+use Rattle.laws.specs.Lists.{at, put}
+use Rattle.rules.specs.Audit.{lastLink}
+use Rattle.rules.specs.Pages.{Run, store}
+use Rattle.laws.proofs.Lists.{apart, length-put, at-put-below, at-put-in, at-put-above}
+use Rattle.facts.proofs.Steps.{Stands, Steps, here, over, steps-le, steps-then, steps-same, stands-same}
+
+-- ---- a function changed at one place
+module _ {A : Type 0} where
+  unfoldable pub upd : (ℕ → A) → ℕ → A → ℕ → A
+  upd f k a x = elim (eqb x k) [ true ↦ a | false ↦ f x ]
+
+  pub upd-same : (f : ℕ → A) (k : ℕ) (a : A) (x : ℕ) → x ≡ k → upd f k a x ≡ a
+  unfolding upd
+  upd-same f k a x e = go (eqb x k) refl
+    where
+      go : (b : Bool) → eqb x k ≡ b → upd f k a x ≡ a
+      go true q = rw (q, upd)
+      go false q = absurd (eqb-false x k q e)
+
+  pub upd-other : (f : ℕ → A) (k : ℕ) (a : A) (x : ℕ) → x ≢ k → upd f k a x ≡ f x
+  unfolding upd
+  upd-other f k a x ne = go (eqb x k) refl
+    where
+      go : (b : Bool) → eqb x k ≡ b → upd f k a x ≡ f x
+      go true q = absurd (ne (eqb-true x k q))
+      go false q = rw (q, upd)
+
+-- ---- lists
+pub data Once : List ℕ → Type 0 where
+  once-none : Once []
+  once-more : {k : ℕ} {ks : List ℕ} → (List·Memᴰ k ks → ⊥) → Once ks → Once (k ∷ ks)
+
+pub data Last : List ℕ → ℕ → Type 0 where
+  only : {k : ℕ} → Last (k ∷ []) k
+  later : {k l : ℕ} {ks : List ℕ} → Last ks l → Last (k ∷ ks) l
+
+pub last-in : {ks : List ℕ} {k : ℕ} → Last ks k → List·Memᴰ k ks
+last-in only = List·Memᴰ·head refl
+last-in (later t) = List·Memᴰ·tail (last-in t)
+
+-- the pages ks follow one another by their links, from x on
+pub data Linked (l : ℕ → ℕ) : ℕ → List ℕ → Type 0 where
+  stop : Linked l 0 []
+  goes : {k : ℕ} {ks : List ℕ} → Linked l (l k) ks → Linked l (suc k) (k ∷ ks)
+
+pub linked-same : {l m : ℕ → ℕ} {x : ℕ} {ks : List ℕ} → ((k : ℕ) → List·Memᴰ k ks → l k ≡ m k) → Linked l x ks → Linked m x ks
+linked-same e stop = stop
+linked-same e (goes {k} t) = goes (rw (e k (List·Memᴰ·head refl)) at (linked-same (λ x p. e x (List·Memᴰ·tail p)) t))
+
+-- ---- pages
+pub data Owner : Type 0 where
+  old spare beyond : Owner
+  mine : ℕ → Owner
+
+-- page k of region j: its values end at f, and then zeros
+pub record Body (n : ℕ) (h : List ℕ) (k j f : ℕ) : Type 0 where
+  pub whose : at h (k * 2 ^ n + 1) ≡ suc j
+  pub filled : Steps h (k * 2 ^ n + 2 ^ n) (k * 2 ^ n + 2) f
+  pub inside : f ≤ k * 2 ^ n + 2 ^ n
+  pub rest : (x : ℕ) → f ≤ x → x < k * 2 ^ n + 2 ^ n → at h x ≡ 0
+
+-- page k is all zero but its link
+pub record Clean (n : ℕ) (h : List ℕ) (k : ℕ) : Type 0 where
+  pub rest : (x : ℕ) → k * 2 ^ n < x → x < k * 2 ^ n + 2 ^ n → at h x ≡ 0
+
+-- two heaps have the same words in page k behind its link
+pub record Like (n : ℕ) (g h : List ℕ) (k : ℕ) : Type 0 where
+  pub word : (x : ℕ) → k * 2 ^ n < x → x < k * 2 ^ n + 2 ^ n → at g x ≡ at h x
+
+pub body-like : {n : ℕ} {g h : List ℕ} {k j f : ℕ} → 2 ≤ 2 ^ n → Like n g h k → Body n g k j f → Body n h k j f
+body-like {n} {g} {h} {k} {j} {f} big like b =
+    let lo = steps-le (b .filled) in
+    let hi = b .inside in
+    record {
+      whose = sym (like .word (k * 2 ^ n + 1) (omega arith) (omega arith)) ∙ b .whose;
+      filled = steps-same (λ x p q. like .word x (omega arith) (omega arith)) (b .filled);
+      inside = b .inside;
+      rest = λ x p q. sym (like .word x (omega arith) q) ∙ b .rest x p q;
+    }
+
+pub clean-like : {n : ℕ} {g h : List ℕ} {k : ℕ} → Like n g h k → Clean n g k → Clean n h k
+clean-like like c = record { rest = λ x p q. sym (like .word x p q) ∙ c .rest x p q }
+
+-- words stored inside page k leave the other pages as they are
+pub put-elsewhere : (n : ℕ) (h : List ℕ) (k a : ℕ) (ws : List ℕ) (l x : ℕ) → a + length ws ≤ length h → k * 2 ^ n ≤ a → a + length ws ≤ k * 2 ^ n + 2 ^ n
+    → l ≢ k → l * 2 ^ n ≤ x → x < l * 2 ^ n + 2 ^ n → at (put h a ws) x ≡ at h x
+put-elsewhere n h k a ws l x fits lo hi ne p q = go (apart (2 ^ n) l k ne)
+  where
+    go : (l * 2 ^ n + 2 ^ n ≤ k * 2 ^ n) ⊎ (k * 2 ^ n + 2 ^ n ≤ l * 2 ^ n) → at (put h a ws) x ≡ at h x
+    go (inl b) = at-put-below h a ws x fits (omega arith)
+    go (inr b) = at-put-above h a ws x fits (omega arith)
+
+-- ---- the whole
+pub record Layout (n N R : ℕ) (own : ℕ → Owner) (fin : ℕ → ℕ) (pages : ℕ → List ℕ) (free : List ℕ) (r : Run) : Type 0 where
+  pub size : length (r .heap) ≡ N * 2 ^ n
+  pub big : 16 ≤ 2 ^ n
+  pub rows : 4 * R ≤ length (r .table)
+  pub known : (k : ℕ) → own k ≢ beyond → k < N
+  -- the free list
+  pub free-own : (k : ℕ) → List·Memᴰ k free → own k ≡ spare
+  pub free-once : Once free
+  pub free-links : Linked (link (n) (r .heap)) (r .first) free
+  pub free-last : r .last ≡ lastLink free
+  pub free-count : r .count ≡ length free
+  pub free-clean : (k : ℕ) → own k ≡ spare → Clean (n) (r .heap) k
+  -- the regions' new pages
+  pub mine-own : (j k : ℕ) → j < R → List·Memᴰ k (pages j) → own k ≡ mine j
+  pub mine-once : (j : ℕ) → j < R → Once (pages j)
+  pub mine-links : (j : ℕ) → j < R → (k : ℕ) × (firstOf (r .table) j ≡ k * 2 ^ n) × Linked (link (n) (r .heap)) (suc k) (pages j)
+  pub mine-body : (j k : ℕ) → own k ≡ mine j → Body (n) (r .heap) k j (fin k)
+  pub mine-top : (j : ℕ) → j < R
+      → (k : ℕ) × Last (pages j) k × (endOf (r .table) j ≡ k * 2 ^ n + 2 ^ n) × (topOf (r .table) j ≡ fin k)
+
+-- a value's words: a header and as many words as it says
+pub record Value (ws : List ℕ) (l : ℕ) : Type 0 where
+  pub head : lengthBy (headOf (at ws 0)) ≡ some l
+  pub size : length ws ≡ suc l

@@ -1,0 +1,344 @@
+// Headers, good pointers, whole numbers, and the calls on one value: fetching it, assigning a field, setting a root, walking a path.
+use pages::Tested;
+use pages::first_tests;
+use pages::page_words;
+use rules::Address;
+use rules::Control;
+use rules::Numbered;
+use rules::Plain;
+use rules::Refusal;
+use rules::Valued;
+use rules::Worded;
+use rules::address_page;
+use rules::page_address;
+use rules::pointer_address;
+ghost use mathlib.Core.Path.{_≡_};
+ghost use mathlib.Core.Bool.{true};
+ghost use mathlib.Core.List.{[]};
+ghost use Prim.Native.Nat.{_+_, _-_, _≤_, _<_};
+ghost use lib.ListN.{length};
+ghost use Rattle.laws.specs.Lists.{at};
+ghost use Rattle.rules.specs.Calls.{wordOfNumber, numberOfWord, fetch as fetchOf, fetchRefusal, assign as assignOf, setRoot, walkFrom, walkSays, walk as walkOf};
+ghost use Rattle.rules.specs.Memory.{lent};
+ghost use Rattle.rules.specs.Refusals.{Paged, outcome};
+ghost use Rattle.rules.specs.Words.{fits as fitsIn, isRecord, valsIn, standsAt, goodHeap, goodConst, goodIn, valueAt, look as lookOf};
+
+// Whether h is the header of a value that fits into the m words that follow it.
+pub fn fits(h: u32, m: usize) -> bool
+    ensures { λ r. ⌜ r ≡ fitsIn h m ⌝ }
+{
+    if h % 8 == 1 {
+        return (h / 8) as usize <= m;
+    }
+    if h % 8 == 3 {
+        return (h / 8) as usize <= m;
+    }
+    false
+}
+
+// Whether h is a record's header.
+pub fn is_record(h: u32) -> bool
+    ensures { λ r. ⌜ r ≡ isRecord h ⌝ }
+{
+    h % 8 == 1
+}
+
+// Whether stepping by headers, from one address up to another, lands on address a.
+pub fn stands(words: &[u32], start: Address, end: Address, a: Address) -> bool
+    requires { ⌜ (end .0 ≤ length (now words)) × (length (now words) ≤ 65536) ⌝ }
+    ensures { λ r. ⌜ r ≡ standsAt (a .0) (valsIn (now (words .entry)) (start .0) (end .0)) ⌝ }
+{
+    let goal = a.0;
+    let stop = end.0;
+    let mut at = start.0;
+    while at < stop {
+        let h = words[at];
+        if !fits(h, stop - (at + 1)) {
+            return false;
+        }
+        if goal == at {
+            return true;
+        }
+        at = at + 1 + (h / 8) as usize;
+    }
+    false
+}
+
+// Whether a pointer to heap address a is good.
+pub fn good_heap(heap: &[u32], n: u32, regions: u32, a: Address) -> bool
+    requires { ⌜ Paged n (length (now heap)) ⌝ }
+    ensures { λ r. ⌜ r ≡ goodHeap n regions (now (heap .entry)) (a .0) ⌝ }
+{
+    if heap.len() <= a.0 {
+        return false;
+    }
+    let page = address_page(a, n);
+    let base = page_address(page, n).0;
+    let origin = heap[base + 1];
+    if origin < 1 {
+        return false;
+    }
+    if regions < origin {
+        return false;
+    }
+    let start = base + 2;
+    let end = base + page_words(n);
+    stands(heap, Address(start), Address(end), a)
+}
+
+// Whether a pointer to constant address a is good.
+pub fn good_const(consts: &[u32], a: Address) -> bool
+    requires { ⌜ length (now consts) ≤ 65535 ⌝ }
+    ensures { λ r. ⌜ r ≡ goodConst (now (consts .entry)) (a .0) ⌝ }
+{
+    stands(consts, Address(0), Address(consts.len()), a)
+}
+
+// Whether a word is a number or a good pointer.
+pub fn good_word(heap: &[u32], consts: &[u32], n: u32, regions: u32, w: u32) -> bool
+    requires { ⌜ Paged n (length (now heap)) × (length (now consts) ≤ 65535) ⌝ }
+    ensures { λ r. ⌜ r ≡ goodIn n regions (now (heap .entry)) (now (consts .entry)) w ⌝ }
+{
+    if w % 4 == 0 {
+        return good_heap(heap, n, regions, pointer_address(w));
+    }
+    if w % 4 == 2 {
+        return good_const(consts, pointer_address(w));
+    }
+    true
+}
+
+// The part of no words.
+pub fn nothing<'a>(memory: &'a [u32]) -> &'a [u32]
+    ensures { λ r. ⌜ now r ≡ [] ⌝ }
+{
+    &memory[0..0]
+}
+
+// The value at address a, which fits: its header and words.
+pub fn value_at<'a>(memory: &'a [u32], a: Address) -> &'a [u32]
+    requires { ⌜ (a .0 < length (now memory)) × (fitsIn (at (now memory) (a .0)) (length (now memory) - (a .0 + 1)) ≡ true) ⌝ }
+    ensures { λ r. ⌜ now r ≡ valueAt (now (memory .entry)) (a .0) ⌝ }
+{
+    let start = a.0;
+    let end = start + 1 + (memory[start] / 8) as usize;
+    &memory[start..end]
+}
+
+// The value that a word points to, in the heap or in the constants; no words where it is no good pointer.
+pub fn look<'a>(heap: &'a [u32], consts: &'a [u32], n: u32, regions: u32, w: u32) -> &'a [u32]
+    requires { ⌜ Paged n (length (now heap)) × (length (now consts) ≤ 65535) ⌝ }
+    ensures { λ r. ⌜ now r ≡ lookOf n regions (now (heap .entry)) (now (consts .entry)) w ⌝ }
+{
+    let a = pointer_address(w);
+    if w % 4 == 0 {
+        if !good_heap(heap, n, regions, a) {
+            return nothing(heap);
+        }
+        return value_at(heap, a);
+    }
+    if w % 4 == 2 {
+        if !good_const(consts, a) {
+            return nothing(consts);
+        }
+        return value_at(consts, a);
+    }
+    nothing(heap)
+}
+
+// A whole number as a word. Below 0 the bits of i turned over are -1 - i, which is counted from 0 again.
+pub fn word_of_number(i: i32) -> Worded
+    ensures { λ r. ⌜ r ≡ wordOfNumber i ⌝ }
+{
+    if i < 0 {
+        let below = !i as u32;
+        if below < 1073741824 {
+            return Worded::Done(4294967295 - 2 * below);
+        }
+        return Worded::Refused(Refusal::NoNumber);
+    }
+    let above = i as u32;
+    if above < 1073741824 {
+        return Worded::Done(2 * above + 1);
+    }
+    Worded::Refused(Refusal::NoNumber)
+}
+
+// A word as a whole number.
+pub fn number_of_word(w: u32) -> Numbered
+    ensures { λ r. ⌜ r ≡ numberOfWord w ⌝ }
+{
+    if w % 2 == 0 {
+        return Numbered::Refused(Refusal::NoNumber);
+    }
+    if w < 2147483648 {
+        return Numbered::Done((w / 2) as i32);
+    }
+    let below = ((4294967295 - w) / 2) as i32;
+    Numbered::Done(!below)
+}
+
+// The value that a word points to, as a part of the heap or of the constants; an empty part where the call is refused.
+pub fn fetch<'a>(
+    heap: &'a [u32],
+    table: &'a [u32],
+    roots: &'a [u32],
+    consts: &'a [u32],
+    c: Control,
+    w: u32,
+) -> &'a [u32]
+    ensures { λ r. ⌜ now r ≡ fetchOf (lent (now (heap .entry)) (now (table .entry)) (now (roots .entry)) (now (consts .entry)) c) w ⌝ }
+{
+    let tested = first_tests(heap.len(), table.len(), roots.len(), consts.len(), c);
+    if let Tested::Refused(_) = tested {
+        return nothing(heap);
+    }
+    look(heap, consts, c.n, c.regions, w)
+}
+
+// Whether a fetch is refused, and why.
+pub fn fetch_refusal<'a>(
+    heap: &'a [u32],
+    table: &'a [u32],
+    roots: &'a [u32],
+    consts: &'a [u32],
+    c: Control,
+    w: u32,
+) -> Plain
+    ensures { λ r. ⌜ r ≡ fetchRefusal (lent (now (heap .entry)) (now (table .entry)) (now (roots .entry)) (now (consts .entry)) c) w ⌝ }
+{
+    let tested = first_tests(heap.len(), table.len(), roots.len(), consts.len(), c);
+    if let Tested::Refused(why) = tested {
+        return Plain::Refused(why, c);
+    }
+    let value = look(heap, consts, c.n, c.regions, w);
+    if value.len() == 0 {
+        return Plain::Refused(Refusal::NotGood, c);
+    }
+    Plain::Done(c)
+}
+
+// Field number `field` of the record that w points to becomes the word, which is a number or a good pointer.
+pub fn assign(
+    heap: &mut [u32],
+    table: &[u32],
+    roots: &[u32],
+    consts: &[u32],
+    c: Control,
+    w: u32,
+    field: usize,
+    word: u32,
+) -> Plain
+    ensures { λ r. ⌜ outcome r (now (heap .exit)) (now (table .entry)) (now (roots .entry)) (now (consts .entry))
+        ≡ assignOf (lent (now (heap .entry)) (now (table .entry)) (now (roots .entry)) (now (consts .entry)) c) w field word ⌝ }
+{
+    let tested = first_tests(heap.len(), table.len(), roots.len(), consts.len(), c);
+    if let Tested::Refused(why) = tested {
+        return Plain::Refused(why, c);
+    }
+    if w % 2 == 1 {
+        return Plain::Refused(Refusal::NoFields, c);
+    }
+    let a = pointer_address(w);
+    if w % 4 == 2 {
+        if !good_const(consts, a) {
+            return Plain::Refused(Refusal::NotGood, c);
+        }
+        return Plain::Refused(Refusal::Constant, c);
+    }
+    if !good_heap(heap, c.n, c.regions, a) {
+        return Plain::Refused(Refusal::NotGood, c);
+    }
+    let at = a.0;
+    let header = heap[at];
+    if !is_record(header) {
+        return Plain::Refused(Refusal::NoFields, c);
+    }
+    if (header / 8) as usize <= field {
+        return Plain::Refused(Refusal::NoSuch, c);
+    }
+    if !good_word(heap, consts, c.n, c.regions, word) {
+        return Plain::Refused(Refusal::NotGood, c);
+    }
+    heap[at + field + 1] = word;
+    Plain::Done(c)
+}
+
+// Root number `root` becomes the word, which is a number or a good pointer.
+pub fn set_root(
+    heap: &[u32],
+    table: &[u32],
+    roots: &mut [u32],
+    consts: &[u32],
+    c: Control,
+    root: usize,
+    word: u32,
+) -> Plain
+    ensures { λ r. ⌜ outcome r (now (heap .entry)) (now (table .entry)) (now (roots .exit)) (now (consts .entry))
+        ≡ setRoot (lent (now (heap .entry)) (now (table .entry)) (now (roots .entry)) (now (consts .entry)) c) root word ⌝ }
+{
+    let tested = first_tests(heap.len(), table.len(), roots.len(), consts.len(), c);
+    if let Tested::Refused(why) = tested {
+        return Plain::Refused(why, c);
+    }
+    if roots.len() <= root {
+        return Plain::Refused(Refusal::NoSuch, c);
+    }
+    if !good_word(heap, consts, c.n, c.regions, word) {
+        return Plain::Refused(Refusal::NotGood, c);
+    }
+    roots[root] = word;
+    Plain::Done(c)
+}
+
+// The word that a path ends on from the word w: one step is walked, and then the rest of it.
+pub fn walk_from<'a>(heap: &'a [u32], consts: &'a [u32], c: Control, w: u32, path: &[u32]) -> Valued
+    requires { ⌜ Paged (c .n) (length (now heap)) × (length (now consts) ≤ 65535) ⌝ }
+    ensures { λ r. ⌜ r ≡ walkSays c (walkFrom (lookOf (c .n) (c .regions) (now (heap .entry)) (now (consts .entry))) w (now (path .entry))) ⌝ }
+{
+    if w % 2 == 1 {
+        if path.len() == 0 {
+            return Valued::Done(w, c);
+        }
+        return Valued::Refused(Refusal::NoFields, c);
+    }
+    let value = look(heap, consts, c.n, c.regions, w);
+    if value.len() == 0 {
+        return Valued::Refused(Refusal::NotGood, c);
+    }
+    if path.len() == 0 {
+        return Valued::Done(w, c);
+    }
+    if !is_record(value[0]) {
+        return Valued::Refused(Refusal::NoFields, c);
+    }
+    let field = path[0] as usize;
+    if value.len() - 1 <= field {
+        return Valued::Refused(Refusal::NoSuch, c);
+    }
+    let next = value[field + 1];
+    walk_from(heap, consts, c, next, &path[1..])
+}
+
+// The word that a path ends on: a root's number, and the field numbers.
+pub fn walk<'a>(
+    heap: &'a [u32],
+    table: &'a [u32],
+    roots: &'a [u32],
+    consts: &'a [u32],
+    c: Control,
+    root: usize,
+    path: &[u32],
+) -> Valued
+    ensures { λ r. ⌜ r ≡ walkOf (lent (now (heap .entry)) (now (table .entry)) (now (roots .entry)) (now (consts .entry)) c) root (now (path .entry)) ⌝ }
+{
+    let tested = first_tests(heap.len(), table.len(), roots.len(), consts.len(), c);
+    if let Tested::Refused(why) = tested {
+        return Valued::Refused(why, c);
+    }
+    if roots.len() <= root {
+        return Valued::Refused(Refusal::NoSuch, c);
+    }
+    let start = roots[root];
+    walk_from(heap, consts, c, start, path)
+}

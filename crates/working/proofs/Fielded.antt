@@ -1,0 +1,92 @@
+-- A word inside a copy is no part of the layout.
+use Prim.Native.Nat.{ℕ, zero, suc, pred, _+_, _-_, _*_, _/_, _%_, _^_, _≤_, _<_, zero-le, suc-le-suc}
+use native.Mathlib.Nat.{le-trans, le-refl, add-zero}
+use native.Mathlib.Omega.{arith}
+use native.Mathlib.Decide.{ℕ-discrete}
+use mathlib.Core.Path.{_≡_, refl, sym, ap, _∙_, subst}
+use mathlib.Core.Logic.{_≢_, _↔_, _⊎_, inl, inr}
+use mathlib.Core.List.{List, [], _∷_, _++_, List·Memᴰ}
+use lib.ListN.{length, set, length-set}
+use lib.Seq.{getD-set-same, getD-set-other}
+use Rattle.laws.specs.Lists.{at}
+use Rattle.rules.specs.Memory.{link}
+use Rattle.rules.specs.Pages.{Run}
+use Rattle.laws.proofs.Lists.{apart as pages-apart}
+use Rattle.facts.proofs.Steps.{Stands, Steps, here, over, steps-le, steps-inside}
+use Rattle.facts.proofs.Laid.{Linked, linked-same, Owner, old, spare, beyond, mine, Body, Clean, Like, body-like, clean-like, Layout}
+
+module _ (n N R : ℕ) (own : ℕ → Owner) (fin : ℕ → ℕ) (pages : ℕ → List ℕ) (free : List ℕ) (r : Run) (L : Layout n N R own fin pages free r)
+    (k j d l i v : ℕ) (own-k : own k ≡ mine j) (at-d : Steps (r .heap) (k * 2 ^ n + 2 ^ n) (k * 2 ^ n + 2) d)
+    (st : Stands (r .heap) (k * 2 ^ n + 2 ^ n) d l) (below : d + suc l ≤ fin k) (i-in : i < l) where
+  abbrev h′ : List ℕ
+  h′ = set (r .heap) (d + suc i) v
+
+  keep : (y : ℕ) → y ≢ d + suc i → at (r .heap) y ≡ at h′ y
+  keep y ne = sym (getD-set-other (r .heap) (d + suc i) y v 0 ne)
+
+  lo : k * 2 ^ n + 2 ≤ d
+  lo = steps-le at-d
+
+  body : Body n (r .heap) k j (fin k)
+  body = L .mine-body j k own-k
+
+  far : (m y : ℕ) → m ≢ k → m * 2 ^ n ≤ y → y < m * 2 ^ n + 2 ^ n → y ≢ d + suc i
+  far m y ne p q e = go (pages-apart (2 ^ n) m k ne)
+    where
+      go : (m * 2 ^ n + 2 ^ n ≤ k * 2 ^ n) ⊎ (k * 2 ^ n + 2 ^ n ≤ m * 2 ^ n) → ⊥
+      go (inl t) = let a = lo in let b = st .ends in omega arith
+      go (inr t) = let a = lo in let b = st .ends in omega arith
+
+  links : (m : ℕ) → link n (r .heap) m ≡ link n h′ m
+  unfolding link
+  links m = keep (m * 2 ^ n) (go (ℕ-discrete m k))
+    where
+      go : Dec (m ≡ k) → m * 2 ^ n ≢ d + suc i
+      go (yes e) = let q : m * 2 ^ n ≡ k * 2 ^ n = ap (λ x. x * 2 ^ n) e in let a = lo in omega arith
+      go (no ne) = let b = L .big in far m (m * 2 ^ n) ne (le-refl _) (omega arith)
+
+  like : (m : ℕ) → m ≢ k → Like n (r .heap) h′ m
+  like m ne = record { word = λ y p q. keep y (far m y ne (omega arith) q) }
+
+  body′ : Body n h′ k j (fin k)
+  body′ =
+      let a = lo in
+      record {
+        whose = sym (keep (k * 2 ^ n + 1) (omega arith)) ∙ body .whose;
+        filled = steps-inside (r .heap) h′ _ _ d l (d + suc i) at-d st (omega arith) (omega arith) keep here (body .filled);
+        inside = body .inside;
+        rest = λ y p q. sym (keep y (omega arith)) ∙ body .rest y p q;
+      }
+
+  mine-inj : {a b : ℕ} → mine a ≡ mine b → a ≡ b
+  mine-inj e = cc
+
+  bodies : (m t : ℕ) → own t ≡ mine m → Body n h′ t m (fin t)
+  bodies m t o = go (ℕ-discrete t k)
+    where
+      go : Dec (t ≡ k) → Body n h′ t m (fin t)
+      go (yes e) = let q : m ≡ j = mine-inj (sym o ∙ ap own e ∙ own-k) in rw (e, q) body′
+      go (no ne) = let b = L .big in body-like (omega arith) (like t ne) (L .mine-body m t o)
+
+  spare-not : (m : ℕ) → own m ≡ spare → m ≢ k
+  spare-not m o e = let q : spare ≡ mine j = sym o ∙ ap own e ∙ own-k in let z : _≡_ {A = ℕ} 0 1 = cc in omega arith
+
+  pub field-laid : Layout n N R own fin pages free (leave (d + suc i) v r)
+  field-laid =
+      record {
+        size = length-set (r .heap) (d + suc i) v ∙ L .size;
+        big = L .big;
+        rows = L .rows;
+        known = L .known;
+        free-own = L .free-own;
+        free-once = L .free-once;
+        free-links = linked-same (λ m p. links m) (L .free-links);
+        free-last = L .free-last;
+        free-count = L .free-count;
+        free-clean = λ m o. clean-like (like m (spare-not m o)) (L .free-clean m o);
+        mine-own = L .mine-own;
+        mine-once = L .mine-once;
+        mine-links = λ m p. let t = L .mine-links m p in (t .0, t .1, linked-same (λ x q. links x) (t .2));
+        mine-body = bodies;
+        mine-top = L .mine-top;
+      }

@@ -1,0 +1,13 @@
+pub mod Stored
+pub mod Log
+pub mod Scanned
+pub mod Taken
+pub mod Roomy
+pub mod Placed
+pub mod Moving
+pub mod Next
+pub mod Evacuating
+pub mod Fielded
+pub mod Fields
+pub mod Rows
+pub mod Statements

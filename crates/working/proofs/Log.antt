@@ -1,0 +1,227 @@
+-- The log of a collection: which value was copied where, and what its copy holds. An evacuation adds one entry.
+use Prim.Native.Nat.{ℕ, zero, suc, pred, _+_, _-_, _*_, _/_, _%_, _^_, _≤_, _<_, zero-le, suc-le-suc}
+use native.Mathlib.Nat.{le-trans, le-refl, add-zero, mul-le-mul-right}
+use native.Mathlib.Omega.{arith}
+use native.Mathlib.Decide.{ℕ-discrete, decLe}
+use mathlib.Core.Path.{_≡_, refl, sym, ap, _∙_, subst}
+use mathlib.Core.Logic.{_≢_, _↔_, _⊎_, inl, inr}
+use mathlib.Core.Bool.{Bool, true, false}
+use mathlib.Core.Option.{Option, none, some}
+use mathlib.Core.List.{List, [], _∷_, _++_, List·Memᴰ, List·Memᴰ·head, List·Memᴰ·tail, List·Memᴰ·cases-cons}
+use lib.ListN.{length}
+use Rattle.rules.specs.Words.{isRecord}
+use Rattle.rules.specs.Memory.{Store}
+use Rattle.laws.specs.Lists.{at}
+use Rattle.facts.specs.View.{isNumber, look, Reached}
+use Rattle.laws.proofs.Lists.{apart as pages-apart}
+use Rattle.facts.proofs.Steps.{Stands, Steps, here, over, steps-le, steps-then, steps-same, stands-same, apart}
+use Rattle.facts.proofs.Laid.{upd, upd-same, upd-other, Owner, old, spare, beyond, mine}
+use Rattle.facts.proofs.Copied.{Moved, to, Rel, num, stay, went}
+
+-- The log's entries are addresses, `to old new`; its words are the pointers to them.
+abbrev pub pointers : List Moved → List Moved
+pointers [] = []
+pointers (m ∷ ms) = to (4 * m .old) (4 * m .new) ∷ pointers ms
+
+-- the entry m: where the value stood, where its copy stands, and what the copy holds. (kept: the pointers that stay.)
+pub record Copy (n : ℕ) (s : Store) (kept : ℕ → Type 0) (own : ℕ → Owner) (fin : ℕ → ℕ) (h : List ℕ) (log : List Moved) (done : ℕ → ℕ) (a b : ℕ) : Type 0 where
+  pub from : ℕ
+  pub into : ℕ
+  pub region : ℕ
+  pub len : ℕ
+  pub from-old : own from ≡ old
+  pub from-whose : at (s .heap) (from * 2 ^ n + 1) ≡ suc region
+  pub from-steps : Steps (s .heap) (from * 2 ^ n + 2 ^ n) (from * 2 ^ n + 2) a
+  pub from-stands : Stands (s .heap) (from * 2 ^ n + 2 ^ n) a len
+  pub into-mine : own into ≡ mine region
+  pub into-steps : Steps h (into * 2 ^ n + 2 ^ n) (into * 2 ^ n + 2) b
+  pub into-stands : Stands h (into * 2 ^ n + 2 ^ n) b len
+  pub into-below : b + suc len ≤ fin into
+  pub head : at h b ≡ at (s .heap) a
+  pub forward : at h a ≡ 4 * b
+  pub scanned : (i : ℕ) → i < len → i < done b → Rel kept (pointers log) (at (s .heap) (a + suc i)) (at h (b + suc i))
+  pub waiting : (i : ℕ) → i < len → done b ≤ i → at h (b + suc i) ≡ at (s .heap) (a + suc i)
+
+pub record Log (n : ℕ) (s : Store) (kept : ℕ → Type 0) (own : ℕ → Owner) (fin : ℕ → ℕ) (h : List ℕ) (log : List Moved) (done : ℕ → ℕ) : Type 0 where
+  pub copies : {a b : ℕ} → List·Memᴰ (to a b) log → Copy n s kept own fin h log done a b
+  pub unmoved : (k x : ℕ) → own k ≡ old → k * 2 ^ n ≤ x → x < k * 2 ^ n + 2 ^ n
+      → ((b : ℕ) → List·Memᴰ (to x b) log → ⊥) → at h x ≡ at (s .heap) x
+  pub one-new : {a b b′ : ℕ} → List·Memᴰ (to a b) log → List·Memᴰ (to a b′) log → b ≡ b′
+  pub one-old : {a a′ b : ℕ} → List·Memᴰ (to a b) log → List·Memᴰ (to a′ b) log → a ≡ a′
+  pub live : {a b : ℕ} → List·Memᴰ (to a b) log → Reached (look s) (s .roots) (4 * a)
+  pub every : (k j b : ℕ) → own k ≡ mine j → Steps h (k * 2 ^ n + 2 ^ n) (k * 2 ^ n + 2) b → b < fin k
+      → (a : ℕ) × List·Memᴰ (to a b) log
+
+-- what one evacuation of the value of l words at a, in page f of region j, to b, in page p, does to the heap
+pub record Evacuated (n : ℕ) (s : Store) (own own′ : ℕ → Owner) (fin fin′ : ℕ → ℕ) (h h′ : List ℕ) (j l a b f p : ℕ) : Type 0 where
+  pub old-kept : (k : ℕ) → (own k ≡ old) ↔ (own′ k ≡ old)
+  pub mine-kept : (k i : ℕ) → own k ≡ mine i → own′ k ≡ mine i
+  pub mine-from : (k i : ℕ) → own′ k ≡ mine i → k ≢ p → (own k ≡ mine i) × (fin′ k ≡ fin k)
+  pub old-words : (k x : ℕ) → own k ≡ old → k * 2 ^ n ≤ x → x < k * 2 ^ n + 2 ^ n → x ≢ a → at h′ x ≡ at h x
+  pub mine-words : (k i x : ℕ) → own k ≡ mine i → k * 2 ^ n + 2 ≤ x → x < fin k → at h′ x ≡ at h x
+  pub grows : (k i : ℕ) → own k ≡ mine i → fin k ≤ fin′ k
+  pub a-old : own f ≡ old
+  pub a-whose : at (s .heap) (f * 2 ^ n + 1) ≡ suc j
+  pub a-steps : Steps (s .heap) (f * 2 ^ n + 2 ^ n) (f * 2 ^ n + 2) a
+  pub a-stands : Stands (s .heap) (f * 2 ^ n + 2 ^ n) a l
+  pub b-mine : own′ p ≡ mine j
+  pub b-steps : Steps h′ (p * 2 ^ n + 2 ^ n) (p * 2 ^ n + 2) b
+  pub b-stands : Stands h′ (p * 2 ^ n + 2 ^ n) b l
+  pub b-end : b + suc l ≡ fin′ p
+  pub b-fresh : ((own p ≡ mine j) × (fin p ≡ b)) ⊎ ((b ≡ p * 2 ^ n + 2) × ((i : ℕ) → own p ≢ mine i))
+  pub words : (i : ℕ) → i ≤ l → at h′ (b + i) ≡ at (s .heap) (a + i)
+  pub forward : at h′ a ≡ 4 * b
+
+-- a longer log relates what a shorter one does
+pub rel-more : {kept : ℕ → Type 0} (log : List Moved) (m : Moved) {v w : ℕ} → Rel kept (pointers log) v w → Rel kept (pointers (m ∷ log)) v w
+rel-more log m (num n) = num n
+rel-more log m (stay k) = stay k
+rel-more log m (went q) = went (List·Memᴰ·tail q)
+
+module _ (n : ℕ) (s : Store) (kept : ℕ → Type 0) (own own′ : ℕ → Owner) (fin fin′ : ℕ → ℕ) (h h′ : List ℕ) (log : List Moved) (done : ℕ → ℕ)
+    (j l a b f p : ℕ) (L : Log n s kept own fin h log done) (E : Evacuated n s own own′ fin fin′ h h′ j l a b f p)
+    (new : (c : ℕ) → List·Memᴰ (to a c) log → ⊥) (reached : Reached (look s) (s .roots) (4 * a)) where
+  -- a copy of before lies below b, or in another page
+  old-copy : {c d : ℕ} → Copy n s kept own fin h log done c d → c ≢ a → d ≢ b → Copy n s kept own′ fin′ h′ (to a b ∷ log) (upd done b 0) c d
+  old-copy {c} {d} C nc nd =
+      let lo = steps-le (C .into-steps) in
+      let top = C .into-below in
+      let lo₀ = steps-le (C .from-steps) in
+      let hi₀ = C .from-stands .ends in
+      let same : (x : ℕ) → C .into * 2 ^ n + 2 ≤ x → x < fin (C .into) → at h x ≡ at h′ x
+      = λ x q t. sym (E .mine-words (C .into) (C .region) x (C .into-mine) q t) in
+      record {
+        from = C .from;
+        into = C .into;
+        region = C .region;
+        len = C .len;
+        from-old = E .old-kept (C .from) .0 (C .from-old);
+        from-whose = C .from-whose;
+        from-steps = C .from-steps;
+        from-stands = C .from-stands;
+        into-mine = E .mine-kept (C .into) (C .region) (C .into-mine);
+        into-steps = steps-same (λ x q t. same x q (omega arith)) (C .into-steps);
+        into-stands = stands-same (same d lo (omega arith)) (C .into-stands);
+        into-below = let g = E .grows (C .into) (C .region) (C .into-mine) in omega arith;
+        head = sym (same d lo (omega arith)) ∙ C .head;
+        forward = E .old-words (C .from) c (C .from-old) (omega arith) (omega arith) nc ∙ C .forward;
+        scanned = λ i q t. rw (← same (d + suc i) (omega arith) (omega arith)) (rel-more log (to a b) (C .scanned i q (rw (upd-other done b 0 d nd) at t)));
+        waiting = λ i q t. sym (same (d + suc i) (omega arith) (omega arith)) ∙ C .waiting i q (rw (upd-other done b 0 d nd) at t);
+      }
+
+  -- the place b is new
+  pub other-place : {c d : ℕ} → Copy n s kept own fin h log done c d → d ≢ b
+  other-place {c} {d} C q = go (ℕ-discrete (C .into) p)
+    where
+      lo : C .into * 2 ^ n + 2 ≤ d
+      lo = steps-le (C .into-steps)
+
+      hi : d + suc (C .len) ≤ C .into * 2 ^ n + 2 ^ n
+      hi = C .into-stands .ends
+
+      lo′ : p * 2 ^ n + 2 ≤ b
+      lo′ = steps-le (E .b-steps)
+
+      hi′ : b + suc l ≤ p * 2 ^ n + 2 ^ n
+      hi′ = E .b-stands .ends
+
+      here-too : C .into ≡ p → ((own p ≡ mine j) × (fin p ≡ b)) ⊎ ((b ≡ p * 2 ^ n + 2) × ((i : ℕ) → own p ≢ mine i)) → ⊥
+      here-too e (inl t) = let x = C .into-below in let y : fin (C .into) ≡ fin p = ap fin e in let z = t .1 in omega arith
+      here-too e (inr t) = t .1 (C .region) (ap own (sym e) ∙ C .into-mine)
+
+      apart-by : (C .into * 2 ^ n + 2 ^ n ≤ p * 2 ^ n) ⊎ (p * 2 ^ n + 2 ^ n ≤ C .into * 2 ^ n) → ⊥
+      apart-by (inl t) = let w = lo in let x = hi in let y = lo′ in let z = hi′ in omega arith
+      apart-by (inr t) = let w = lo in let x = hi in let y = lo′ in let z = hi′ in omega arith
+
+      go : Dec (C .into ≡ p) → ⊥
+      go (yes e) = here-too e (E .b-fresh)
+      go (no ne) = apart-by (pages-apart (2 ^ n) (C .into) p ne)
+
+  new-copy : Copy n s kept own′ fin′ h′ (to a b ∷ log) (upd done b 0) a b
+  new-copy =
+      let e = E .b-end in
+      record {
+        from = f;
+        into = p;
+        region = j;
+        len = l;
+        from-old = E .old-kept f .0 (E .a-old);
+        from-whose = E .a-whose;
+        from-steps = E .a-steps;
+        from-stands = E .a-stands;
+        into-mine = E .b-mine;
+        into-steps = E .b-steps;
+        into-stands = E .b-stands;
+        into-below = omega arith;
+        head = simp add-zero at (E .words 0 zero-le);
+        forward = E .forward;
+        scanned = λ i q t. let z = rw (upd-same done b 0 b refl) at t in absurd (omega arith);
+        waiting = λ i q t. E .words (suc i) q;
+      }
+
+  is-old : {c d : ℕ} → to c d ≡ to a b → c ≡ a
+  is-old e = ap (λ (m : Moved). m .old) e
+
+  is-new : {c d : ℕ} → to c d ≡ to a b → d ≡ b
+  is-new e = ap (λ (m : Moved). m .new) e
+
+  copies-by : {c d : ℕ} → (to c d ≡ to a b) ⊎ List·Memᴰ (to c d) log → Copy n s kept own′ fin′ h′ (to a b ∷ log) (upd done b 0) c d
+  copies-by (inl e) = rw (is-old e, is-new e) new-copy
+  copies-by {c} {d} (inr m) = old-copy (L .copies m) (λ q. new d (rw q at m)) (other-place (L .copies m))
+
+  one-new-by : {c d d′ : ℕ} → (to c d ≡ to a b) ⊎ List·Memᴰ (to c d) log → (to c d′ ≡ to a b) ⊎ List·Memᴰ (to c d′) log → d ≡ d′
+  one-new-by (inl e) (inl e′) = is-new e ∙ sym (is-new e′)
+  one-new-by {d′ = d′} (inl e) (inr m) = absurd (new d′ (rw (is-old e) at m))
+  one-new-by {d = d} (inr m) (inl e) = absurd (new d (rw (is-old e) at m))
+  one-new-by (inr m) (inr m′) = L .one-new m m′
+
+  one-old-by : {c c′ d : ℕ} → (to c d ≡ to a b) ⊎ List·Memᴰ (to c d) log → (to c′ d ≡ to a b) ⊎ List·Memᴰ (to c′ d) log → c ≡ c′
+  one-old-by (inl e) (inl e′) = is-old e ∙ sym (is-old e′)
+  one-old-by (inl e) (inr m) = absurd (other-place (L .copies m) (is-new e))
+  one-old-by (inr m) (inl e) = absurd (other-place (L .copies m) (is-new e))
+  one-old-by (inr m) (inr m′) = L .one-old m m′
+
+  live-by : {c d : ℕ} → (to c d ≡ to a b) ⊎ List·Memᴰ (to c d) log → Reached (look s) (s .roots) (4 * c)
+  live-by (inl e) = rw (is-old e) reached
+  live-by (inr m) = L .live m
+
+  -- a place of before had its entry
+  before : (k i d : ℕ) → own k ≡ mine i → Steps h′ (k * 2 ^ n + 2 ^ n) (k * 2 ^ n + 2) d → d < fin k
+      → (c : ℕ) × List·Memᴰ (to c d) (to a b ∷ log)
+  before k i d o t u =
+      let e = L .every k i d o (steps-same (λ x q v. E .mine-words k i x o q (omega arith)) t) u in
+      (e .0, List·Memᴰ·tail (e .1))
+
+  in-page : (d : ℕ) → Steps h′ (p * 2 ^ n + 2 ^ n) (p * 2 ^ n + 2) d → d < fin′ p → (c : ℕ) × List·Memᴰ (to c d) (to a b ∷ log)
+  in-page d t u = go (apart (E .b-steps) (E .b-stands) t) (ℕ-discrete d b)
+    where
+      lower : d < b → ((own p ≡ mine j) × (fin p ≡ b)) ⊎ ((b ≡ p * 2 ^ n + 2) × ((i : ℕ) → own p ≢ mine i)) → (c : ℕ) × List·Memᴰ (to c d) (to a b ∷ log)
+      lower q (inl v) = let w = v .1 in before p j d (v .0) t (omega arith)
+      lower q (inr v) = let w = v .0 in let x = steps-le t in absurd (omega arith)
+
+      go : (d ≤ b) ⊎ (b + suc l ≤ d) → Dec (d ≡ b) → (c : ℕ) × List·Memᴰ (to c d) (to a b ∷ log)
+      go (inl q) (yes e) = (a, List·Memᴰ·head (ap (to a) e))
+      go (inl q) (no ne) = lower (omega arith) (E .b-fresh)
+      go (inr q) v = let w = E .b-end in absurd (omega arith)
+
+  every-by : (k i d : ℕ) → own′ k ≡ mine i → Steps h′ (k * 2 ^ n + 2 ^ n) (k * 2 ^ n + 2) d → d < fin′ k
+      → (c : ℕ) × List·Memᴰ (to c d) (to a b ∷ log)
+  every-by k i d o t u = go (ℕ-discrete k p)
+    where
+      go : Dec (k ≡ p) → (c : ℕ) × List·Memᴰ (to c d) (to a b ∷ log)
+      go (yes e) = in-page d (rw e at t) (rw e at u)
+      go (no ne) = let v = E .mine-from k i o ne in let w = v .1 in before k i d (v .0) t (omega arith)
+
+  -- an evacuation extends the log
+  pub evacuated-log : Log n s kept own′ fin′ h′ (to a b ∷ log) (upd done b 0)
+  evacuated-log =
+      record {
+        copies = λ m. copies-by (List·Memᴰ·cases-cons m);
+        unmoved = λ k x o q t none.
+            E .old-words k x (E .old-kept k .1 o) q t (λ e. none b (List·Memᴰ·head (ap (λ y. to y b) e)))
+            ∙ L .unmoved k x (E .old-kept k .1 o) q t (λ c m. none c (List·Memᴰ·tail m));
+        one-new = λ m m′. one-new-by (List·Memᴰ·cases-cons m) (List·Memᴰ·cases-cons m′);
+        one-old = λ m m′. one-old-by (List·Memᴰ·cases-cons m) (List·Memᴰ·cases-cons m′);
+        live = λ m. live-by (List·Memᴰ·cases-cons m);
+        every = every-by;
+      }

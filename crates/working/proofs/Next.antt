@@ -1,0 +1,231 @@
+-- Where the scan of a region goes on: the values of a region in their order, and the address after each.
+use Prim.Native.Nat.{ℕ, zero, suc, pred, _+_, _-_, _*_, _/_, _%_, _^_, _≤_, _<_, zero-le, suc-le-suc}
+use native.Mathlib.Nat.{le-trans, le-refl, add-zero, mul-le-mul-right, mul-mod-left}
+use native.Mathlib.Omega.{arith}
+use native.Mathlib.Decide.{ℕ-discrete, decLe}
+use mathlib.Core.Path.{_≡_, refl, sym, ap, _∙_, subst}
+use mathlib.Core.Logic.{_≢_, _↔_, _⊎_, inl, inr}
+use mathlib.Core.Bool.{Bool, true, false, _||_}
+use mathlib.Core.Option.{Option, none, some}
+use mathlib.Core.List.{List, [], _∷_, _++_, append-nil, List·Memᴰ, List·Memᴰ·head, List·Memᴰ·tail}
+use lib.Arith.{digits-mod}
+use lib.Dec.{eqb}
+use borrow.Author.Tests.{eqb-true, eqb-false, eq-eqb, ne-eqb}
+use Rattle.rules.specs.Words.{Head, rec, raw, moved, wrong, headOf, lengthBy, wordsBy}
+use Rattle.laws.specs.Lists.{at}
+use Rattle.rules.specs.Memory.{link, topOf}
+use Rattle.rules.specs.Pages.{Run}
+use Rattle.rules.specs.Collection.{nextFrom, nextScan}
+use Rattle.laws.proofs.Lists.{apart as pages-apart}
+use Rattle.facts.proofs.Steps.{Stands, Steps, here, over, steps-le, steps-then}
+use Rattle.facts.proofs.Laid.{Once, once-more, Last, only, later, last-in, Linked, Owner, mine, Body, Layout}
+use Rattle.rules.proofs.Chains.{page-of}
+use Rattle.working.proofs.Taken.{linked-first, last-one}
+
+-- the values from a to b, in order
+pub data Vals (h : List ℕ) (hi : ℕ) : ℕ → ℕ → List ℕ → Type 0 where
+  vals-none : {a : ℕ} → Vals h hi a a []
+  vals-more : {a b l : ℕ} {vs : List ℕ} → Stands h hi a l → Vals h hi (a + suc l) b vs → Vals h hi a b (a ∷ vs)
+
+-- the values of the pages, in order; every page but the first holds one
+pub data Row (n : ℕ) (h : List ℕ) (fin : ℕ → ℕ) : List ℕ → List ℕ → Type 0 where
+  row-last : {k : ℕ} {vs : List ℕ} → Vals h (k * 2 ^ n + 2 ^ n) (k * 2 ^ n + 2) (fin k) vs → Row n h fin (k ∷ []) vs
+  row-more : {k k′ : ℕ} {ks vs bs : List ℕ} → Vals h (k * 2 ^ n + 2 ^ n) (k * 2 ^ n + 2) (fin k) vs → k′ * 2 ^ n + 2 < fin k′ → Row n h fin (k′ ∷ ks) bs
+      → Row n h fin (k ∷ k′ ∷ ks) (vs ++ bs)
+
+abbrev pub headOr : ℕ → List ℕ → ℕ
+headOr t [] = t
+headOr t (x ∷ xs) = x
+
+words-of : (x : Head) (l : ℕ) → lengthBy x ≡ some l → wordsBy x ≡ suc l
+words-of (rec m) l e = let q : m ≡ l = cc in ap suc q
+words-of (raw m) l e = let q : m ≡ l = cc in ap suc q
+words-of (moved b) l e = let z : _≡_ {A = ℕ} 0 1 = cc in absurd (omega arith)
+words-of wrong l e = let z : _≡_ {A = ℕ} 0 1 = cc in absurd (omega arith)
+
+-- a header is not 0
+pub head-not-0 : {h : List ℕ} {hi a l : ℕ} → Stands h hi a l → at h a ≢ 0
+unfolding headOf
+head-not-0 {h} {hi} {a} {l} st e =
+    let q : lengthBy (headOf 0) ≡ some l = ap (λ w. lengthBy (headOf w)) (sym e) ∙ st .head in
+    let z : _≡_ {A = ℕ} 0 1 = cc in
+    omega arith
+
+module _ (n N R : ℕ) (own : ℕ → Owner) (fin : ℕ → ℕ) (pages : ℕ → List ℕ) (free : List ℕ) (r : Run) (L : Layout n N R own fin pages free r)
+    (j : ℕ) (jR : j < R) (k s l : ℕ) (own-k : own k ≡ mine j) (lo : k * 2 ^ n + 2 ≤ s) (st : Stands (r .heap) (k * 2 ^ n + 2 ^ n) s l) where
+  abbrev z : ℕ
+  z = L .mine-top j jR .0
+
+  top-is : topOf (r .table) j ≡ fin z
+  top-is = L .mine-top j jR .3
+
+  z-body : Body n (r .heap) z j (fin z)
+  z-body = L .mine-body j z (L .mine-own j z jR (last-in (L .mine-top j jR .1)))
+
+  t-is : s + wordsBy (headOf (at (r .heap) s)) ≡ s + suc l
+  t-is = ap (λ x. s + x) (words-of (headOf (at (r .heap) s)) l (st .head))
+
+  -- the end of what stands in one page is not the end of another
+  not-top : (t : ℕ) → k * 2 ^ n + 2 ≤ t → t ≤ k * 2 ^ n + 2 ^ n → k ≢ z → t ≢ topOf (r .table) j
+  not-top t p q ne e = go (pages-apart (2 ^ n) k z ne)
+    where
+      go : (k * 2 ^ n + 2 ^ n ≤ z * 2 ^ n) ⊎ (z * 2 ^ n + 2 ^ n ≤ k * 2 ^ n) → ⊥
+      go (inl u) = let x = top-is in let y = steps-le (z-body .filled) in omega arith
+      go (inr u) = let x = top-is in let y = z-body .inside in omega arith
+
+  -- the next value stands right behind
+  pub next-here : (m : ℕ) → Stands (r .heap) (k * 2 ^ n + 2 ^ n) (s + suc l) m → s + suc l < fin k → nextScan n j s r ≡ s + suc l
+  unfolding nextScan nextFrom
+  next-here m st′ below =
+      let e₁ : eqb (s + suc l) (topOf (r .table) j) ≡ false = ne-eqb _ _ (not-it (ℕ-discrete k z)) in
+      let e₂ : eqb ((s + suc l) % 2 ^ n) 0 ≡ false = ne-eqb _ _ not-end in
+      let e₃ : eqb (at (r .heap) (s + suc l)) 0 ≡ false = ne-eqb _ _ (head-not-0 st′) in
+      ap (λ t. nextFrom n j s t r) t-is ∙ rw (e₁, nextFrom, e₂, e₃)
+    where
+      not-it : Dec (k ≡ z) → s + suc l ≢ topOf (r .table) j
+      not-it (yes e) = let x = top-is in let y : fin k ≡ fin z = ap fin e in omega arith
+      not-it (no ne) = let hi = st .ends in not-top (s + suc l) (omega arith) (omega arith) ne
+
+      not-end : (s + suc l) % 2 ^ n ≢ 0
+      not-end q =
+          let o : ℕ = s + suc l - k * 2 ^ n in
+          let hi = st′ .ends in
+          let e : s + suc l ≡ k * 2 ^ n + o = omega arith in
+          let d : (k * 2 ^ n + o) % 2 ^ n ≡ o = digits-mod k (omega arith) in
+          let w : o ≡ 0 = sym d ∙ ap (λ x. x % 2 ^ n) (sym e) ∙ q in
+          omega arith
+
+  -- it was the last value of the region
+  pub next-none : s + suc l ≡ topOf (r .table) j → nextScan n j s r ≡ topOf (r .table) j
+  unfolding nextScan nextFrom
+  next-none e = let e₁ : eqb (s + suc l) (topOf (r .table) j) ≡ true = eq-eqb _ _ e in ap (λ t. nextFrom n j s t r) t-is ∙ rw (e₁, nextFrom) e
+
+  -- the next value stands in the next page
+  pub next-page : (k′ : ℕ) → s + suc l ≡ fin k → k ≢ z → link n (r .heap) k ≡ suc k′ → nextScan n j s r ≡ k′ * 2 ^ n + 2
+  unfolding nextScan nextFrom
+  next-page k′ e ne lk =
+      let hi = st .ends in
+      let e₁ : eqb (s + suc l) (topOf (r .table) j) ≡ false = ne-eqb _ _ (not-top (s + suc l) (omega arith) (omega arith) ne) in
+      let e₂ : (eqb ((s + suc l) % 2 ^ n) 0 || eqb (at (r .heap) (s + suc l)) 0) ≡ true = ended (ℕ-discrete (fin k) (k * 2 ^ n + 2 ^ n)) in
+      ap (λ t. nextFrom n j s t r) t-is ∙ rw (e₁, nextFrom, e₂, page-of n k s (omega arith) (omega arith), lk)
+    where
+      or-right : (a : Bool) {b : Bool} → b ≡ true → (a || b) ≡ true
+      or-right true q = refl
+      or-right false q = q
+
+      ended : Dec (fin k ≡ k * 2 ^ n + 2 ^ n) → (eqb ((s + suc l) % 2 ^ n) 0 || eqb (at (r .heap) (s + suc l)) 0) ≡ true
+      ended (yes q) =
+          let w : s + suc l ≡ suc k * 2 ^ n = omega arith in
+          let d : (s + suc l) % 2 ^ n ≡ 0 = ap (λ x. x % 2 ^ n) w ∙ mul-mod-left (suc k) (2 ^ n) in
+          let u : eqb ((s + suc l) % 2 ^ n) 0 ≡ true = eq-eqb _ _ d in
+          rw u
+      ended (no f) =
+          let b = L .mine-body j k own-k in
+          let i = b .inside in
+          let u : eqb (at (r .heap) (s + suc l)) 0 ≡ true = eq-eqb _ _ (b .rest (s + suc l) (omega arith) (omega arith)) in
+          or-right (eqb ((s + suc l) % 2 ^ n) 0) u
+
+-- ---- the order of a region's values
+
+-- s stands in the list, and what follows it
+pub data After : List ℕ → ℕ → List ℕ → Type 0 where
+  after-here : {s : ℕ} {ys : List ℕ} → After (s ∷ ys) s ys
+  after-there : {x s : ℕ} {xs ys : List ℕ} → After xs s ys → After (x ∷ xs) s ys
+
+pub after-split : (vs : List ℕ) {bs : List ℕ} {s : ℕ} {ys : List ℕ} → After (vs ++ bs) s ys → ((us : List ℕ) × After vs s us × (ys ≡ us ++ bs)) ⊎ After bs s ys
+after-split [] t = inr t
+after-split (v ∷ vs) {bs} {s} {ys} t = go t (λ u. after-split vs u)
+  where
+    up : ((us : List ℕ) × After vs s us × (ys ≡ us ++ bs)) ⊎ After bs s ys → ((us : List ℕ) × After (v ∷ vs) s us × (ys ≡ us ++ bs)) ⊎ After bs s ys
+    up (inl u) = inl (u .0, after-there (u .1), u .2)
+    up (inr u) = inr u
+
+    go′ : {xs : List ℕ} → After xs s ys → xs ≡ v ∷ (vs ++ bs) → (After (vs ++ bs) s ys → ((us : List ℕ) × After vs s us × (ys ≡ us ++ bs)) ⊎ After bs s ys)
+        → ((us : List ℕ) × After (v ∷ vs) s us × (ys ≡ us ++ bs)) ⊎ After bs s ys
+    go′ (after-here {s = x} {ys = zs}) e rest = let p : x ≡ v = cc in let q : zs ≡ vs ++ bs = cc in inl (vs, rw p after-here, q)
+    go′ (after-there {xs = zs} u) e rest = let q : zs ≡ vs ++ bs = cc in up (rest (rw q at u))
+
+    go : After (v ∷ (vs ++ bs)) s ys → (After (vs ++ bs) s ys → ((us : List ℕ) × After vs s us × (ys ≡ us ++ bs)) ⊎ After bs s ys)
+        → ((us : List ℕ) × After (v ∷ vs) s us × (ys ≡ us ++ bs)) ⊎ After bs s ys
+    go u rest = go′ u refl rest
+
+pub vals-le : {h : List ℕ} {hi a b : ℕ} {vs : List ℕ} → Vals h hi a b vs → a ≤ b
+vals-le (vals-none {a}) = le-refl a
+vals-le (vals-more {a} {l = l} st t) = let k = vals-le t in omega arith
+
+-- a value of the list, and what follows it
+pub record Follows (h : List ℕ) (hi a b s : ℕ) (ys : List ℕ) : Type 0 where
+  pub len : ℕ
+  pub low : a ≤ s
+  pub stands : Stands h hi s len
+  pub next : ((ys ≡ []) × (s + suc len ≡ b)) ⊎ ((m : ℕ) × (zs : List ℕ) × (ys ≡ (s + suc len) ∷ zs) × Stands h hi (s + suc len) m × (s + suc len < b))
+
+begins : {h : List ℕ} {hi c b : ℕ} {ys : List ℕ} → Vals h hi c b ys → ((ys ≡ []) × (c ≡ b)) ⊎ ((m : ℕ) × (zs : List ℕ) × (ys ≡ c ∷ zs) × Stands h hi c m × (c < b))
+begins vals-none = inl (refl, refl)
+begins (vals-more {l = m} {vs = zs} st′ u) = inr (m, zs, refl, st′, (let k = vals-le u in omega arith))
+
+pub vals-after : {h : List ℕ} {hi a b s : ℕ} {vs ys : List ℕ} → Vals h hi a b vs → After vs s ys → Follows h hi a b s ys
+vals-after (vals-more {a} {b} {l} st t) after-here = record { len = l; low = le-refl a; stands = st; next = begins t }
+vals-after (vals-more st t) (after-there u) =
+    let r = vals-after t u in
+    let lo = r .low in
+    record { len = r .len; low = omega arith; stands = r .stands; next = r .next }
+
+-- a page that holds a value begins with one
+vals-head : {h : List ℕ} {hi a b : ℕ} {vs : List ℕ} → Vals h hi a b vs → a < b → (us : List ℕ) × (vs ≡ a ∷ us)
+vals-head (vals-none {a}) q = absurd (omega arith)
+vals-head (vals-more {vs = us} st t) q = (us, refl)
+
+pub row-head : {n : ℕ} {h : List ℕ} {fin : ℕ → ℕ} {k : ℕ} {ks bs : List ℕ} → Row n h fin (k ∷ ks) bs → k * 2 ^ n + 2 < fin k → (us : List ℕ) × (bs ≡ (k * 2 ^ n + 2) ∷ us)
+row-head (row-last v) q = vals-head v q
+row-head (row-more {bs = bs} v ne t) q = let u = vals-head v q in (u .0 ++ bs, ap (λ xs. xs ++ bs) (u .1))
+
+once-tail : {k : ℕ} {ks : List ℕ} → Once (k ∷ ks) → Once ks
+once-tail (once-more f o) = o
+
+once-head : {k : ℕ} {ks : List ℕ} → Once (k ∷ ks) → List·Memᴰ k ks → ⊥
+once-head (once-more f o) = f
+
+last-tail : {k k′ z : ℕ} {ks : List ℕ} → Last (k ∷ k′ ∷ ks) z → Last (k′ ∷ ks) z
+last-tail (later u) = u
+
+module _ (n N R : ℕ) (own : ℕ → Owner) (fin : ℕ → ℕ) (pages : ℕ → List ℕ) (free : List ℕ) (r : Run) (L : Layout n N R own fin pages free r) (j : ℕ) (jR : j < R) where
+  abbrev z′ : ℕ
+  z′ = L .mine-top j jR .0
+
+  -- within a page, or at its end
+  on-page : (k s : ℕ) (ys bs : List ℕ) → own k ≡ mine j → Follows (r .heap) (k * 2 ^ n + 2 ^ n) (k * 2 ^ n + 2) (fin k) s ys
+      → ((l : ℕ) → Stands (r .heap) (k * 2 ^ n + 2 ^ n) s l → k * 2 ^ n + 2 ≤ s → s + suc l ≡ fin k → nextScan n j s r ≡ headOr (topOf (r .table) j) bs)
+      → nextScan n j s r ≡ headOr (topOf (r .table) j) (ys ++ bs)
+  on-page k s ys bs o F end = go (F .next)
+    where
+      go : ((ys ≡ []) × (s + suc (F .len) ≡ fin k)) ⊎ ((m : ℕ) × (zs : List ℕ) × (ys ≡ (s + suc (F .len)) ∷ zs) × Stands (r .heap) (k * 2 ^ n + 2 ^ n) (s + suc (F .len)) m × (s + suc (F .len) < fin k))
+          → nextScan n j s r ≡ headOr (topOf (r .table) j) (ys ++ bs)
+      go (inl t) = rw (t .0) (end (F .len) (F .stands) (F .low) (t .1))
+      go (inr t) = rw (t .2) (next-here n N R own fin pages free r L j jR k s (F .len) o (F .low) (F .stands) (t .0) (t .3) (t .4))
+
+  pub next-row : {x : ℕ} {ks : List ℕ} → Linked (link n (r .heap)) x ks → Once ks → Last ks z′ → ((k : ℕ) → List·Memᴰ k ks → own k ≡ mine j)
+      → {vs : List ℕ} → Row n (r .heap) fin ks vs → {s : ℕ} {ys : List ℕ} → After vs s ys → nextScan n j s r ≡ headOr (topOf (r .table) j) ys
+  next-row lk on last own-all (row-last {k} v) {s} {ys} t =
+      let e : z′ ≡ k = last-one last only in
+      rw append-nil at
+      (on-page k s ys [] (own-all k (List·Memᴰ·head refl)) (vals-after v t)
+      (λ l st lo q. next-none n N R own fin pages free r L j jR k s l (own-all k (List·Memᴰ·head refl)) lo st (q ∙ ap fin (sym e) ∙ sym (L .mine-top j jR .3))))
+  next-row lk on last own-all (row-more {k} {k′} {ks} {vs} {bs} v ne rest) {s} {ys} t =
+      go (after-split vs t) (λ u. next-row (linked-first lk .1) (once-tail on) (last-tail last) (λ l m. own-all l (List·Memᴰ·tail m)) rest u)
+    where
+      not-last : k ≢ z′
+      not-last e = once-head on (rw (← e) at (last-in (last-tail last)))
+
+      linked-on : link n (r .heap) k ≡ suc k′
+      linked-on = linked-first (linked-first lk .1) .0
+
+      at-end : (l : ℕ) → Stands (r .heap) (k * 2 ^ n + 2 ^ n) s l → k * 2 ^ n + 2 ≤ s → s + suc l ≡ fin k → nextScan n j s r ≡ headOr (topOf (r .table) j) bs
+      at-end l st lo q =
+          let u = row-head rest ne in
+          next-page n N R own fin pages free r L j jR k s l (own-all k (List·Memᴰ·head refl)) lo st k′ q not-last linked-on ∙ ap (headOr (topOf (r .table) j)) (sym (u .1))
+
+      go : ((us : List ℕ) × After vs s us × (ys ≡ us ++ bs)) ⊎ After bs s ys → (After bs s ys → nextScan n j s r ≡ headOr (topOf (r .table) j) ys)
+          → nextScan n j s r ≡ headOr (topOf (r .table) j) ys
+      go (inl u) up = rw (u .2) (on-page k s (u .0) bs (own-all k (List·Memᴰ·head refl)) (vals-after v (u .1)) at-end)
+      go (inr u) up = up u

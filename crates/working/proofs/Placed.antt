@@ -1,0 +1,170 @@
+-- The allocation rule on a laid out heap: room, then the words; and a forward left behind.
+use Prim.Native.Nat.{ℕ, zero, suc, pred, _+_, _-_, _*_, _/_, _%_, _^_, _≤_, _<_, zero-le, suc-le-suc}
+use native.Mathlib.Nat.{le-trans, le-refl, add-zero, mul-le-mul-right}
+use native.Mathlib.Omega.{arith}
+use native.Mathlib.Decide.{ℕ-discrete}
+use mathlib.Core.Path.{_≡_, refl, sym, ap, _∙_, subst}
+use mathlib.Core.Logic.{_≢_, _↔_, _⊎_, inl, inr}
+use mathlib.Core.Bool.{Bool, true, false}
+use mathlib.Core.Option.{Option, none, some}
+use mathlib.Core.List.{List, [], _∷_, _++_, List·Memᴰ, List·Memᴰ·head, List·Memᴰ·tail}
+use lib.ListN.{length, getD, set, length-set}
+use lib.Seq.{getD-set-same, getD-set-other}
+use lib.Dec.{leb}
+use borrow.Author.Tests.{leb-true, leb-false}
+use Rattle.heap.proofs.Taken as T
+use Rattle.heap.proofs.Roomy as Q
+use Rattle.rules.specs.declared.Control.{Control}
+use Rattle.rules.specs.Memory.{Store, link, origin, endOf, firstOf, topOf, statusOf}
+use Rattle.laws.specs.Lists.{at, put}
+use Rattle.rules.specs.Pages.{Run, withHeap, takePage, join, room, store}
+use Rattle.rules.specs.Refusals.{place}
+use Rattle.laws.proofs.Lists.{apart, at-put-below, at-put-above}
+use Rattle.facts.proofs.Steps.{Stands, Steps, here, over, steps-le}
+use Rattle.facts.proofs.Laid.{upd, upd-same, upd-other, Once, Last, last-in, Linked, linked-same, Owner, old, spare, beyond, mine, Body, Clean, Like, body-like, clean-like, Layout}
+use Rattle.working.proofs.Taken.{taken, last-is}
+
+-- what giving region j room for m words does
+pub record Roomed (n N R : ℕ) (own : ℕ → Owner) (fin : ℕ → ℕ) (h : List ℕ) (j m : ℕ) (r : Run) : Type 0 where
+  pub own₁ : ℕ → Owner
+  pub fin₁ : ℕ → ℕ
+  pub pages₁ : ℕ → List ℕ
+  pub free₁ : List ℕ
+  pub laid : Layout n N R own₁ fin₁ pages₁ free₁ r
+  pub fits : topOf (r .table) j + m ≤ endOf (r .table) j
+  pub old-kept : (k : ℕ) → (own k ≡ old) ↔ (own₁ k ≡ old)
+  pub mine-kept : (k i : ℕ) → own k ≡ mine i → (own₁ k ≡ mine i) × (fin₁ k ≡ fin k)
+  pub mine-from : (k i : ℕ) → own₁ k ≡ mine i → (own k ≡ mine i) ⊎ ((own k ≡ spare) × (i ≡ j) × (fin₁ k ≡ k * 2 ^ n + 2) × (endOf (r .table) j ≡ k * 2 ^ n + 2 ^ n))
+  pub words : (k x : ℕ) → own k ≢ spare → own k ≢ beyond → k * 2 ^ n < x → x < k * 2 ^ n + 2 ^ n → at (r .heap) x ≡ at h x
+  pub old-links : (k : ℕ) → own k ≡ old → at (r .heap) (k * 2 ^ n) ≡ at h (k * 2 ^ n)
+
+module _ (n N R : ℕ) (own : ℕ → Owner) (fin : ℕ → ℕ) (pages : ℕ → List ℕ) (r : Run) (j m : ℕ) (jR : j < R) (small : m + 2 ≤ 2 ^ n) where
+  -- there was room
+  pub room-was : (free : List ℕ) → Layout n N R own fin pages free r → leb (topOf (r .table) j + m) (endOf (r .table) j) ≡ true
+      → (room n j m r ≡ some r) × Roomed n N R own fin (r .heap) j m r
+  unfolding room
+  room-was free L e = (
+    rw (e, room),
+    record {
+      own₁ = own;
+      fin₁ = fin;
+      pages₁ = pages;
+      free₁ = free;
+      laid = L;
+      fits = leb-true _ _ e;
+      old-kept = λ k. (λ q. q, λ q. q);
+      mine-kept = λ k i q. (q, refl);
+      mine-from = λ k i q. inl q;
+      words = λ k x a b p q. refl;
+      old-links = λ k o. refl;
+    },
+  )
+
+  -- there was none, and a page
+  module _ (k : ℕ) (ks : List ℕ) (L : Layout n N R own fin pages (k ∷ ks) r) where
+    abbrev r₀ : Run
+    r₀ = T.taken n j k r
+
+    L₀ : Layout n N R (upd own k (mine j)) (upd fin k (k * 2 ^ n + 2)) pages ks r₀
+    L₀ = T.taken-laid n N R own fin pages k ks r L j
+
+    spare-k : own k ≡ spare
+    spare-k = L .free-own k (List·Memᴰ·head refl)
+
+    k-new : List·Memᴰ k (pages j) → ⊥
+    k-new p = let q : mine j ≡ spare = sym (L .mine-own j k jR p) ∙ spare-k in let z : _≡_ {A = ℕ} 0 1 = cc in omega arith
+
+    taken-link : link n (r₀ .heap) k ≡ 0
+    unfolding taken
+    taken-link = T.k-link n N R own fin pages k ks r L j
+
+    own-new : upd own k (mine j) k ≡ mine j
+    own-new = upd-same own k (mine j) k refl
+
+    fin-new : upd fin k (k * 2 ^ n + 2) k ≡ k * 2 ^ n + 2
+    fin-new = upd-same fin k (k * 2 ^ n + 2) k refl
+
+    L₁ : Layout n N R (upd own k (mine j)) (upd fin k (k * 2 ^ n + 2)) (upd pages j (pages j ++ k ∷ [])) ks (join n j k r₀)
+    L₁ = Q.joined-laid n N R (upd own k (mine j)) (upd fin k (k * 2 ^ n + 2)) pages ks r₀ L₀ j k jR own-new k-new taken-link fin-new
+
+    last-k : L₁ .mine-top j jR .0 ≡ k
+    last-k = last-is (pages j) (rw (upd-same pages j (pages j ++ k ∷ []) j refl) at (L₁ .mine-top j jR .1))
+
+    end-is : endOf (join n j k r₀ .table) j ≡ k * 2 ^ n + 2 ^ n
+    end-is = L₁ .mine-top j jR .2 ∙ ap (λ l. l * 2 ^ n + 2 ^ n) last-k
+
+    top-is : topOf (join n j k r₀ .table) j ≡ k * 2 ^ n + 2
+    top-is = L₁ .mine-top j jR .3 ∙ ap (upd fin k (k * 2 ^ n + 2)) last-k ∙ fin-new
+
+    not-k : (l : ℕ) → own l ≢ spare → l ≢ k
+    not-k l ne e = ne (ap own e ∙ spare-k)
+
+    apart-owners : {A : Type 0} {o : Owner} → mine j ≡ o → o ≡ old → A
+    apart-owners p q = let z : _≡_ {A = ℕ} 0 1 = cc in absurd (omega arith)
+
+    old≢spare : old ≢ spare
+    old≢spare e = let z : _≡_ {A = ℕ} 0 1 = cc in omega arith
+
+    mine≢spare : {i : ℕ} → mine i ≢ spare
+    mine≢spare e = let z : _≡_ {A = ℕ} 0 1 = cc in omega arith
+
+    mine-inj : {i l : ℕ} → mine i ≡ mine l → i ≡ l
+    mine-inj e = cc
+
+    back : (l : ℕ) (o : Owner) → o ≢ mine j → upd own k (mine j) l ≡ o → own l ≡ o
+    back l o ne e = go (ℕ-discrete l k)
+      where
+        go : Dec (l ≡ k) → own l ≡ o
+        go (yes q) = absurd (ne (sym e ∙ upd-same own k (mine j) l q))
+        go (no f) = sym (upd-other own k (mine j) l f) ∙ e
+
+    from : (l i : ℕ) → upd own k (mine j) l ≡ mine i
+        → (own l ≡ mine i) ⊎ ((own l ≡ spare) × (i ≡ j) × (upd fin k (k * 2 ^ n + 2) l ≡ l * 2 ^ n + 2) × (endOf (join n j k r₀ .table) j ≡ l * 2 ^ n + 2 ^ n))
+    from l i e = go (ℕ-discrete l k)
+      where
+        go : Dec (l ≡ k) → (own l ≡ mine i) ⊎ ((own l ≡ spare) × (i ≡ j) × (upd fin k (k * 2 ^ n + 2) l ≡ l * 2 ^ n + 2) × (endOf (join n j k r₀ .table) j ≡ l * 2 ^ n + 2 ^ n))
+        go (yes q) =
+            inr (
+              ap own q ∙ spare-k,
+              mine-inj (sym e ∙ upd-same own k (mine j) l q),
+              upd-same fin k (k * 2 ^ n + 2) l q ∙ ap (λ t. t * 2 ^ n + 2) (sym q),
+              end-is ∙ ap (λ t. t * 2 ^ n + 2 ^ n) (sym q),
+            )
+        go (no f) = inl (sym (upd-other own k (mine j) l f) ∙ e)
+
+    abbrev QL : (l : ℕ) → Like n (r₀ .heap) (set (r₀ .heap) (endOf (r₀ .table) j - 2 ^ n) (suc k)) l
+    QL = Q.like n N R (upd own k (mine j)) (upd fin k (k * 2 ^ n + 2)) pages ks r₀ L₀ j k jR own-new k-new taken-link fin-new
+
+    same-words : (l x : ℕ) → own l ≢ spare → own l ≢ beyond → l * 2 ^ n < x → x < l * 2 ^ n + 2 ^ n → at (join n j k r₀ .heap) x ≡ at (r .heap) x
+    unfolding taken join
+    same-words l x a b p q = sym (QL l .word x p q) ∙ T.others n N R own fin pages k ks r L j l x (not-k l a) (omega arith) q
+
+    same-links : (l : ℕ) → own l ≡ old → at (join n j k r₀ .heap) (l * 2 ^ n) ≡ at (r .heap) (l * 2 ^ n)
+    unfolding taken join link
+    same-links l o =
+        let ne : l ≢ k = not-k l (λ q. old≢spare (sym o ∙ q)) in
+        let b = L .big in
+        sym (Q.links n N R (upd own k (mine j)) (upd fin k (k * 2 ^ n + 2)) pages ks r₀ L₀ j k jR own-new k-new taken-link fin-new l
+        (λ q. apart-owners (sym (Q.own-z n N R (upd own k (mine j)) (upd fin k (k * 2 ^ n + 2)) pages ks r₀ L₀ j k jR own-new k-new taken-link fin-new) ∙ ap (upd own k (mine j)) (sym q) ∙ upd-other own k (mine j) l ne) o))
+        ∙ T.others n N R own fin pages k ks r L j l (l * 2 ^ n) ne (le-refl _) (omega arith)
+
+    pub room-made : leb (topOf (r .table) j + m) (endOf (r .table) j) ≡ false → (room n j m r ≡ some (join n j k r₀)) × Roomed n N R own fin (r .heap) j m (join n j k r₀)
+    unfolding room
+    room-made e = (
+      rw (e, room, T.takes n j k r (T.linked-first (L .free-links) .0)),
+      record {
+        own₁ = upd own k (mine j);
+        fin₁ = upd fin k (k * 2 ^ n + 2);
+        pages₁ = upd pages j (pages j ++ k ∷ []);
+        free₁ = ks;
+        laid = L₁;
+        fits = let a = end-is in let b = top-is in omega arith;
+        old-kept = λ l. (λ o. upd-other own k (mine j) l (not-k l (λ q. old≢spare (sym o ∙ q))) ∙ o, λ o. back l old (λ q. apart-owners (sym q) refl) o);
+        mine-kept = λ l i o.
+            let ne : l ≢ k = not-k l (λ q. mine≢spare (sym o ∙ q)) in
+            (upd-other own k (mine j) l ne ∙ o, upd-other fin k (k * 2 ^ n + 2) l ne);
+        mine-from = from;
+        words = same-words;
+        old-links = same-links;
+      },
+    )

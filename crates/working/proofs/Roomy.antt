@@ -1,0 +1,175 @@
+-- A region that was given room by a new page.
+use Prim.Native.Nat.{ℕ, zero, suc, pred, _+_, _-_, _*_, _/_, _%_, _^_, _≤_, _<_, zero-le, suc-le-suc}
+use native.Mathlib.Nat.{le-trans, le-refl, add-zero, mul-le-mul-right}
+use native.Mathlib.Omega.{arith}
+use native.Mathlib.Decide.{ℕ-discrete}
+use mathlib.Core.Path.{_≡_, refl, sym, ap, _∙_, subst}
+use mathlib.Core.Logic.{_≢_, _↔_, _⊎_, inl, inr}
+use mathlib.Core.Bool.{Bool, true, false}
+use mathlib.Core.Option.{Option, none, some}
+use mathlib.Core.List.{List, [], _∷_, _++_, List·Memᴰ, List·Memᴰ·head, List·Memᴰ·tail}
+use lib.ListN.{length, getD, set, length-set}
+use lib.Seq.{getD-set-same, getD-set-other}
+use Rattle.rules.specs.declared.Control.{Control}
+use Rattle.rules.specs.Memory.{Store, link, origin, endOf, firstOf, topOf, statusOf}
+use Rattle.laws.specs.Lists.{at, put}
+use Rattle.rules.specs.Pages.{Run, join}
+use Rattle.laws.proofs.Lists.{apart}
+use Rattle.facts.proofs.Steps.{Stands, Steps, here, over, steps-le}
+use Rattle.facts.proofs.Laid.{upd, upd-same, upd-other, Once, once-none, once-more, Last, only, later, last-in, Linked, stop, goes, linked-same, Owner, old, spare, beyond, mine, Body, Clean, Like, body-like, clean-like, Layout}
+use Rattle.working.proofs.Taken.{linked-snoc, last-snoc, in-snoc, once-snoc}
+
+-- page k, which belongs to region j and holds nothing yet, becomes the region's last page
+module _ (n N R : ℕ) (own : ℕ → Owner) (fin : ℕ → ℕ) (pages : ℕ → List ℕ) (free : List ℕ) (r : Run) (L : Layout n N R own fin pages free r)
+    (j k : ℕ) (jR : j < R) (own-k : own k ≡ mine j) (k-new : List·Memᴰ k (pages j) → ⊥) (k-link : link (n) (r .heap) k ≡ 0)
+    (k-fin : fin k ≡ k * 2 ^ n + 2) where
+  abbrev pub P : ℕ
+  P = 2 ^ n
+
+  abbrev pub z : ℕ
+  z = L .mine-top j jR .0
+
+  pub own-z : own z ≡ mine j
+  own-z = L .mine-own j z jR (last-in (L .mine-top j jR .1))
+
+  abbrev pub x : ℕ
+  x = endOf (r .table) j - P
+
+  x-is : x ≡ z * P
+  x-is = let e = L .mine-top j jR .2 in omega arith
+
+  z-in : z * P + P ≤ length (r .heap)
+  z-in = let s = L .size in let p = mul-le-mul-right P (L .known z (λ q. mine≢beyond (sym own-z ∙ q))) in omega arith
+    where
+      mine≢beyond : mine j ≢ beyond
+      mine≢beyond e = let z : _≡_ {A = ℕ} 0 1 = cc in omega arith
+
+  abbrev pub h′ : List ℕ
+  h′ = set (r .heap) x (suc k)
+
+  keep : (y : ℕ) → y ≢ z * P → at h′ y ≡ at (r .heap) y
+  keep y ne = getD-set-other (r .heap) x y (suc k) 0 (λ q. ne (q ∙ x-is))
+
+  -- the only word that changes is a link
+  pub like : (l : ℕ) → Like (n) (r .heap) h′ l
+  like l = record { word = λ y p q. sym (keep y (λ e. go (ℕ-discrete l z) y p q e)) }
+    where
+      by : (l * P + P ≤ z * P) ⊎ (z * P + P ≤ l * P) → (y : ℕ) → l * P < y → y < l * P + P → y ≡ z * P → ⊥
+      by (inl t) y p q e = omega arith
+      by (inr t) y p q e = let b = L .big in omega arith
+
+      go : Dec (l ≡ z) → (y : ℕ) → l * P < y → y < l * P + P → y ≡ z * P → ⊥
+      go (yes e′) y p q e = let w : l * P ≡ z * P = ap (λ t. t * P) e′ in omega arith
+      go (no ne) y p q e = by (apart P l z ne) y p q e
+
+  pub links : (l : ℕ) → l ≢ z → link (n) (r .heap) l ≡ link (n) h′ l
+  unfolding link
+  links l ne = sym (keep (l * P) (λ e. go (apart P l z ne) e))
+    where
+      go : (l * P + P ≤ z * P) ⊎ (z * P + P ≤ l * P) → l * P ≡ z * P → ⊥
+      go (inl t) e = let b = L .big in omega arith
+      go (inr t) e = let b = L .big in omega arith
+
+  z-link : link (n) h′ z ≡ suc k
+  unfolding link
+  z-link = ap (at h′) (sym x-is) ∙ getD-set-same (r .heap) x (suc k) 0 (let b = L .big in let a = z-in in let c = x-is in omega arith)
+
+  abbrev pub pages′ : ℕ → List ℕ
+  pages′ = upd pages j (pages j ++ k ∷ [])
+
+  abbrev table′ : List ℕ
+  table′ = set (set (r .table) (4 * j) (k * P + P)) (4 * j + 2) (k * P + 2)
+
+  row : (y : ℕ) → y ≢ 4 * j → y ≢ 4 * j + 2 → at table′ y ≡ at (r .table) y
+  row y p q =
+      getD-set-other (set (r .table) (4 * j) (k * P + P)) (4 * j + 2) y (k * P + 2) 0 q ∙ getD-set-other (r .table) (4 * j) y (k * P + P) 0 p
+
+  spare-not-z : (l : ℕ) → own l ≡ spare → l ≢ z
+  spare-not-z l o e = let q : spare ≡ mine j = sym o ∙ ap own e ∙ own-z in let w : _≡_ {A = ℕ} 0 1 = cc in omega arith
+
+  mine-inj : {i j : ℕ} → mine i ≡ mine j → i ≡ j
+  mine-inj e = cc
+
+  other-not-z : (i l : ℕ) → i ≢ j → own l ≡ mine i → l ≢ z
+  other-not-z i l ne o e = ne (mine-inj (sym o ∙ ap own e ∙ own-z))
+
+  owns : (i l : ℕ) → i < R → List·Memᴰ l (pages′ i) → own l ≡ mine i
+  owns i l b m = go (ℕ-discrete i j)
+    where
+      by : List·Memᴰ l (pages j) ⊎ (l ≡ k) → own l ≡ mine j
+      by (inl p) = L .mine-own j l jR p
+      by (inr e) = ap own e ∙ own-k
+
+      go : Dec (i ≡ j) → own l ≡ mine i
+      go (yes e) = by (in-snoc (pages j) (rw (upd-same pages j (pages j ++ k ∷ []) i e) at m)) ∙ ap mine (sym e)
+      go (no ne) = L .mine-own i l b (rw (upd-other pages j (pages j ++ k ∷ []) i ne) at m)
+
+  onces : (i : ℕ) → i < R → Once (pages′ i)
+  onces i b = go (ℕ-discrete i j)
+    where
+      go : Dec (i ≡ j) → Once (pages′ i)
+      go (yes e) = rw (upd-same pages j (pages j ++ k ∷ []) i e) (once-snoc (L .mine-once j jR) k-new)
+      go (no ne) = rw (upd-other pages j (pages j ++ k ∷ []) i ne) (L .mine-once i b)
+
+  k-not-z : k ≢ z
+  k-not-z e = k-new (rw (← e) at (last-in (L .mine-top j jR .1)))
+
+  chained : (i : ℕ) → i < R → (l : ℕ) × (firstOf table′ i ≡ l * P) × Linked (link (n) h′) (suc l) (pages′ i)
+  chained i b = go (ℕ-discrete i j)
+    where
+      go : Dec (i ≡ j) → (l : ℕ) × (firstOf table′ i ≡ l * P) × Linked (link (n) h′) (suc l) (pages′ i)
+      go (yes e) =
+          let t = L .mine-links j jR in (
+            t .0,
+            row (4 * i + 1) (omega arith) (omega arith) ∙ ap (firstOf (r .table)) e ∙ t .1,
+            rw (upd-same pages j (pages j ++ k ∷ []) i e)
+                (linked-snoc (t .2) (L .mine-top j jR .1) (L .mine-once j jR) z-link (sym (links k k-not-z) ∙ k-link) (λ y m ne. links y ne)),
+          )
+      go (no ne) =
+          let t = L .mine-links i b in (
+            t .0,
+            row (4 * i + 1) (omega arith) (omega arith) ∙ t .1,
+            rw (upd-other pages j (pages j ++ k ∷ []) i ne) (linked-same (λ l m. links l (other-not-z i l ne (L .mine-own i l b m))) (t .2)),
+          )
+
+  tops : (i : ℕ) → i < R → (l : ℕ) × Last (pages′ i) l × (endOf table′ i ≡ l * P + P) × (topOf table′ i ≡ fin l)
+  tops i b = go (ℕ-discrete i j)
+    where
+      go : Dec (i ≡ j) → (l : ℕ) × Last (pages′ i) l × (endOf table′ i ≡ l * P + P) × (topOf table′ i ≡ fin l)
+      go (yes e) =
+          let rows = L .rows in
+          let len : length (set (r .table) (4 * j) (k * P + P)) ≡ length (r .table) = length-set (r .table) (4 * j) (k * P + P) in (
+            k,
+            rw (upd-same pages j (pages j ++ k ∷ []) i e) (last-snoc (pages j)),
+            ap (endOf table′) e ∙ getD-set-other (set (r .table) (4 * j) (k * P + P)) (4 * j + 2) (4 * j) (k * P + 2) 0 (omega arith)
+                ∙ getD-set-same (r .table) (4 * j) (k * P + P) 0 (omega arith),
+            ap (topOf table′) e ∙ getD-set-same (set (r .table) (4 * j) (k * P + P)) (4 * j + 2) (k * P + 2) 0 (omega arith) ∙ sym k-fin,
+          )
+      go (no ne) =
+          let t = L .mine-top i b in (
+            t .0,
+            rw (upd-other pages j (pages j ++ k ∷ []) i ne) (t .1),
+            row (4 * i) (omega arith) (omega arith) ∙ t .2,
+            row (4 * i + 2) (omega arith) (omega arith) ∙ t .3,
+          )
+
+  pub joined-laid : Layout n N R own fin pages′ free (join n j k r)
+  unfolding join
+  joined-laid =
+      record {
+        size = length-set (r .heap) x (suc k) ∙ L .size;
+        big = L .big;
+        rows = simp length-set (L .rows);
+        known = L .known;
+        free-own = L .free-own;
+        free-once = L .free-once;
+        free-links = linked-same (λ l m. links l (spare-not-z l (L .free-own l m))) (L .free-links);
+        free-last = L .free-last;
+        free-count = L .free-count;
+        free-clean = λ l o. clean-like (like l) (L .free-clean l o);
+        mine-own = owns;
+        mine-once = onces;
+        mine-links = chained;
+        mine-body = λ i l o. let b = L .big in body-like (omega arith) (like l) (L .mine-body i l o);
+        mine-top = tops;
+      }

@@ -1,0 +1,161 @@
+-- One field of a copy scanned: its word is set, and nothing else of the log changes.
+use Prim.Native.Nat.{ℕ, zero, suc, pred, _+_, _-_, _*_, _/_, _%_, _^_, _≤_, _<_, zero-le, suc-le-suc}
+use native.Mathlib.Nat.{le-trans, le-refl, add-zero, mul-le-mul-right}
+use native.Mathlib.Omega.{arith}
+use native.Mathlib.Decide.{ℕ-discrete, decLe}
+use mathlib.Core.Path.{_≡_, refl, sym, ap, _∙_, subst}
+use mathlib.Core.Logic.{_≢_, _↔_, _⊎_, inl, inr}
+use mathlib.Core.List.{List, [], _∷_, _++_, List·Memᴰ}
+use lib.ListN.{length, set}
+use lib.Seq.{getD-set-same, getD-set-other}
+use Rattle.rules.specs.Memory.{Store}
+use Rattle.laws.specs.Lists.{at}
+use Rattle.laws.proofs.Lists.{apart as pages-apart}
+use Rattle.facts.proofs.Steps.{Stands, Steps, here, over, steps-le, steps-then, steps-same, stands-same, apart, steps-inside}
+use Rattle.facts.proofs.Laid.{upd, upd-same, upd-other, Owner, old, spare, beyond, mine}
+use Rattle.facts.proofs.Copied.{Moved, to, Rel}
+use Rattle.working.proofs.Log.{pointers, Copy, Log}
+
+module _ (n : ℕ) (s : Store) (kept : ℕ → Type 0) (own : ℕ → Owner) (fin : ℕ → ℕ) (h : List ℕ) (log : List Moved) (done : ℕ → ℕ)
+    (L : Log n s kept own fin h log done) (c d i v : ℕ) (m : List·Memᴰ (to c d) log) (i-in : i < L .copies m .len) (i-next : done d ≡ i)
+    (rel : Rel kept (pointers log) (at (s .heap) (c + suc i)) v) (x-in : d + suc i < length h) where
+  abbrev C : Copy n s kept own fin h log done c d
+  C = L .copies m
+
+  abbrev h′ : List ℕ
+  h′ = set h (d + suc i) v
+
+  agree : (y : ℕ) → y ≢ d + suc i → at h y ≡ at h′ y
+  agree y ne = sym (getD-set-other h (d + suc i) y v 0 ne)
+
+  lo : C .into * 2 ^ n + 2 ≤ d
+  lo = steps-le (C .into-steps)
+
+  hi : d + suc (C .len) ≤ C .into * 2 ^ n + 2 ^ n
+  hi = C .into-stands .ends
+
+  -- the word lies in its own page
+  other-page : (k y : ℕ) → k ≢ C .into → k * 2 ^ n ≤ y → y < k * 2 ^ n + 2 ^ n → y ≢ d + suc i
+  other-page k y ne p q e = go (pages-apart (2 ^ n) k (C .into) ne)
+    where
+      go : (k * 2 ^ n + 2 ^ n ≤ C .into * 2 ^ n) ⊎ (C .into * 2 ^ n + 2 ^ n ≤ k * 2 ^ n) → ⊥
+      go (inl t) = let a = lo in let b = hi in omega arith
+      go (inr t) = let a = lo in let b = hi in omega arith
+
+  old-page : (k y : ℕ) → own k ≡ old → k * 2 ^ n ≤ y → y < k * 2 ^ n + 2 ^ n → y ≢ d + suc i
+  old-page k y o = other-page k y (λ e. let z : old ≡ mine (C .region) = sym o ∙ ap own e ∙ C .into-mine in let z′ : _≡_ {A = ℕ} 0 1 = cc in omega arith)
+
+  -- stepping through any page goes as before
+  steps-any : (k e : ℕ) → Steps h (k * 2 ^ n + 2 ^ n) (k * 2 ^ n + 2) e → e ≤ k * 2 ^ n + 2 ^ n
+      → Steps h′ (k * 2 ^ n + 2 ^ n) (k * 2 ^ n + 2) e
+  steps-any k e t b = go (ℕ-discrete k (C .into))
+    where
+      go : Dec (k ≡ C .into) → Steps h′ (k * 2 ^ n + 2 ^ n) (k * 2 ^ n + 2) e
+      go (yes q) = rw q (steps-inside h h′ _ _ d (C .len) (d + suc i) (C .into-steps) (C .into-stands) (omega arith) (omega arith) agree here (rw q at t))
+      go (no ne) = steps-same (λ y p u. agree y (other-page k y ne (omega arith) (omega arith))) t
+
+  -- another copy's words stay
+  elsewhere : {c′ d′ : ℕ} (D : Copy n s kept own fin h log done c′ d′) → d′ ≢ d → (y : ℕ) → d′ ≤ y → y < d′ + suc (D .len) → y ≢ d + suc i
+  elsewhere {c′} {d′} D ne y p q = go (ℕ-discrete (D .into) (C .into))
+    where
+      lo′ : D .into * 2 ^ n + 2 ≤ d′
+      lo′ = steps-le (D .into-steps)
+
+      hi′ : d′ + suc (D .len) ≤ D .into * 2 ^ n + 2 ^ n
+      hi′ = D .into-stands .ends
+
+      both : (d′ ≤ d) ⊎ (d + suc (C .len) ≤ d′) → (d ≤ d′) ⊎ (d′ + suc (D .len) ≤ d) → y ≢ d + suc i
+      both (inl a) (inl b) = absurd (ne (omega arith))
+      both (inl a) (inr b) = omega arith
+      both (inr a) t = omega arith
+
+      go : Dec (D .into ≡ C .into) → y ≢ d + suc i
+      go (yes e) =
+          let S : Steps h (C .into * 2 ^ n + 2 ^ n) (C .into * 2 ^ n + 2) d′ = rw e at (D .into-steps) in
+          let T : Stands h (C .into * 2 ^ n + 2 ^ n) d′ (D .len) = rw e at (D .into-stands) in
+          both (apart (C .into-steps) (C .into-stands) S) (apart S T (C .into-steps))
+      go (no f) = let a = lo′ in let b = hi′ in other-page (D .into) y f (omega arith) (omega arith)
+
+  other-copy : {c′ d′ : ℕ} (D : Copy n s kept own fin h log done c′ d′) → d′ ≢ d → Copy n s kept own fin h′ log (upd done d (suc i)) c′ d′
+  other-copy {c′} {d′} D ne =
+      let lo₀ = steps-le (D .from-steps) in
+      let hi₀ = D .from-stands .ends in
+      let hi₁ = D .into-stands .ends in
+      record {
+        from = D .from;
+        into = D .into;
+        region = D .region;
+        len = D .len;
+        from-old = D .from-old;
+        from-whose = D .from-whose;
+        from-steps = D .from-steps;
+        from-stands = D .from-stands;
+        into-mine = D .into-mine;
+        into-steps = steps-any (D .into) d′ (D .into-steps) (omega arith);
+        into-stands = stands-same (agree d′ (elsewhere D ne d′ (le-refl d′) (omega arith))) (D .into-stands);
+        into-below = D .into-below;
+        head = sym (agree d′ (elsewhere D ne d′ (le-refl d′) (omega arith))) ∙ D .head;
+        forward = sym (agree c′ (old-page (D .from) c′ (D .from-old) (omega arith) (omega arith))) ∙ D .forward;
+        scanned = λ f q t. rw (← agree (d′ + suc f) (elsewhere D ne (d′ + suc f) (omega arith) (omega arith))) (D .scanned f q (rw (upd-other done d (suc i) d′ ne) at t));
+        waiting = λ f q t. sym (agree (d′ + suc f) (elsewhere D ne (d′ + suc f) (omega arith) (omega arith))) ∙ D .waiting f q (rw (upd-other done d (suc i) d′ ne) at t);
+      }
+
+  own-copy : Copy n s kept own fin h′ log (upd done d (suc i)) c d
+  own-copy =
+      let lo₀ = steps-le (C .from-steps) in
+      let hi₀ = C .from-stands .ends in
+      let hi₁ = hi in
+      record {
+        from = C .from;
+        into = C .into;
+        region = C .region;
+        len = C .len;
+        from-old = C .from-old;
+        from-whose = C .from-whose;
+        from-steps = C .from-steps;
+        from-stands = C .from-stands;
+        into-mine = C .into-mine;
+        into-steps = steps-any (C .into) d (C .into-steps) (omega arith);
+        into-stands = stands-same (agree d (omega arith)) (C .into-stands);
+        into-below = C .into-below;
+        head = sym (agree d (omega arith)) ∙ C .head;
+        forward = sym (agree c (old-page (C .from) c (C .from-old) (omega arith) (omega arith))) ∙ C .forward;
+        scanned = λ f q t. now f q (rw (upd-same done d (suc i) d refl) at t) (ℕ-discrete f i);
+        waiting = λ f q t.
+            let t′ = rw (upd-same done d (suc i) d refl) at t in
+            let w = i-next in
+            sym (agree (d + suc f) (omega arith)) ∙ C .waiting f q (omega arith);
+      }
+    where
+      now : (f : ℕ) → f < C .len → f < suc i → Dec (f ≡ i) → Rel kept (pointers log) (at (s .heap) (c + suc f)) (at h′ (d + suc f))
+      now f q t (yes e) = rw (e, getD-set-same h (d + suc i) v 0 x-in) rel
+      now f q t (no ne) = let w = i-next in rw (← agree (d + suc f) (omega arith)) (C .scanned f q (omega arith))
+
+  copies-by : {c′ d′ : ℕ} → List·Memᴰ (to c′ d′) log → Dec (d′ ≡ d) → Copy n s kept own fin h′ log (upd done d (suc i)) c′ d′
+  copies-by m′ (yes e) = let e′ = L .one-old (rw e at m′) m in rw (e, e′) own-copy
+  copies-by m′ (no ne) = other-copy (L .copies m′) ne
+
+  -- and back
+  steps-back : (k e : ℕ) → Steps h′ (k * 2 ^ n + 2 ^ n) (k * 2 ^ n + 2) e → e ≤ k * 2 ^ n + 2 ^ n
+      → Steps h (k * 2 ^ n + 2 ^ n) (k * 2 ^ n + 2) e
+  unfolding own-copy
+  steps-back k e t b = go (ℕ-discrete k (C .into))
+    where
+      go : Dec (k ≡ C .into) → Steps h (k * 2 ^ n + 2 ^ n) (k * 2 ^ n + 2) e
+      go (yes q) =
+          rw q
+          (steps-inside h′ h _ _ d (C .len) (d + suc i) (own-copy .into-steps) (own-copy .into-stands) (omega arith) (omega arith)
+          (λ y ne. sym (agree y ne)) here (rw q at t))
+      go (no ne) = steps-same (λ y p u. sym (agree y (other-page k y ne (omega arith) (omega arith)))) t
+
+  -- the log after the field
+  pub scanned-log : ((k j : ℕ) → own k ≡ mine j → fin k ≤ k * 2 ^ n + 2 ^ n) → Log n s kept own fin h′ log (upd done d (suc i))
+  scanned-log inside =
+      record {
+        copies = λ {a} {b} m′. copies-by m′ (ℕ-discrete b d);
+        unmoved = λ k y o p q none. sym (agree y (old-page k y o p q)) ∙ L .unmoved k y o p q none;
+        one-new = L .one-new;
+        one-old = L .one-old;
+        live = L .live;
+        every = λ k j b o t u. let q = inside k j o in L .every k j b o (steps-back k b t (omega arith)) u;
+      }

@@ -1,0 +1,1 @@
+// The collection at work: the invariant of a run, and how it ends. There is no code here.
