@@ -3,3 +3,4 @@ pub mod Lists
 pub mod Tests
 pub mod Writes
 pub mod Parts
+pub mod Padded

@@ -1,3 +1,5 @@
 pub mod Digits
 pub mod Frames
 pub mod Lines
+pub mod Heads
+pub mod Fills

@@ -92,3 +92,7 @@ module _ (text : List ℕ) (c : Cursor) (most m : ℕ) where
     pub pages-over : length text ≤ c .at → restOf (readFrames (c .line) (replicate m (expected 5 most)) (drop (c .at) text)) ≡ Rest.Well
     unfolding readFrames
     pages-over l = let q : m ≡ 0 = omega arith in rw (q, drop-of-length-le text l)
+
+-- the page size by another name
+pub page-sized : (r : Rest) (line m P most : ℕ) (bs : List ℕ) → most ≡ P → r ≡ restOf (readFrames line (replicate m (expected 5 most)) bs) → r ≡ restOf (readFrames line (replicate m (expected 5 P)) bs)
+page-sized r line m P most bs e h = h ∙ ap (λ x. restOf (readFrames line (replicate m (expected 5 x)) bs)) e
