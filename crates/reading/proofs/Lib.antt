@@ -3,3 +3,4 @@ pub mod Frames
 pub mod Lines
 pub mod Heads
 pub mod Fills
+pub mod Wells

@@ -1,6 +1,6 @@
 -- The text by places: what code that goes through the text finds at a place. A byte outside the text is 0, which is no digit and no
 -- newline, so that each of these is total; the laws in proofs/ say that they are document 01's frames.
-use Prim.Native.Nat.{ℕ, zero, suc, _+_, _*_}
+use Prim.Native.Nat.{ℕ, zero, suc, _+_, _*_, _^_}
 use mathlib.Core.Bool.{Bool, true, false, _&&_}
 use mathlib.Core.Option.{Option, none, some}
 use mathlib.Core.List.{List, [], _∷_, _++_}
@@ -8,6 +8,8 @@ use lib.ListN.{getD}
 use lib.Dec.{eqb}
 use Rattle.laws.specs.Choice.{_⇒_∣_}
 use Rattle.laws.specs.Lists.{at, padded, allFrom}
+use Rattle.rules.specs.declared.Control.{Control}
+use Rattle.rules.specs.Memory.{control}
 use Rattle.rules.specs.Image.{valueOf, newline, partFits, Expected, Frames, frames, malformed}
 use Rattle.reading.specs.declared.Cursor.{Cursor}
 use Rattle.reading.specs.declared.Step.{Step}
@@ -112,3 +114,11 @@ partAt m text i = padded m (wordsOf text i)
 unfoldable pub pagesAt : ℕ → ℕ → List ℕ → ℕ → List ℕ
 pagesAt zero P text i = []
 pagesAt (suc m) P text i = partAt P text i ++ pagesAt m P text (afterFrame text i)
+
+-- the record that the first frame gives
+abbrev pub controlOf : Head → Control
+controlOf h = control (h .n) (h .regions) (h .first) (h .last) (h .count)
+
+-- the lent parts have the lengths that the first frame says, the table 256
+unfoldable pub lengthsFit : Head → ℕ → ℕ → ℕ → ℕ → Bool
+lengthsFit h heap table roots consts = eqb heap (h .pages * 2 ^ h .n) && eqb table 256 && eqb roots (h .roots) && eqb consts (h .consts)

@@ -10,7 +10,7 @@ ghost use lib.ListN.{length, drop, replicate};
 ghost use Rattle.laws.specs.Lists.{at};
 ghost use Rattle.rules.specs.Refusals.{Paged};
 ghost use Rattle.rules.specs.Image.{partFits, headFits, expected, layout, readFrames, readText};
-ghost use Rattle.reading.specs.Places.{isDigit, digitValue, allDigits, numberAt, wordsAt, countAt, afterFrame, frameShape, frameFits, frameStep, restOf, headList, headFrom, judgedAs, partAt, pagesAt};
+ghost use Rattle.reading.specs.Places.{isDigit, digitValue, allDigits, numberAt, wordsAt, countAt, afterFrame, frameShape, frameFits, frameStep, restOf, headList, headFrom, judgedAs, partAt, pagesAt, lengthsFit};
 
 // Where a frame begins, and its line, from 1.
 pub struct Cursor {
@@ -346,4 +346,21 @@ pub fn fill_pages(text: &[u8], from: usize, heap: &mut [u32], n: u32, pages: usi
         k += 1;
         left -= 1;
     }
+}
+
+// Whether the lent parts have exactly the lengths that the first frame says, and the table 256.
+pub fn lengths_fit(h: Head, heap: usize, table: usize, roots: usize, consts: usize) -> bool
+    requires { ⌜ h .n ≤ 8 ⌝ }
+    ensures { λ r. ⌜ r ≡ lengthsFit h heap table roots consts ⌝ }
+{
+    if heap != heap_words(h.pages, h.n) {
+        return false;
+    }
+    if table != 256 {
+        return false;
+    }
+    if roots != h.roots as usize {
+        return false;
+    }
+    consts == h.consts as usize
 }
