@@ -19,13 +19,18 @@ ghost use Rattle.rules.specs.Refusals.{outcome};
 ghost use Rattle.rules.specs.Image.{written, writeImage, readImage};
 
 // Writes the image's text and answers its length. The length is counted first, so that a refusal leaves every byte.
-pub fn write_image(heap: &[u32], table: &[u32], roots: &[u32], consts: &[u32], c: Control, bytes: &mut [u8]) -> Valued
-    ensures {
-        λ r. ⌜
-          written r (now (bytes .exit))
-          ≡ writeImage (lent (now (heap .entry)) (now (table .entry)) (now (roots .entry)) (now (consts .entry)) c) (now (bytes .entry))
-        ⌝
-    }
+pub fn write_image(
+    heap: &[u32],
+    table: &[u32],
+    roots: &[u32],
+    consts: &[u32],
+    c: Control,
+    bytes: &mut [u8],
+) -> Valued
+    ensures { λ r. ⌜
+        written r (now (bytes .exit))
+        ≡ writeImage (lent (now (heap .entry)) (now (table .entry)) (now (roots .entry)) (now (consts .entry)) c) (now (bytes .entry))
+        ⌝ }
 {
     let tested = first_tests(heap.len(), table.len(), roots.len(), consts.len(), c);
     if let Tested::Refused(why) = tested {
@@ -44,13 +49,17 @@ pub fn write_image(heap: &[u32], table: &[u32], roots: &[u32], consts: &[u32], c
 }
 
 // Reads an image's text into the lent parts and answers its record. The whole text is judged before any word is written.
-pub fn read_image(text: &[u8], heap: &mut [u32], table: &mut [u32], roots: &mut [u32], consts: &mut [u32]) -> Opened
-    ensures {
-        λ r. ⌜
-          outcome r (now (heap .exit)) (now (table .exit)) (now (roots .exit)) (now (consts .exit))
-          ≡ readImage (now (text .entry)) (now (heap .entry)) (now (table .entry)) (now (roots .entry)) (now (consts .entry))
-        ⌝
-    }
+pub fn read_image(
+    text: &[u8],
+    heap: &mut [u32],
+    table: &mut [u32],
+    roots: &mut [u32],
+    consts: &mut [u32],
+) -> Opened
+    ensures { λ r. ⌜
+        outcome r (now (heap .exit)) (now (table .exit)) (now (roots .exit)) (now (consts .exit))
+        ≡ readImage (now (text .entry)) (now (heap .entry)) (now (table .entry)) (now (roots .entry)) (now (consts .entry))
+        ⌝ }
 {
     match judge(text) {
         Judged::Malformed(line) => Opened::Refused(Refusal::Malformed(line)),

@@ -1,21 +1,25 @@
 -- A text that is judged to be well formed: its frames are the words that stand at its places, and the store that they give is what filling
 -- leaves. Then what reading an image answers, by the test of the lengths.
-use Prim.Native.Nat.{ℕ, zero, suc, _+_, _*_, _^_, _≤_}
+use Prim.Native.Nat.{ℕ, zero, suc, _+_, _*_, _/_, _^_, _≤_}
 use mathlib.Core.Path.{_≡_, refl, sym, ap, _∙_}
 use mathlib.Core.Bool.{Bool, true, false, _&&_, not}
 use mathlib.Core.Option.{Option, none, some}
 use mathlib.Core.List.{List, [], _∷_, _++_}
+use native.Mathlib.Nat.{mul-mod-left, mul-div-cancel}
 use native.Mathlib.Omega.{arith}
+use borrow.Author.Tests.{eqb-true}
 use lib.Dec.{eqb}
+use lib.Pow.{pow-pos}
 use lib.ListN.{length, drop, getD, replicate}
 use Rattle.laws.specs.Choice.{_⇒_∣_}
 use Rattle.laws.specs.Lists.{at, padded}
 use Rattle.laws.proofs.Padded.{length-padded}
+use Rattle.laws.proofs.Tests.{both}
 use Rattle.rules.specs.declared.Control.{Control}
 use Rattle.rules.specs.declared.Refusal.{Refusal}
 use Rattle.rules.specs.declared.Opened.{Opened}
 use Rattle.rules.specs.Memory.{Store, lent, control}
-use Rattle.rules.specs.Refusals.{Outcome, outcome}
+use Rattle.rules.specs.Refusals.{Paged, Outcome, outcome}
 use Rattle.rules.specs.Image.{headFits, partFits, Expected, expected, layout, Frames, frames, malformed, withFrame, readFrames, readText, joined, storeOf, sameLengths, readStore, readOn, readImage}
 use Rattle.reading.specs.declared.Rest.{Rest}
 use Rattle.reading.specs.declared.Head.{Head}
@@ -49,7 +53,7 @@ frames-at (e ∷ es) line text i w = go (frameFits (e .kind) (partFits (e .most)
         → readFrames line (e ∷ es) (drop i text) ≡ frames (wordsOf text i ∷ framesAt es text (afterFrame text i))
     go true f r =
         let v : restOf (readFrames (suc line) es (drop (afterFrame text i) text)) ≡ Rest.Well =
-            sym (ap restOf (here true f) ∙ rest-with (wordsOf text i) (readFrames (suc line) es (drop (afterFrame text i) text))) ∙ w in
+        sym (ap restOf (here true f) ∙ rest-with (wordsOf text i) (readFrames (suc line) es (drop (afterFrame text i) text))) ∙ w in
         here true f ∙ ap (withFrame (wordsOf text i)) (r v)
     go false f r = not-well line (sym (ap restOf (here false f)) ∙ w)
 
@@ -82,6 +86,33 @@ judged-well text h e = go (frameFits 1 headFits text 0) refl
     go : (b : Bool) → frameFits 1 headFits text 0 ≡ b → Well text h
     go true f = rest f (restOf (readFrames 2 (layout (headList first)) (drop 71 text))) refl
     go false f = not-judged 1 (sym (judged-stop text f) ∙ e)
+
+-- ---- the lengths as facts
+
+pub record Fit (h : Head) (H T R K : ℕ) : Type 0 where
+  pub heap : H ≡ h .pages * 2 ^ h .n
+  pub table : T ≡ 256
+  pub roots : R ≡ h .roots
+  pub consts : K ≡ h .consts
+
+pub fit : (h : Head) (H T R K : ℕ) → lengthsFit h H T R K ≡ true → Fit h H T R K
+unfolding lengthsFit
+fit h H T R K e =
+    let (e2, k) = both e in
+    let (e1, r) = both e2 in
+    let (p, t) = both e1 in
+    record { heap = eqb-true _ _ p; table = eqb-true _ _ t; roots = eqb-true _ _ r; consts = eqb-true _ _ k }
+
+pub fit-pages : (h : Head) (H T R K : ℕ) → Headed h → Fit h H T R K → Paged (h .n) H × (h .pages ≡ H / 2 ^ h .n)
+fit-pages h H T R K g f = (
+  record {
+    low = g .low;
+    high = g .high;
+    size = (let s = g .size in let e = f .heap in omega arith);
+    whole = rw (f .heap) (mul-mod-left (h .pages) (2 ^ h .n));
+  },
+  sym (ap (λ x. x / 2 ^ h .n) (f .heap) ∙ mul-div-cancel (h .pages) (pow-pos (h .n))),
+)
 
 -- ---- what reading answers
 
@@ -123,10 +154,18 @@ module _ (text : List ℕ) (h : Head) (w : Well text h) where
     unfolding readStore
     read-short e = sym (read-on ∙ rw (same heap table roots consts, e))
 
-    pub read-done : lengthsFit h (length heap) (length table) (length roots) (length consts) ≡ true
+    read-done : lengthsFit h (length heap) (length table) (length roots) (length consts) ≡ true
         → readImage text heap table roots consts ≡ outcome (Opened.Done (controlOf h)) (store-at .heap) (store-at .table) (store-at .roots) (store-at .consts)
     unfolding readStore
     read-done e = read-on ∙ rw (same heap table roots consts, e)
+
+    pub read-filled : lengthsFit h (length heap) (length table) (length roots) (length consts) ≡ true → (H T R K : List ℕ) (i₂ i₃ i₄ : ℕ)
+        → T ≡ partAt (length table) text 71 → i₂ ≡ afterFrame text 71 → R ≡ partAt (length roots) text i₂ → i₃ ≡ afterFrame text i₂
+        → K ≡ partAt (length consts) text i₃ → i₄ ≡ afterFrame text i₃ → H ≡ pagesAt (h .pages) (2 ^ h .n) text i₄
+        → outcome (Opened.Done (controlOf h)) H T R K ≡ readImage text heap table roots consts
+    read-filled e H T R K i₂ i₃ i₄ qt q₂ qr q₃ qk q₄ qh =
+        let f = fit h (length heap) (length table) (length roots) (length consts) e in
+        rw (qh, q₄, qk, q₃, qr, q₂, qt, f .table, f .roots, f .consts) (sym (read-done e))
 
 pub read-malformed : (text heap table roots consts : List ℕ) (line : ℕ) → judgedAs (readText text) ≡ Judged.Malformed line
     → outcome (Opened.Refused (Refusal.Malformed line)) heap table roots consts ≡ readImage text heap table roots consts

@@ -312,13 +312,11 @@ fn word_at(text: &[u8], from: usize, count: usize, i: usize) -> u32
 // Fills a part from the frame that begins at a place. The answer is the place behind the frame.
 pub fn fill_part(text: &[u8], from: usize, part: &mut [u32]) -> usize
     requires { ⌜ (from ≤ 2 ^ 40) × (length (now part) ≤ 65536) ⌝ }
-    ensures {
-        λ r. ⌜
-          (now (part .exit) ≡ partAt (length (now (part .entry))) (now (text .entry)) from)
-          × (r ≡ afterFrame (now (text .entry)) from)
-          × (r ≤ from + 524287)
-        ⌝
-    }
+    ensures { λ r. ⌜
+        (now (part .exit) ≡ partAt (length (now (part .entry))) (now (text .entry)) from)
+        × (r ≡ afterFrame (now (text .entry)) from)
+        × (r ≤ from + 524287)
+        ⌝ }
 {
     let count = number(text, from + 2, 4) as usize;
     let mut i = 0;

@@ -6,15 +6,17 @@ use mathlib.Core.List.{List, [], _∷_, _++_}
 use native.Mathlib.Nat.{pow-succ', sub-zero}
 use native.Mathlib.Numerals.{sub-one, add-one}
 use native.Mathlib.Omega.{arith}
-use borrow.Author.Tests.{eq-eqb, ne-eqb, eqb-true, eqb-false}
+use borrow.Author.Tests.{lt-ltb, le-ltb, eq-eqb, ne-eqb, eqb-true, eqb-false}
 use lib.Dec.{eqb}
 use lib.ListN.{length, take, drop, getD, set, length-append, length-take, drop-of-length-le}
 use lib.Seq.{sets, take-suc, drop-cons}
 use Rattle.laws.specs.Choice.{_⇒_∣_}
 use Rattle.laws.specs.Lists.{at, padded, zeros}
-use Rattle.laws.proofs.Writes.{sets-append, sets-next}
+use Rattle.laws.proofs.Writes.{sets-append, sets-next, sets-front}
+use Rattle.rules.specs.declared.Refusal.{Refusal}
+use Rattle.rules.specs.declared.Valued.{Valued}
 use Rattle.rules.specs.Memory.{Store, pageCount, pageWords, row}
-use Rattle.rules.specs.Image.{digitOf, hex, hexWords, frame, trim, trimmed, headWords, pageFrames, imageText}
+use Rattle.rules.specs.Image.{digitOf, hex, hexWords, frame, trim, trimmed, headWords, pageFrames, imageText, written, refusedText, writeText}
 
 -- ---- digits and words
 
@@ -243,3 +245,16 @@ module _ (s : Store) where
       (sym
       (sets-append b₀ 0 (head ++ frame 2 rows ++ frame 3 tr ++ frame 4 tk) all-pages
       ∙ rw (p₄, sets-append b₀ 0 (head ++ frame 2 rows ++ frame 3 tr) (frame 4 tk), p₃, sets-append b₀ 0 (head ++ frame 2 rows) (frame 3 tr), p₂, sets-append b₀ 0 head (frame 2 rows), p₁)))
+
+module _ (s : Store) (bytes : List ℕ) (m : ℕ) (e : m ≡ length (imageText s)) where
+  -- the text does not fit
+  pub text-long : length bytes < m → writeText s bytes (imageText s) ≡ refusedText s bytes Refusal.Limits
+  unfolding writeText
+  text-long b = rw (← e, lt-ltb (length bytes) m b)
+
+  -- it fits, and was stored from the first byte on
+  pub text-done : (b : List ℕ) → m ≤ length bytes → b ≡ sets bytes 0 (imageText s) → writeText s bytes (imageText s) ≡ written (Valued.Done m (s .ctl)) b
+  unfolding writeText
+  text-done b l q =
+      let f : b ≡ imageText s ++ drop m bytes = q ∙ sets-front bytes (imageText s) (omega arith) ∙ ap (λ k. imageText s ++ drop k bytes) (sym e) in
+      rw (← e, le-ltb (length bytes) m l, f)

@@ -1,83 +1,76 @@
+-- `image::write_image` meets its contract: the first tests, the table past 4R, the length, and then the text.
 use borrow.Author.Needs.{needs}
+use Prim.Native.Nat.{_*_}
+use mathlib.Core.Path.{_≡_, sym, ap, _∙_}
+use native.Mathlib.Omega.{arith}
+use borrow.Author.Tests.{not-true, not-false}
+use Rattle.laws.specs.Lists.{zeros}
+use Rattle.laws.proofs.Parts.{part-rest}
+use Rattle.rules.specs.declared.Valued.{Valued}
+use Rattle.rules.specs.Memory.{lent}
+use Rattle.rules.specs.Image.{written, writeImage}
+use Rattle.rules.proofs.Frames.{text-long, text-done}
+use Rattle.pages.proofs.First.{tests-refuse, tests-pass, tests-admit}
 use Rattle.image.proofs.write_image.Statement.{statement}
 use Rattle.image.proofs.write_image.Tie as tie
-use Rattle.image.proofs.write_image.Reads as reads
-use Rattle.image.proofs.write_image.Lts as lts
-use Rattle.pages.proofs.first_tests.Reads as first-tests-reads
-use Rattle.writing.proofs.all_zero.Reads as all-zero-reads
-use Rattle.writing.proofs.text_length.Reads as text-length-reads
-use Rattle.writing.proofs.write_text.Reads as write-text-reads
 
--- src/lib.rt:30:9
 first-tests-requires : tie.Need-first-tests-requires
 first-tests-requires c κs = search needs
 
--- src/lib.rt:31:28
 enum-known-tested : tie.Need-enum-known-tested
 enum-known-tested c = search needs
 
--- src/lib.rt:32:9
 returns : tie.Need-returns
-returns c = ?
+unfolding writeImage
+returns c = tests-refuse _ _ _ _ _ (c .before .before .before .first-tests .ensures) (λ r. written (Valued.Refused r (c .before .before .before .before .before .before .before .before .before .args .c)) (c .before .before .before .before .before .before .before .before .before .args .bytes .now)) _ (c .before .tested .given .1)
 
 enum-told : tie.Need-enum-told
 enum-told c = search needs
 
--- src/lib.rt:34:20
 cast-rows : tie.Need-cast-rows
 cast-rows c = search needs
 
--- src/lib.rt:34:16
 mul-rows : tie.Need-mul-rows
 mul-rows c = search needs
 
--- src/lib.rt:35:18
 mul-all-zero : tie.Need-mul-all-zero
 mul-all-zero c = search needs
 
--- src/lib.rt:35:18
 sub-all-zero : tie.Need-sub-all-zero
-sub-all-zero c = ?
+sub-all-zero c = let a = tests-admit _ _ _ _ _ (c .before .before .before .first-tests .ensures) (c .before .enum-told .given .1) in omega arith
 
--- src/lib.rt:35:18
 part-all-zero-start : tie.Need-part-all-zero-start
-part-all-zero-start c = ?
+part-all-zero-start c = let a = tests-admit _ _ _ _ _ (c .before .before .before .first-tests .ensures) (c .before .enum-told .given .1) in omega arith
 
--- src/lib.rt:35:18
 part-all-zero-end : tie.Need-part-all-zero-end
 part-all-zero-end c = search needs
 
--- src/lib.rt:35:9
 all-zero-requires : tie.Need-all-zero-requires
 all-zero-requires c κs = search needs
 
--- src/lib.rt:36:9
 returns-2 : tie.Need-returns-2
-returns-2 c = ?
+unfolding writeImage
+returns-2 c = let f = tests-pass _ _ _ _ _ (c .before .before .before .before .before .before .first-tests .ensures) (c .before .before .before .before .enum-told .given .1) in rw (f .0, f .1, ap zeros (sym (part-rest (c .before .before .before .before .before .before .before .before .before .before .before .before .args .table .now) (4 * c .before .before .before .before .before .before .before .before .before .before .before .before .args .c .regions))) ∙ sym (c .before .all-zero .ensures) ∙ not-true _ (c .if1 .taken))
 
--- src/lib.rt:38:9
 text-length-requires : tie.Need-text-length-requires
-text-length-requires c κs = ?
+text-length-requires c κs = tests-admit _ _ _ _ _ (c .before .before .before .before .before .before .first-tests .ensures) (c .before .before .before .before .enum-told .given .1)
 
--- src/lib.rt:40:9
 returns-3 : tie.Need-returns-3
-returns-3 c = ?
+unfolding writeImage
+returns-3 c = let f = tests-pass _ _ _ _ _ (c .before .before .before .before .before .before .before .before .first-tests .ensures) (c .before .before .before .before .before .before .enum-told .given .1) in rw (f .0, f .1, ap zeros (sym (part-rest (c .before .before .before .before .before .before .before .before .before .before .before .before .before .before .args .table .now) (4 * c .before .before .before .before .before .before .before .before .before .before .before .before .before .before .args .c .regions))) ∙ sym (c .before .before .before .all-zero .ensures) ∙ not-false _ (c .before .before .if1 .left)) (sym (text-long (lent (c .before .before .before .before .before .before .before .before .before .before .before .before .before .before .args .heap .now) (c .before .before .before .before .before .before .before .before .before .before .before .before .before .before .args .table .now) (c .before .before .before .before .before .before .before .before .before .before .before .before .before .before .args .roots .now) (c .before .before .before .before .before .before .before .before .before .before .before .before .before .before .args .consts .now) (c .before .before .before .before .before .before .before .before .before .before .before .before .before .before .args .c)) _ _ (c .before .text-length .ensures .0) (c .if2 .taken)))
 
--- src/lib.rt:42:5
 write-text-requires : tie.Need-write-text-requires
-write-text-requires c κs = ?
+write-text-requires c κs = (tests-admit _ _ _ _ _ (c .before .before .before .before .before .before .before .before .before .first-tests .ensures) (c .before .before .before .before .before .before .before .enum-told .given .1), omega (arith, c .before .before .text-length .ensures .0))
 
--- src/lib.rt:43:18
 cast-t25 : tie.Need-cast-t25
 cast-t25 c = search needs
 
--- src/lib.rt:22:1
 same-length : tie.Need-same-length
 same-length c = search needs
 
--- src/lib.rt:22:1
 returns-4 : tie.Need-returns-4
-returns-4 c = ?
+unfolding writeImage
+returns-4 c = let f = tests-pass _ _ _ _ _ (c .before .before .before .before .before .before .before .before .before .before .before .before .first-tests .ensures) (c .before .before .before .before .before .before .before .before .before .before .enum-told .given .1) in rw (f .0, f .1, ap zeros (sym (part-rest (c .before .before .before .before .before .before .before .before .before .before .before .before .before .before .before .before .before .before .args .table .now) (4 * c .before .before .before .before .before .before .before .before .before .before .before .before .before .before .before .before .before .before .args .c .regions))) ∙ sym (c .before .before .before .before .before .before .before .all-zero .ensures) ∙ not-false _ (c .before .before .before .before .before .before .if1 .left)) (sym (text-done (lent (c .before .before .before .before .before .before .before .before .before .before .before .before .before .before .before .before .before .before .args .heap .now) (c .before .before .before .before .before .before .before .before .before .before .before .before .before .before .before .before .before .before .args .table .now) (c .before .before .before .before .before .before .before .before .before .before .before .before .before .before .before .before .before .before .args .roots .now) (c .before .before .before .before .before .before .before .before .before .before .before .before .before .before .before .before .before .before .args .consts .now) (c .before .before .before .before .before .before .before .before .before .before .before .before .before .before .before .before .before .before .args .c)) _ _ (c .before .before .before .before .before .text-length .ensures .0) _ (c .before .before .before .before .if2 .left) (c .before .before .write-text .ensures)))
 
 pub write-image-spec : {M : Type 1} → statement M
 write-image-spec =
