@@ -1,6 +1,11 @@
 pub mod Loops
 pub mod Lists
 pub mod Tests
-pub mod Writes
+pub mod Each
 pub mod Parts
+pub mod Once
+pub mod Facts
+pub mod Sums
+pub mod Copies
+pub mod Writes
 pub mod Padded

@@ -7,5 +7,8 @@ pub mod Frames
 pub mod Looks
 pub mod Walks
 pub mod Pages
+pub mod Whole
 pub mod Soundings
 pub mod Fresh
+pub mod Rows
+pub mod Pointers

@@ -1,13 +1,9 @@
-// Headers, good pointers, whole numbers, and the calls on one value: fetching it, assigning a field, setting a root, walking a path.
-use pages::Tested;
-use pages::first_tests;
-use pages::page_words;
+// Headers, good pointers, the value that a pointer names, and whole numbers.
+use pages::body_address;
+use pages::page_end;
 use rules::Address;
-use rules::Control;
 use rules::Numbered;
-use rules::Plain;
 use rules::Refusal;
-use rules::Valued;
 use rules::Worded;
 use rules::address_page;
 use rules::page_address;
@@ -18,9 +14,8 @@ ghost use mathlib.Core.List.{[]};
 ghost use Prim.Native.Nat.{_+_, _-_, _≤_, _<_};
 ghost use lib.ListN.{length};
 ghost use Rattle.laws.specs.Lists.{at};
-ghost use Rattle.rules.specs.Calls.{wordOfNumber, numberOfWord, fetch as fetchOf, fetchRefusal, assign as assignOf, setRoot, walkFrom, walkSays, walk as walkOf};
-ghost use Rattle.rules.specs.Memory.{lent};
-ghost use Rattle.rules.specs.Refusals.{Paged, outcome};
+ghost use Rattle.rules.specs.Calls.{wordOfNumber, numberOfWord};
+ghost use Rattle.rules.specs.Refusals.{Paged};
 ghost use Rattle.rules.specs.Words.{fits as fitsIn, isRecord, valsIn, standsAt, goodHeap, goodConst, goodIn, valueAt, look as lookOf};
 
 // Whether h is the header of a value that fits into the m words that follow it.
@@ -73,17 +68,18 @@ pub fn good_heap(heap: &[u32], n: u32, regions: u32, a: Address) -> bool
         return false;
     }
     let page = address_page(a, n);
-    let base = page_address(page, n).0;
-    let origin = heap[base + 1];
+    let base = page_address(page, n);
+    let at = base.0;
+    let origin = heap[at + 1];
     if origin < 1 {
         return false;
     }
     if regions < origin {
         return false;
     }
-    let start = base + 2;
-    let end = base + page_words(n);
-    stands(heap, Address(start), Address(end), a)
+    let start = body_address(page, n);
+    let end = page_end(page, n);
+    stands(heap, start, end, a)
 }
 
 // Whether a pointer to constant address a is good.
@@ -176,169 +172,4 @@ pub fn number_of_word(w: u32) -> Numbered
     }
     let below = ((4294967295 - w) / 2) as i32;
     Numbered::Done(!below)
-}
-
-// The value that a word points to, as a part of the heap or of the constants; an empty part where the call is refused.
-pub fn fetch<'a>(
-    heap: &'a [u32],
-    table: &'a [u32],
-    roots: &'a [u32],
-    consts: &'a [u32],
-    c: Control,
-    w: u32,
-) -> &'a [u32]
-    ensures { λ r. ⌜ now r ≡ fetchOf (lent (now (heap .entry)) (now (table .entry)) (now (roots .entry)) (now (consts .entry)) c) w ⌝ }
-{
-    let tested = first_tests(heap.len(), table.len(), roots.len(), consts.len(), c);
-    if let Tested::Refused(_) = tested {
-        return nothing(heap);
-    }
-    look(heap, consts, c.n, c.regions, w)
-}
-
-// Whether a fetch is refused, and why.
-pub fn fetch_refusal<'a>(
-    heap: &'a [u32],
-    table: &'a [u32],
-    roots: &'a [u32],
-    consts: &'a [u32],
-    c: Control,
-    w: u32,
-) -> Plain
-    ensures { λ r. ⌜ r ≡ fetchRefusal (lent (now (heap .entry)) (now (table .entry)) (now (roots .entry)) (now (consts .entry)) c) w ⌝ }
-{
-    let tested = first_tests(heap.len(), table.len(), roots.len(), consts.len(), c);
-    if let Tested::Refused(why) = tested {
-        return Plain::Refused(why, c);
-    }
-    let value = look(heap, consts, c.n, c.regions, w);
-    if value.len() == 0 {
-        return Plain::Refused(Refusal::NotGood, c);
-    }
-    Plain::Done(c)
-}
-
-// Field number `field` of the record that w points to becomes the word, which is a number or a good pointer.
-pub fn assign(
-    heap: &mut [u32],
-    table: &[u32],
-    roots: &[u32],
-    consts: &[u32],
-    c: Control,
-    w: u32,
-    field: usize,
-    word: u32,
-) -> Plain
-    ensures { λ r. ⌜ outcome r (now (heap .exit)) (now (table .entry)) (now (roots .entry)) (now (consts .entry))
-        ≡ assignOf (lent (now (heap .entry)) (now (table .entry)) (now (roots .entry)) (now (consts .entry)) c) w field word ⌝ }
-{
-    let tested = first_tests(heap.len(), table.len(), roots.len(), consts.len(), c);
-    if let Tested::Refused(why) = tested {
-        return Plain::Refused(why, c);
-    }
-    if w % 2 == 1 {
-        return Plain::Refused(Refusal::NoFields, c);
-    }
-    let a = pointer_address(w);
-    if w % 4 == 2 {
-        if !good_const(consts, a) {
-            return Plain::Refused(Refusal::NotGood, c);
-        }
-        return Plain::Refused(Refusal::Constant, c);
-    }
-    if !good_heap(heap, c.n, c.regions, a) {
-        return Plain::Refused(Refusal::NotGood, c);
-    }
-    let at = a.0;
-    let header = heap[at];
-    if !is_record(header) {
-        return Plain::Refused(Refusal::NoFields, c);
-    }
-    if (header / 8) as usize <= field {
-        return Plain::Refused(Refusal::NoSuch, c);
-    }
-    if !good_word(heap, consts, c.n, c.regions, word) {
-        return Plain::Refused(Refusal::NotGood, c);
-    }
-    heap[at + field + 1] = word;
-    Plain::Done(c)
-}
-
-// Root number `root` becomes the word, which is a number or a good pointer.
-pub fn set_root(
-    heap: &[u32],
-    table: &[u32],
-    roots: &mut [u32],
-    consts: &[u32],
-    c: Control,
-    root: usize,
-    word: u32,
-) -> Plain
-    ensures { λ r. ⌜ outcome r (now (heap .entry)) (now (table .entry)) (now (roots .exit)) (now (consts .entry))
-        ≡ setRoot (lent (now (heap .entry)) (now (table .entry)) (now (roots .entry)) (now (consts .entry)) c) root word ⌝ }
-{
-    let tested = first_tests(heap.len(), table.len(), roots.len(), consts.len(), c);
-    if let Tested::Refused(why) = tested {
-        return Plain::Refused(why, c);
-    }
-    if roots.len() <= root {
-        return Plain::Refused(Refusal::NoSuch, c);
-    }
-    if !good_word(heap, consts, c.n, c.regions, word) {
-        return Plain::Refused(Refusal::NotGood, c);
-    }
-    roots[root] = word;
-    Plain::Done(c)
-}
-
-// The word that a path ends on from the word w: one step is walked, and then the rest of it.
-pub fn walk_from<'a>(heap: &'a [u32], consts: &'a [u32], c: Control, w: u32, path: &[u32]) -> Valued
-    requires { ⌜ Paged (c .n) (length (now heap)) × (length (now consts) ≤ 65535) ⌝ }
-    ensures { λ r. ⌜ r ≡ walkSays c (walkFrom (lookOf (c .n) (c .regions) (now (heap .entry)) (now (consts .entry))) w (now (path .entry))) ⌝ }
-{
-    if w % 2 == 1 {
-        if path.len() == 0 {
-            return Valued::Done(w, c);
-        }
-        return Valued::Refused(Refusal::NoFields, c);
-    }
-    let value = look(heap, consts, c.n, c.regions, w);
-    if value.len() == 0 {
-        return Valued::Refused(Refusal::NotGood, c);
-    }
-    if path.len() == 0 {
-        return Valued::Done(w, c);
-    }
-    if !is_record(value[0]) {
-        return Valued::Refused(Refusal::NoFields, c);
-    }
-    let field = path[0] as usize;
-    if value.len() - 1 <= field {
-        return Valued::Refused(Refusal::NoSuch, c);
-    }
-    let next = value[field + 1];
-    walk_from(heap, consts, c, next, &path[1..])
-}
-
-// The word that a path ends on: a root's number, and the field numbers.
-pub fn walk<'a>(
-    heap: &'a [u32],
-    table: &'a [u32],
-    roots: &'a [u32],
-    consts: &'a [u32],
-    c: Control,
-    root: usize,
-    path: &[u32],
-) -> Valued
-    ensures { λ r. ⌜ r ≡ walkOf (lent (now (heap .entry)) (now (table .entry)) (now (roots .entry)) (now (consts .entry)) c) root (now (path .entry)) ⌝ }
-{
-    let tested = first_tests(heap.len(), table.len(), roots.len(), consts.len(), c);
-    if let Tested::Refused(why) = tested {
-        return Valued::Refused(why, c);
-    }
-    if roots.len() <= root {
-        return Valued::Refused(Refusal::NoSuch, c);
-    }
-    let start = roots[root];
-    walk_from(heap, consts, c, start, path)
 }
