@@ -7,3 +7,5 @@ pub mod Once
 pub mod Facts
 pub mod Sums
 pub mod Copies
+pub mod Writes
+pub mod Padded

@@ -5,8 +5,8 @@ use mathlib.Core.Path.{_≡_, sym, ap, _∙_}
 use mathlib.Core.List.{List, _∷_, _++_, append-nil, append-assoc}
 use native.Mathlib.Omega.{arith}
 use native.Mathlib.Numerals.{add-one}
-use lib.ListN.{length, take, drop, replicate, set, getD, length-set}
-use lib.Seq.{drop-length, drop-drop, take-length, sets-eq, paste, paste-suc}
+use lib.ListN.{length, take, drop, replicate, set, getD, length-set, length-drop}
+use lib.Seq.{drop-length, drop-drop, take-all, take-length, sets-eq, paste, paste-suc}
 use Rattle.laws.specs.Lists.{put}
 
 -- every word of d is filled
@@ -34,3 +34,7 @@ unfolding put
 part-put h a e ys q =
     let r : a + (e - a) ≡ a + length ys = omega arith in
     sym (append-assoc (take a h) ys _) ∙ ap (λ t. (take a h ++ ys) ++ t) (drop-drop (e - a) a h ∙ ap (λ m. drop m h) r)
+
+-- the words from a to the end, as they are lent
+pub part-rest : (l : List ℕ) (a : ℕ) → take (length l - a) (drop a l) ≡ drop a l
+part-rest l a = take-all (length l - a) (drop a l) (simp length-drop (omega arith))

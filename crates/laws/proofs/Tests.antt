@@ -1,14 +1,15 @@
 -- Tests to facts: what a test over a list or over the numbers below a bound says of each; and one turn of such a test.
 use Prim.Native.Nat.{ℕ, zero, suc, _+_, _-_, _≤_, _<_, zero-le}
 use native.Mathlib.Numerals.{sub-one, add-one}
+use native.Mathlib.Nat.{zero-add, add-zero}
 use native.Mathlib.Omega.{arith}
 use native.Mathlib.Decide.{ℕ-discrete}
 use mathlib.Core.Path.{_≡_, refl, sym, ap, _∙_}
 use mathlib.Core.Logic.{_⊎_, inl, inr}
 use mathlib.Core.Bool.{Bool, true, false, _&&_, and-true}
 use mathlib.Core.List.{List, [], _∷_, List·Memᴰ, List·Memᴰ·cases-cons}
-use lib.ListN.{length, getD}
-use lib.Seq.{slice, slice-cons, take-length}
+use lib.ListN.{length, getD, drop, drop-of-length-le}
+use lib.Seq.{slice, slice-cons, drop-cons, take-length}
 use lib.Dec.{leb, ltb, eqb}
 use borrow.Author.Tests.{lt-ltb, le-ltb, le-leb, lt-leb, eq-eqb, ne-eqb}
 use Rattle.laws.specs.Lists.{all, allFrom, allBelow, zeros}
@@ -72,10 +73,29 @@ from-go p (suc m) j l = rw (sub-one (suc m), add-one j) (go (p j) refl)
     go true e = rw (e, allFrom)
     go false e = rw (e, allFrom)
 
+pub from-next : (p : ℕ → Bool) (m j : ℕ) → 0 < m → p j ≡ true → allFrom p m j ≡ allFrom p (m - 1) (j + 1)
+from-next p m j l e = from-go p m j l ∙ ap (λ b. b && allFrom p (m - 1) (j + 1)) e
+
+pub from-stop : (p : ℕ → Bool) (m j : ℕ) → 0 < m → p j ≡ false → allFrom p m j ≡ false
+from-stop p m j l e = from-go p m j l ∙ ap (λ b. b && allFrom p (m - 1) (j + 1)) e
+
 pub from-end : (p : ℕ → Bool) (m j : ℕ) → m ≤ 0 → allFrom p m j ≡ true
 unfolding allFrom
 from-end p zero j l = refl
 from-end p (suc m) j l = absurd (omega arith)
+
+-- a run of tests, cut in two
+pub from-add : (p : ℕ → Bool) (a b j : ℕ) → allFrom p (a + b) j ≡ (allFrom p a j && allFrom p b (j + a))
+unfolding allFrom
+from-add p zero b j = rw (zero-add, add-zero)
+from-add p (suc a) b j = go (p j) refl (from-add p a b (suc j))
+  where
+    go : (t : Bool) → p j ≡ t → allFrom p (a + b) (suc j) ≡ (allFrom p a (suc j) && allFrom p b (suc j + a)) → allFrom p (suc a + b) j ≡ (allFrom p (suc a) j && allFrom p b (j + suc a))
+    go true e r =
+        let q : suc a + b ≡ suc (a + b) = omega arith in
+        let k : j + suc a ≡ suc j + a = omega arith in
+        rw (q, k, allFrom, e) r
+    go false e r = let q : suc a + b ≡ suc (a + b) = omega arith in rw (q, allFrom, e)
 
 -- fields, from address f up to address e
 module _ (p : ℕ → Bool) (h : List ℕ) (f e : ℕ) (r : Bool) where
@@ -106,3 +126,17 @@ module _ (h : List ℕ) (z e : ℕ) (r : Bool) where
   pub zeros-stop : z < e → e ≤ length h → (getD h z 0 ≡ 0 → ⊥) → (zeros (slice z e h) && r) ≡ false
   unfolding zeros
   zeros-stop b c t = rw (slice-cons z e h 0 b c, zeros, ne-eqb _ _ t)
+
+-- zeros, from place i to the end
+module _ (ws : List ℕ) (i : ℕ) where
+  pub zeros-none : length ws ≤ i → zeros (drop i ws) ≡ true
+  unfolding zeros
+  zeros-none b = rw (drop-of-length-le ws b)
+
+  pub zeros-next : i < length ws → getD ws i 0 ≡ 0 → zeros (drop i ws) ≡ zeros (drop (i + 1) ws)
+  unfolding zeros
+  zeros-next b z = rw (drop-cons ws i 0 b, zeros, eq-eqb _ _ z, add-one i)
+
+  pub zeros-found : i < length ws → (getD ws i 0 ≡ 0 → ⊥) → zeros (drop i ws) ≡ false
+  unfolding zeros
+  zeros-found b ne = rw (drop-cons ws i 0 b, zeros, ne-eqb _ _ ne)

@@ -12,3 +12,8 @@ pub mod NumbersBack
 pub mod Demand1
 pub mod Demand2
 pub mod Demand3
+pub mod ImageDigits
+pub mod ImageFrames
+pub mod ImageStores
+pub mod ImageCalls
+pub mod Images

@@ -3,6 +3,7 @@ pub mod Limits
 pub mod Stepping
 pub mod Chains
 pub mod Good
+pub mod Frames
 pub mod Looks
 pub mod Walks
 pub mod Pages
