@@ -45,6 +45,18 @@ in-page n h p a q g b =
 
 -- ---- the tests of every call, as facts
 
+pub exponent : (n h t r k : ℕ) → limits n h t r k ≡ true → (4 ≤ n) × (n ≤ 8)
+unfolding limits
+exponent n h t r k l =
+    let (l7, k1) = both l in
+    let (l6, r1) = both l7 in
+    let (l5, t1) = both l6 in
+    let (l4, h1) = both l5 in
+    let (l3, w2) = both l4 in
+    let (l2, w1) = both l3 in
+    let (n4, n8) = both l2 in
+    (leb-true _ _ n4, leb-true _ _ n8)
+
 -- first and count are 0 together
 both-some : (f k : ℕ) → Bool·beq (eqb f 0) (eqb k 0) ≡ true → 0 < k → 0 < f
 both-some f k e b = go (eqb f 0) refl (eqb k 0) refl
