@@ -3,3 +3,4 @@ pub mod Limits
 pub mod Stepping
 pub mod Chains
 pub mod Good
+pub mod Once
