@@ -4,3 +4,4 @@ pub mod Stepping
 pub mod Chains
 pub mod Good
 pub mod Once
+pub mod Soundings
