@@ -19,6 +19,7 @@ use Rattle.laws.specs.Lists.{at, put}
 use Rattle.rules.specs.Audit.{lastLink}
 use Rattle.rules.specs.Pages.{Run, store}
 use Rattle.laws.proofs.Lists.{apart, length-put, at-put-below, at-put-in, at-put-above}
+pub use Rattle.laws.proofs.Once.{Once, once-none, once-more, Last, only, later, last-in, Linked, stop, goes, linked-same}
 use Rattle.facts.proofs.Steps.{Stands, Steps, here, over, steps-le, steps-then, steps-same, stands-same}
 
 -- ---- a function changed at one place
@@ -41,28 +42,6 @@ module _ {A : Type 0} where
       go : (b : Bool) → eqb x k ≡ b → upd f k a x ≡ f x
       go true q = absurd (ne (eqb-true x k q))
       go false q = rw (q, upd)
-
--- ---- lists
-pub data Once : List ℕ → Type 0 where
-  once-none : Once []
-  once-more : {k : ℕ} {ks : List ℕ} → (List·Memᴰ k ks → ⊥) → Once ks → Once (k ∷ ks)
-
-pub data Last : List ℕ → ℕ → Type 0 where
-  only : {k : ℕ} → Last (k ∷ []) k
-  later : {k l : ℕ} {ks : List ℕ} → Last ks l → Last (k ∷ ks) l
-
-pub last-in : {ks : List ℕ} {k : ℕ} → Last ks k → List·Memᴰ k ks
-last-in only = List·Memᴰ·head refl
-last-in (later t) = List·Memᴰ·tail (last-in t)
-
--- the pages ks follow one another by their links, from x on
-pub data Linked (l : ℕ → ℕ) : ℕ → List ℕ → Type 0 where
-  stop : Linked l 0 []
-  goes : {k : ℕ} {ks : List ℕ} → Linked l (l k) ks → Linked l (suc k) (k ∷ ks)
-
-pub linked-same : {l m : ℕ → ℕ} {x : ℕ} {ks : List ℕ} → ((k : ℕ) → List·Memᴰ k ks → l k ≡ m k) → Linked l x ks → Linked m x ks
-linked-same e stop = stop
-linked-same e (goes {k} t) = goes (rw (e k (List·Memᴰ·head refl)) at (linked-same (λ x p. e x (List·Memᴰ·tail p)) t))
 
 -- ---- pages
 pub data Owner : Type 0 where

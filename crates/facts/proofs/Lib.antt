@@ -4,3 +4,4 @@ pub mod Looked
 pub mod Alike
 pub mod Copied
 pub mod Audited
+pub mod Sound

@@ -2,3 +2,5 @@ pub mod Loops
 pub mod Lists
 pub mod Tests
 pub mod Counting
+pub mod Once
+pub mod Facts

@@ -5,3 +5,4 @@ pub mod Chains
 pub mod Good
 pub mod Once
 pub mod Soundings
+pub mod Whole
