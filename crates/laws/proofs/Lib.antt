@@ -4,3 +4,4 @@ pub mod Tests
 pub mod Counting
 pub mod Once
 pub mod Facts
+pub mod Parts

@@ -29,22 +29,18 @@ fine-by true b e = let z : _≡_ {A = ℕ} 0 1 = cc in absurd (omega arith)
 fine-by false true e = let z : _≡_ {A = ℕ} 0 1 = cc in absurd (omega arith)
 fine-by false false e = (refl, refl)
 
--- `t` is the answer: a refusal is the call's
-pub tests-refuse : {O : Type 0} {t : Tested} {why : Refusal} (refuse : Refusal → O) (s : Store) (rest : O)
-    → t ≡ firstTests (length (s .heap)) (length (s .table)) (length (s .roots)) (length (s .consts)) (s .ctl) → t ≡ Tested.Refused why
-    → admitted refuse s rest ≡ refuse why
-unfolding firstTests
-tests-refuse refuse s rest e q = refused-by refuse rest (not (withinLimits s)) (not (commonTest s)) _ (sym q ∙ e)
+-- h, k, r, l are the four lengths, and `t` is the answer
+module _ (h k r l : ℕ) (c : Control) {t : Tested} (e : t ≡ firstTests h k r l c) where
+  -- a refusal is the call's
+  pub tests-refuse : {O : Type 0} {why : Refusal} (refuse : Refusal → O) (rest : O) → t ≡ Tested.Refused why
+      → refuse why ≡ (not (limits (c .n) h k r l) ⇒ refuse Refusal.Limits ∣ not (common (h / 2 ^ c .n) c) ⇒ refuse (Refusal.Broken 0) ∣ rest)
+  unfolding firstTests
+  tests-refuse {O} {why} refuse rest q = sym (refused-by refuse rest (not (limits (c .n) h k r l)) (not (common (h / 2 ^ c .n) c)) why (sym q ∙ e))
 
--- else the call goes on
-pub tests-pass : {O : Type 0} {t : Tested} (refuse : Refusal → O) (s : Store) (rest : O)
-    → t ≡ firstTests (length (s .heap)) (length (s .table)) (length (s .roots)) (length (s .consts)) (s .ctl) → t ≡ Tested.Fine
-    → admitted refuse s rest ≡ rest
-unfolding firstTests
-tests-pass refuse s rest e q = let f = fine-by (not (withinLimits s)) (not (commonTest s)) (sym q ∙ e) in rw (f .0, f .1)
+  -- else the call goes on
+  pub tests-pass : t ≡ Tested.Fine → (not (limits (c .n) h k r l) ≡ false) × (not (common (h / 2 ^ c .n) c) ≡ false)
+  unfolding firstTests
+  tests-pass q = fine-by (not (limits (c .n) h k r l)) (not (common (h / 2 ^ c .n) c)) (sym q ∙ e)
 
-pub tests-admit : {t : Tested} (h k r l : ℕ) (c : Control) → t ≡ firstTests h k r l c → t ≡ Tested.Fine → Admitted h k r l c
-unfolding firstTests
-tests-admit h k r l c e q =
-    let f = fine-by (not (limits (c .n) h k r l)) (not (common (h / 2 ^ c .n) c)) (sym q ∙ e) in
-    admits h k r l c (not-false _ (f .0)) (not-false _ (f .1))
+  pub tests-admit : t ≡ Tested.Fine → Admitted h k r l c
+  tests-admit q = let f = tests-pass q in admits h k r l c (not-false _ (f .0)) (not-false _ (f .1))

@@ -1,11 +1,23 @@
 // Lengths and the common test, clearing a page, taking a page, a page by its number.
 ghost use mathlib.Core.Path.{_≡_};
 ghost use Prim.Native.Nat.{_+_, _-_, _*_, _/_, _^_, _≤_, _<_};
-ghost use Rattle.rules.specs.Memory.{limits};
-ghost use Rattle.rules.specs.Refusals.{common};
+ghost use Prim.Native.Nat.{ℕ};
+ghost use mathlib.Core.List.{List};
+ghost use lib.ListN.{length, replicate};
+ghost use Rattle.rules.specs.Memory.{limits, lent, pageCount};
+ghost use Rattle.rules.specs.Refusals.{common, Paged};
+ghost use Rattle.rules.specs.Pages.{linkFits, takePage, clearPage};
+ghost use Rattle.rules.specs.Calls.{pageByNumber, pageRefusal};
 ghost use Rattle.pages.specs.First.{firstTests};
+ghost use Rattle.pages.specs.Taking.{PageFree, runOf, takenAs};
 use rules::Control;
+use rules::Page;
+use rules::Plain;
 use rules::Refusal;
+use rules::Region;
+use rules::link_page;
+use rules::page_address;
+use rules::region_origin;
 
 // The words of a page.
 pub fn page_words(n: u32) -> usize
@@ -87,4 +99,127 @@ pub fn first_tests(heap: usize, table: usize, roots: usize, consts: usize, c: Co
         return Tested::Refused(Refusal::Broken(0));
     }
     Tested::Fine
+}
+
+// Each word becomes w.
+pub fn fill(part: &mut [u32], w: u32)
+    ensures { λ _. ⌜ now (part .exit) ≡ replicate (length (now (part .entry))) w ⌝ }
+{
+    let mut i = 0;
+    while i < part.len() {
+        part[i] = w;
+        i += 1;
+    }
+}
+
+// Clears what it is lent.
+pub fn clear(part: &mut [u32])
+    ensures { λ _. ⌜ now (part .exit) ≡ replicate (length (now (part .entry))) 0 ⌝ }
+{
+    fill(part, 0);
+}
+
+// Clears page k: its words, and no others, are lent.
+pub fn clear_page(heap: &mut [u32], k: Page, n: u32)
+    requires { ⌜ (Paged n (length (now heap))) × (k .0 < pageCount n (now heap)) ⌝ }
+    ensures { λ _. ⌜ now (heap .exit) ≡ clearPage n (now (heap .entry)) (k .0) ⌝ }
+{
+    let start = page_address(k, n);
+    let a = start.0;
+    let e = a + page_words(n);
+    clear(&mut heap[a..e]);
+}
+
+// Whether page k, the first of count free pages, has a link that fits: it is at most N, and 0 exactly when the page is the last.
+pub fn link_fits(heap: &[u32], k: Page, n: u32, count: u32) -> bool
+    requires { ⌜ (Paged n (length (now heap))) × (k .0 < pageCount n (now heap)) ⌝ }
+    ensures { λ r. ⌜ r ≡ linkFits n (now (heap .entry)) (k .0) count ⌝ }
+{
+    let start = page_address(k, n);
+    let a = start.0;
+    let link = heap[a];
+    if page_count(heap.len(), n) < link as usize {
+        return false;
+    }
+    (link == 0) == (count == 1)
+}
+
+// A page that was taken, and the free list after that.
+pub struct Taken {
+    pub page: Page,
+    pub first: u32,
+    pub last: u32,
+    pub count: u32,
+}
+
+// The first free page becomes one of region j: link 0, then its origin.
+pub fn take_page(heap: &mut [u32], j: Region, c: Control) -> Taken
+    requires { ⌜ (PageFree (length (now heap)) c) × (j .0 ≤ 64) ⌝ }
+    ensures { λ r. ⌜ ((t : List ℕ) → takenAs r (now (heap .exit)) t ≡ takePage (c .n) (j .0) (runOf (now (heap .entry)) t c)) ⌝ }
+{
+    let k = link_page(c.first);
+    let start = page_address(k, c.n);
+    let a = start.0;
+    let link = heap[a];
+    heap[a] = 0;
+    heap[a + 1] = region_origin(j);
+    if c.count == 1 {
+        return Taken {
+            page: k,
+            first: link,
+            last: 0,
+            count: 0,
+        };
+    }
+    Taken {
+        page: k,
+        first: link,
+        last: c.last,
+        count: c.count - 1,
+    }
+}
+
+// The words of page k, as a part of the heap; an empty part where there is no such page.
+pub fn page_by_number<'a>(
+    heap: &'a [u32],
+    table: &'a [u32],
+    roots: &'a [u32],
+    consts: &'a [u32],
+    c: Control,
+    k: Page,
+) -> &'a [u32]
+    ensures { λ r. ⌜ now r ≡ pageByNumber (lent (now (heap .entry)) (now (table .entry)) (now (roots .entry)) (now (consts .entry)) c) (k .0) ⌝ }
+{
+    let tested = first_tests(heap.len(), table.len(), roots.len(), consts.len(), c);
+    if let Tested::Refused(_) = tested {
+        return &heap[0..0];
+    }
+    if page_count(heap.len(), c.n) <= k.0 {
+        return &heap[0..0];
+    }
+    let start = page_address(k, c.n);
+    let a = start.0;
+    let e = a + page_words(c.n);
+    &heap[a..e]
+}
+
+// Whether a page can be handed back by its number, and why not.
+pub fn page_refusal(
+    heap: &[u32],
+    table: &[u32],
+    roots: &[u32],
+    consts: &[u32],
+    c: Control,
+    k: Page,
+) -> Plain
+    ensures { λ r. ⌜ r ≡ pageRefusal (lent (now (heap .entry)) (now (table .entry)) (now (roots .entry)) (now (consts .entry)) c) (k .0) ⌝ }
+{
+    let tested = first_tests(heap.len(), table.len(), roots.len(), consts.len(), c);
+    if let Tested::Refused(why) = tested {
+        return Plain::Refused(why, c);
+    }
+    if page_count(heap.len(), c.n) <= k.0 {
+        return Plain::Refused(Refusal::NoSuch, c);
+    }
+    Plain::Done(c)
 }

@@ -4,5 +4,6 @@ pub mod Stepping
 pub mod Chains
 pub mod Good
 pub mod Once
+pub mod Pages
 pub mod Soundings
 pub mod Whole

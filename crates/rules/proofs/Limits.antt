@@ -7,7 +7,7 @@ use lib.Dec.{leb, eqb}
 use Rattle.laws.proofs.Tests.{both}
 use native.Mathlib.Omega.{arith}
 use native.Mathlib.Nat.{mul-le-mul-right, div-add-mod', div-lt-iff-lt-mul}
-use lib.Pow.{pow-mono}
+use lib.Pow.{pow-mono, shr-le}
 use Rattle.rules.specs.declared.Control.{Control}
 use Rattle.rules.specs.Memory.{limits}
 use Rattle.rules.specs.Refusals.{common, Paged, Admitted}
@@ -35,6 +35,10 @@ page-inside n h p k q g b =
       high = z .1;
       size = g .size;
     })
+
+-- a page's number is small enough for its address
+pub page-number : (n h k : ℕ) → Paged n h → k < h / 2 ^ n → (k ≤ 65536) × (n ≤ 8)
+page-number n h k g b = (omega (arith, shr-le h n, g .size), g .high)
 
 -- the page of address a lies inside
 pub in-page : (n h p a : ℕ) → p ≡ 2 ^ n → Paged n h → a < h → Inside p (a / p * p) h

@@ -1,0 +1,45 @@
+-- `pages::link_fits` meets its contract: the page lies inside the heap, so that its link can be read, and the tests are those of `linkFits`.
+use borrow.Author.Needs.{needs}
+use mathlib.Core.Path.{refl}
+use native.Mathlib.Omega.{arith}
+use Rattle.rules.specs.Memory.{link}
+use Rattle.rules.specs.Pages.{linkFits}
+use Rattle.laws.proofs.Tests.{tests}
+use Rattle.rules.proofs.Limits.{page-number, page-inside}
+use Rattle.pages.proofs.link_fits.Statement.{statement}
+use Rattle.pages.proofs.link_fits.Tie as tie
+
+page-address-requires : tie.Need-page-address-requires
+page-address-requires c κs = page-number _ _ _ (c .before .pre .0) (c .before .pre .1)
+
+mul-link : tie.Need-mul-link
+mul-link c = let i = page-inside _ _ _ _ refl (c .before .before .pre .0) (c .before .before .pre .1) in omega (arith, c .page-address .ensures)
+
+shared-slice-read-link : tie.Need-shared-slice-read-link
+shared-slice-read-link c = let i = page-inside _ _ _ _ refl (c .before .before .before .pre .0) (c .before .before .before .pre .1) in omega (arith, c .before .page-address .ensures)
+
+page-count-requires : tie.Need-page-count-requires
+page-count-requires c κs = c .before .before .before .pre .0 .high
+
+cast-if1 : tie.Need-cast-if1
+cast-if1 c = omega (arith, c .before .before .before .shared-slice-known .given (c .before .before .page-address .result .0))
+
+returns : tie.Need-returns
+unfolding linkFits link
+returns c = search (← (c .before .before .before .page-address .ensures), ← (c .before .page-count .ensures), tests)
+
+returns-2 : tie.Need-returns-2
+unfolding linkFits link
+returns-2 c = search (← (c .before .before .before .page-address .ensures), ← (c .before .page-count .ensures), tests)
+
+pub link-fits-spec : {M : Type 1} → statement M
+link-fits-spec =
+    tie.close
+    (tie.spec
+    page-address-requires
+    mul-link
+    shared-slice-read-link
+    page-count-requires
+    cast-if1
+    returns
+    returns-2)
