@@ -23,18 +23,21 @@ module _ (n R : ℕ) (h : List ℕ) (a : ℕ) where
       let o : length h ≤ a / 2 ^ n * 2 ^ n + 1 = omega (arith, whole-pages n (length h) g, mul-le-mul-right (2 ^ n) m) in
       rw (goodOn, List·getD-eq-default h 0 o)
 
-  module _ (p : ℕ) (e : p ≡ 2 ^ n) where
-    pub good-none : getD h (a / p * p + 1) 0 < 1 → goodHeap n R h a ≡ false
+  -- over code that has the address of a's page as base, and p for 2 ^ n
+  module _ (base : ℕ) (e : base ≡ a / 2 ^ n * 2 ^ n) where
+    pub good-none : getD h (base + 1) 0 < 1 → goodHeap n R h a ≡ false
     unfolding goodHeap goodOn origin
-    good-none b = rw (← e, goodOn, lt-leb 1 (getD h (a / p * p + 1) 0) b)
+    good-none b = rw (← e, goodOn, lt-leb 1 (getD h (base + 1) 0) b)
 
-    pub good-high : R < getD h (a / p * p + 1) 0 → goodHeap n R h a ≡ false
+    pub good-high : R < getD h (base + 1) 0 → goodHeap n R h a ≡ false
     unfolding goodHeap goodOn origin
-    good-high b = rw (← e, goodOn, lt-leb (getD h (a / p * p + 1) 0) R b, le-leb 1 (getD h (a / p * p + 1) 0) (omega arith))
+    good-high b = rw (← e, goodOn, lt-leb (getD h (base + 1) 0) R b, le-leb 1 (getD h (base + 1) 0) (omega arith))
 
-    pub good-go : 1 ≤ getD h (a / p * p + 1) 0 → getD h (a / p * p + 1) 0 ≤ R → goodHeap n R h a ≡ standsAt a (valsIn h (a / p * p + 2) (a / p * p + p))
+    pub good-go : (p : ℕ) → p ≡ 2 ^ n → 1 ≤ getD h (base + 1) 0 → getD h (base + 1) 0 ≤ R → goodHeap n R h a ≡ standsAt a (valsIn h (base + 2) (base + p))
     unfolding goodHeap goodOn origin
-    good-go b c = rw (← e, goodOn, le-leb 1 (getD h (a / p * p + 1) 0) b, le-leb (getD h (a / p * p + 1) 0) R c) (ap (standsAt a) (ap (λ x. pageVals n h (a / x)) (sym e) ∙ rw (← e) at (page-vals n h (a / p))))
+    good-go p q b c =
+        rw (← e, goodOn, le-leb 1 (getD h (base + 1) 0) b, le-leb (getD h (base + 1) 0) R c)
+        (ap (standsAt a) (rw (e, q) (page-vals n h (a / 2 ^ n))))
 
 pub const-go : (h : List ℕ) (a : ℕ) → goodConst h a ≡ standsAt a (valsIn h 0 (length h))
 unfolding goodConst valsIn

@@ -41,11 +41,11 @@ pub page-number : (n h k : ℕ) → Paged n h → k < h / 2 ^ n → (k ≤ 65536
 page-number n h k g b = (omega (arith, shr-le h n, g .size), g .high)
 
 -- the page of address a lies inside
-pub in-page : (n h p a : ℕ) → p ≡ 2 ^ n → Paged n h → a < h → Inside p (a / p * p) h
-in-page n h p a q g b =
+pub in-page : (n h p base a : ℕ) → p ≡ 2 ^ n → base ≡ a / 2 ^ n * 2 ^ n → Paged n h → a < h → Inside p base h
+in-page n h p base a q e g b =
     let z = page-size n (g .low) (g .high) in
     let d : a / 2 ^ n < h / 2 ^ n = div-lt-iff-lt-mul {k = 2 ^ n} (omega arith) .1 (rw (whole-pages n h g) b) in
-    page-inside n h p (a / p) q g (rw q d)
+    rw (e, q) (page-inside n h (2 ^ n) (a / 2 ^ n) refl g d)
 
 -- ---- the tests of every call, as facts
 
