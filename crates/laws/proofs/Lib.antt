@@ -1,7 +1,6 @@
 pub mod Loops
 pub mod Lists
 pub mod Tests
-pub mod Counting
 pub mod Once
 pub mod Facts
 pub mod Parts
