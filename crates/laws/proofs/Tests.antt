@@ -17,6 +17,17 @@ use Rattle.laws.proofs.Lists.{slice-none}
 -- what turns the tests of a definition into the tests that the code made
 pub ruleset tests = (lt-ltb, le-ltb, le-leb, lt-leb, eq-eqb, ne-eqb)
 
+-- a word x that was read, and what it is: the test of a definition is the test that the code made
+pub is-eqb : (x w y : ℕ) → x ≡ w → x ≡ y → eqb w y ≡ true
+is-eqb x w y e q = eq-eqb w y (sym e ∙ q)
+
+pub not-eqb : (x w y : ℕ) → x ≡ w → (x ≡ y → ⊥) → eqb w y ≡ false
+not-eqb x w y e ne = ne-eqb w y (λ q. ne (e ∙ q))
+
+-- x is not y, and y is w
+pub not-that : (x y w : ℕ) → y ≡ w → (x ≡ y → ⊥) → x ≡ w → ⊥
+not-that x y w e ne q = ne (q ∙ sym e)
+
 pub and-left : (a b : Bool) → (a && b) ≡ true → a ≡ true
 and-left true b e = refl
 and-left false b e = e
@@ -27,6 +38,10 @@ and-right false b e = let z : _≡_ {A = ℕ} 0 1 = cc in absurd (omega arith)
 
 pub both : {a b : Bool} → (a && b) ≡ true → (a ≡ true) × (b ≡ true)
 both {a} {b} e = (and-left a b e, and-right a b e)
+
+pub and-yes : (a : Bool) → (a && true) ≡ a
+and-yes true = refl
+and-yes false = refl
 
 pub and-assoc : (a b c : Bool) → (a && b && c) ≡ (a && (b && c))
 and-assoc true b c = refl
@@ -80,6 +95,12 @@ pub from-end : (p : ℕ → Bool) (m j : ℕ) → m ≤ 0 → allFrom p m j ≡ 
 unfolding allFrom
 from-end p zero j l = refl
 from-end p (suc m) j l = absurd (omega arith)
+
+pub from-pass : (p : ℕ → Bool) (m j : ℕ) → 0 < m → p j ≡ true → allFrom p m j ≡ allFrom p (m - 1) (j + 1)
+from-pass p m j l t = from-go p m j l ∙ rw t
+
+pub from-stop : (p : ℕ → Bool) (m j : ℕ) → 0 < m → p j ≡ false → allFrom p m j ≡ false
+from-stop p m j l t = from-go p m j l ∙ rw t
 
 -- fields, from address f up to address e
 module _ (p : ℕ → Bool) (h : List ℕ) (f e : ℕ) (r : Bool) where

@@ -2,6 +2,7 @@ pub mod Headers
 pub mod Limits
 pub mod Stepping
 pub mod Chains
+pub mod Walks
 pub mod Good
 pub mod Once
 pub mod Pages
