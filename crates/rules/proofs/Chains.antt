@@ -54,9 +54,13 @@ other-page n h k o ws l inside fits ne inside′ =
     let e : length (put h (k * 2 ^ n + o) ws) ≡ length h = length-put h (k * 2 ^ n + o) ws (omega arith) in
     same-page n _ h l (omega arith) e (λ x lo hi. at-other-page n h k o ws l x inside fits ne lo hi)
 
-pub page-part : (n : ℕ) (h : List ℕ) (k : ℕ) → drop 2 (pageWords n h k) ≡ slice (k * 2 ^ n + 2) (k * 2 ^ n + 2 ^ n) h
+-- the words of a page from its word i on
+pub page-from : (i n : ℕ) (h : List ℕ) (k : ℕ) → drop i (pageWords n h k) ≡ slice (k * 2 ^ n + i) (k * 2 ^ n + 2 ^ n) h
 unfolding pageWords
-page-part n h k = ap (drop 2) (sym (drop-take (k * 2 ^ n) (2 ^ n) h)) ∙ drop-drop 2 (k * 2 ^ n) (take (k * 2 ^ n + 2 ^ n) h)
+page-from i n h k = ap (drop i) (sym (drop-take (k * 2 ^ n) (2 ^ n) h)) ∙ drop-drop i (k * 2 ^ n) (take (k * 2 ^ n + 2 ^ n) h)
+
+pub page-part : (n : ℕ) (h : List ℕ) (k : ℕ) → drop 2 (pageWords n h k) ≡ slice (k * 2 ^ n + 2) (k * 2 ^ n + 2 ^ n) h
+page-part = page-from 2
 
 pub page-vals : (n : ℕ) (h : List ℕ) (k : ℕ) → pageVals n h k ≡ valsIn h (k * 2 ^ n + 2) (k * 2 ^ n + 2 ^ n)
 unfolding pageVals valsIn
