@@ -5,6 +5,7 @@ pub mod Chains
 pub mod Walks
 pub mod Good
 pub mod Once
+pub mod Looks
 pub mod Pages
 pub mod Soundings
 pub mod Whole

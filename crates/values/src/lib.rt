@@ -1,4 +1,4 @@
-// Headers, good pointers, whole numbers, and the value that a pointer names.
+// Headers, good pointers, the value that a pointer names, and whole numbers.
 use pages::page_words;
 use rules::Address;
 use rules::Numbered;
@@ -8,11 +8,14 @@ use rules::address_page;
 use rules::page_address;
 use rules::pointer_address;
 ghost use mathlib.Core.Path.{_≡_};
-ghost use Prim.Native.Nat.{_+_, _≤_, _^_};
+ghost use mathlib.Core.Bool.{true};
+ghost use mathlib.Core.List.{[]};
+ghost use Prim.Native.Nat.{_+_, _-_, _≤_, _<_};
 ghost use lib.ListN.{length};
+ghost use Rattle.laws.specs.Lists.{at};
 ghost use Rattle.rules.specs.Calls.{wordOfNumber, numberOfWord};
 ghost use Rattle.rules.specs.Refusals.{Paged};
-ghost use Rattle.rules.specs.Words.{fits as fitsIn, isRecord, valsIn, standsAt, goodHeap, goodConst, goodIn};
+ghost use Rattle.rules.specs.Words.{fits as fitsIn, isRecord, valsIn, standsAt, goodHeap, goodConst, goodIn, valueAt, look as lookOf};
 
 // Whether h is the header of a value that fits into the m words that follow it.
 pub fn fits(h: u32, m: usize) -> bool
@@ -97,6 +100,44 @@ pub fn good_word(heap: &[u32], consts: &[u32], n: u32, regions: u32, w: u32) -> 
         return good_const(consts, pointer_address(w));
     }
     true
+}
+
+// The part of no words.
+pub fn nothing<'a>(memory: &'a [u32]) -> &'a [u32]
+    ensures { λ r. ⌜ now r ≡ [] ⌝ }
+{
+    &memory[0..0]
+}
+
+// The value at address a, which fits: its header and words.
+pub fn value_at<'a>(memory: &'a [u32], a: Address) -> &'a [u32]
+    requires { ⌜ (a .0 < length (now memory)) × (fitsIn (at (now memory) (a .0)) (length (now memory) - (a .0 + 1)) ≡ true) ⌝ }
+    ensures { λ r. ⌜ now r ≡ valueAt (now (memory .entry)) (a .0) ⌝ }
+{
+    let start = a.0;
+    let end = start + 1 + (memory[start] / 8) as usize;
+    &memory[start..end]
+}
+
+// The value that a word points to, in the heap or in the constants; no words where it is no good pointer.
+pub fn look<'a>(heap: &'a [u32], consts: &'a [u32], n: u32, regions: u32, w: u32) -> &'a [u32]
+    requires { ⌜ Paged n (length (now heap)) × (length (now consts) ≤ 65535) ⌝ }
+    ensures { λ r. ⌜ now r ≡ lookOf n regions (now (heap .entry)) (now (consts .entry)) w ⌝ }
+{
+    let a = pointer_address(w);
+    if w % 4 == 0 {
+        if !good_heap(heap, n, regions, a) {
+            return nothing(heap);
+        }
+        return value_at(heap, a);
+    }
+    if w % 4 == 2 {
+        if !good_const(consts, a) {
+            return nothing(consts);
+        }
+        return value_at(consts, a);
+    }
+    nothing(heap)
 }
 
 // A whole number as a word. Below 0 the bits of i turned over are -1 - i, which is counted from 0 again.
