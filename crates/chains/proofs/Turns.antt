@@ -17,7 +17,7 @@ use Rattle.rules.specs.Memory.{lent, statusOf, addressPage, link, origin, first
 use Rattle.rules.specs.Audit.{opens, endsWell, lastLink, rule2}
 use Rattle.rules.specs.Refusals.{Paged}
 use Rattle.rules.proofs.Limits.{pages-few}
-use Rattle.rules.proofs.Walks.{next-chain, next-end, Over, pages-go, pages-over}
+use Rattle.rules.proofs.Nests.{next-chain, next-end, Over, pages-go, pages-over}
 use Rattle.chains.specs.declared.Chained.{Chained}
 use Rattle.chains.specs.declared.Listed.{Listed}
 use Rattle.chains.specs.Walked.{bear, regionChained, regionsChained, freeListed}

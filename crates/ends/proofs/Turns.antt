@@ -15,7 +15,7 @@ use Rattle.rules.specs.declared.Control.{Control}
 use Rattle.rules.specs.Memory.{Store, lent, link, pageEnd, endOf, topOf, firstLink, chain, regionPages, freePages}
 use Rattle.rules.specs.Audit.{ifLast, endsAt, topFits, clean, rule4, rule9}
 use Rattle.rules.proofs.Chains.{page-from}
-use Rattle.rules.proofs.Walks.{Over, pages-go, pages-over}
+use Rattle.rules.proofs.Nests.{Over, pages-go, pages-over}
 
 -- ---- a
 

@@ -3,6 +3,7 @@ pub mod Limits
 pub mod Stepping
 pub mod Chains
 pub mod Walks
+pub mod Nests
 pub mod Good
 pub mod Once
 pub mod Looks

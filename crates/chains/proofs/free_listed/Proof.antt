@@ -11,7 +11,7 @@ use Rattle.laws.proofs.Sums.{sum-done, sum-skip, sum-step}
 use Rattle.rules.specs.Memory.{chain, chainEnd, freePages}
 use Rattle.rules.specs.Audit.{endsWell, lastLink}
 use Rattle.rules.proofs.Limits.{Inside, page-here, pages-few}
-use Rattle.rules.proofs.Walks.{Over, over-fuel, over-none, over-bad}
+use Rattle.rules.proofs.Nests.{Over, over-fuel, over-none, over-bad}
 use Rattle.chains.specs.Walked.{bear}
 use Rattle.chains.proofs.Turns.{lastBy, chained-page, chained-other, chained-ends, chained-hangs, length-page, length-over, last-page, last-over, list-open, list-length, list-last, free-short, all-listed, not-listed}
 use Rattle.chains.proofs.free_listed.Statement.{statement}

@@ -13,7 +13,7 @@ use Rattle.laws.proofs.Tests.{from-end, not-that}
 use Rattle.laws.proofs.Sums.{sum-done, sum-skip, sum-step, sum-open}
 use Rattle.rules.specs.Memory.{chain, chainEnd, pagesFrom}
 use Rattle.rules.proofs.Limits.{Inside, page-here, pages-few}
-use Rattle.rules.proofs.Walks.{Over, over-fuel, over-none, over-bad}
+use Rattle.rules.proofs.Nests.{Over, over-fuel, over-none, over-bad}
 use Rattle.chains.specs.Walked.{bear, regionChained}
 use Rattle.chains.proofs.Turns.{chained-open, chained-shut, chained-page, chained-other, chained-ends, chained-hangs, length-open, length-page, length-over, length-none, pages-short, all-chained, not-chained}
 use Rattle.chains.proofs.regions_chained.Statement.{statement}

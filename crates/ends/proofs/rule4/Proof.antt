@@ -11,7 +11,7 @@ use Rattle.laws.proofs.Tests.{from-end}
 use Rattle.rules.specs.Memory.{chain}
 use Rattle.rules.specs.Audit.{endsAt}
 use Rattle.rules.proofs.Limits.{Inside, page-here, page-size, pages-few}
-use Rattle.rules.proofs.Walks.{Over, over-fuel, over-none, over-bad, pages-over}
+use Rattle.rules.proofs.Nests.{Over, over-fuel, over-none, over-bad, pages-over}
 use Rattle.ends.proofs.Turns.{regionEnds, four-each, four-shut, four-open, four-on, four-at, four-off}
 use Rattle.ends.proofs.rule4.Statement.{statement}
 use Rattle.ends.proofs.rule4.Tie as tie

@@ -9,7 +9,7 @@ use Rattle.laws.specs.Lists.{all}
 use Rattle.rules.specs.Memory.{chain}
 use Rattle.rules.specs.Audit.{clean}
 use Rattle.rules.proofs.Limits.{Inside, page-here, page-size, pages-few}
-use Rattle.rules.proofs.Walks.{over-fuel, over-none, over-bad, pages-over}
+use Rattle.rules.proofs.Nests.{over-fuel, over-none, over-bad, pages-over}
 use Rattle.ends.proofs.Turns.{nine-open, nine-go, nine-stop}
 use Rattle.ends.proofs.rule9.Statement.{statement}
 use Rattle.ends.proofs.rule9.Tie as tie
