@@ -15,7 +15,7 @@ use Rattle.rules.specs.declared.Control.{Control}
 use Rattle.rules.specs.Memory.{Store, lent, link, pageEnd, endOf, topOf, firstLink, chain, regionPages, freePages}
 use Rattle.rules.specs.Audit.{ifLast, endsAt, topFits, clean, rule4, rule9}
 use Rattle.rules.proofs.Chains.{page-from}
-use Rattle.rules.proofs.Nests.{Over, pages-go, pages-over}
+use Rattle.rules.proofs.Nests.{pages-go, last-not, last-is}
 
 -- ---- a
 
@@ -55,20 +55,7 @@ module _ (n N : ℕ) (h t : List ℕ) (e : N ≡ length h / 2 ^ n) (m j : ℕ) (
   unfolding regionEnds regionPages
   four-open l o g = from-go (regionEnds n h t) m j b ∙ rw (o, e, g)
 
--- ---- the last page
-
-module _ (x : ℕ) (test r : Bool) where
-  pub last-not : 0 < x → (ifLast x test && r) ≡ r
-  unfolding ifLast
-  last-not b = go x b
-    where
-      go : (x : ℕ) → 0 < x → (ifLast x test && r) ≡ r
-      go zero b = absurd (omega arith)
-      go (suc x) b = refl
-
-  pub last-is : x ≤ 0 → (ifLast x test && r) ≡ (test && r)
-  unfolding ifLast
-  last-is b = let z : x ≡ 0 = omega arith in rw z
+-- ---- the pages of a region
 
 -- a page of region j, whose e is d; p is its size
 module _ (n N : ℕ) (h t : List ℕ) (e : N ≡ length h / 2 ^ n) (f k j d p : ℕ) (qd : d ≡ endOf t j) (qp : p ≡ 2 ^ n) (r : Bool)

@@ -1,13 +1,15 @@
 -- The turn laws of walks over regions and pages, as the code makes them: it has N for the number of pages and b for a page's address. Each
 -- is stated with what the outer levels still have to test, `&& r`, so that one law serves every nest.
-use Prim.Native.Nat.{ℕ, suc, _+_, _-_, _*_, _/_, _^_, _≤_, _<_}
+use Prim.Native.Nat.{ℕ, zero, suc, _+_, _-_, _*_, _/_, _^_, _≤_, _<_}
 use mathlib.Core.Path.{_≡_, refl, sym, ap, _∙_}
 use mathlib.Core.Bool.{Bool, true, false, _&&_}
 use mathlib.Core.List.{List, [], _∷_}
+use native.Mathlib.Omega.{arith}
 use lib.ListN.{length, getD}
 use Rattle.laws.specs.Lists.{all, allFrom}
 use Rattle.laws.proofs.Tests.{all-turn, from-go}
 use Rattle.rules.specs.Memory.{chain, chainEnd, firstLink, regionPages}
+use Rattle.rules.specs.Audit.{ifLast}
 use Rattle.rules.proofs.Chains.{chain-go, chain-none, chain-bad, chain-out, end-go, end-none, end-bad, end-out}
 
 -- at the link k, with fuel f
@@ -48,3 +50,18 @@ pub regions-go : (q : ℕ → ℕ → Bool) (n N : ℕ) (h t : List ℕ) (m j l 
     → allFrom (λ j. all (q j) (regionPages n h t j)) m j ≡ (all (q j) (chain N n h l) && allFrom (λ j. all (q j) (regionPages n h t j)) (m - 1) (j + 1))
 unfolding regionPages
 regions-go q n N h t m j l e g b = rw (e, g) (from-go (λ j. all (q j) (regionPages n h t j)) m j b)
+
+-- the last page of a chain: there the test decides
+
+module _ (x : ℕ) (test r : Bool) where
+  pub last-not : 0 < x → (ifLast x test && r) ≡ r
+  unfolding ifLast
+  last-not b = go x b
+    where
+      go : (x : ℕ) → 0 < x → (ifLast x test && r) ≡ r
+      go zero b = absurd (omega arith)
+      go (suc x) b = refl
+
+  pub last-is : x ≤ 0 → (ifLast x test && r) ≡ (test && r)
+  unfolding ifLast
+  last-is b = let z : x ≡ 0 = omega arith in rw z
