@@ -1,20 +1,19 @@
 -- What the audit's yes means: the rules of document 01 as facts about words. `Sound` is the record of them; that it and the audit's tests
 -- say the same is proved beside it.
-use Prim.Native.Nat.{ℕ, zero, suc, _+_, _*_, _/_, _^_, _≤_, _<_}
-use mathlib.Core.Path.{_≡_}
-use mathlib.Core.Logic.{_↔_}
-use mathlib.Core.Bool.{Bool, true, false}
-use mathlib.Core.List.{List, [], _∷_, List·Memᴰ}
+use Prim.Native.Nat.{ℕ, zero, suc, _+_, _*_, _^_, _≤_, _<_}
+use native.Mathlib.Omega.{arith}
+use mathlib.Core.Path.{_≡_, sym, _∙_}
+use mathlib.Core.Bool.{true}
+use mathlib.Core.List.{List, List·Memᴰ}
 use lib.ListN.{length}
 use Rattle.laws.specs.Lists.{at}
-use Rattle.rules.specs.declared.Control.{Control}
-use Rattle.rules.specs.Memory.{Store, pageCount, statusOf}
-use Rattle.rules.specs.Words.{Word, number, inHeap, inConst, wordOf, isRecord}
+use Rattle.rules.specs.Memory.{Store, pageCount, endOf, topOf, statusOf}
+use Rattle.rules.specs.Words.{number, inHeap, inConst, wordOf, isRecord}
 use Rattle.rules.specs.Pages.{begun}
 use Rattle.rules.specs.Audit.{brokenRule}
 use Rattle.rules.specs.Refusals.{Paged, withinLimits, commonTest}
-use Rattle.facts.proofs.Steps.{Stands, Steps}
-use Rattle.facts.proofs.Laid.{Owner, spare, mine, Layout}
+use Rattle.facts.proofs.Steps.{Stands, Steps, steps-le}
+use Rattle.facts.proofs.Laid.{mine-inj, spare≢mine, Owner, spare, mine, last-in, Layout}
 
 -- ---- Lengths and n within their limits.
 
@@ -111,6 +110,23 @@ pub record Passes (s : Store) : Type 0 where
   pub common : commonTest s ≡ true
   pub unbroken : brokenRule s ≡ 0
 
--- what it means
-abbrev pub Meaning : Type 0
-Meaning = (s : Store) → Passes s ↔ Sound s
+-- ---- The same in other words.
+
+module _ (s : Store) (S : Sound s) where
+  -- no page is in two chains
+  pub one-region : (i j k : ℕ) → i < s .ctl .regions → j < s .ctl .regions → List·Memᴰ k (S .pages i) → List·Memᴰ k (S .pages j) → i ≡ j
+  one-region i j k a b p q = mine-inj (sym (S .laid .mine-own i k a p) ∙ S .laid .mine-own j k b q)
+
+  pub region-or-free : (j k : ℕ) → j < s .ctl .regions → List·Memᴰ k (S .pages j) → List·Memᴰ k (S .free) → ⊥
+  region-or-free j k b p q = spare≢mine (S .laid .free-own k q) (S .laid .mine-own j k b p)
+
+  -- "a lies from e-P+2 to e"
+  pub top-lies : (j : ℕ) → j < s .ctl .regions → (endOf (s .table) j + 2 ≤ topOf (s .table) j + 2 ^ s .ctl .n) × (topOf (s .table) j ≤ endOf (s .table) j)
+  top-lies j b =
+      let t = S .laid .mine-top j b in
+      let x = S .laid .mine-body j (t .0) (S .laid .mine-own j (t .0) b (last-in (t .1))) in
+      let lo = steps-le (x .filled) in
+      let hi = x .inside in
+      let e = t .2 in
+      let a = t .3 in
+      omega arith

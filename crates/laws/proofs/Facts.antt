@@ -2,12 +2,12 @@
 use Prim.Native.Nat.{ℕ, zero, suc, _+_, _≤_, _<_, zero-le, suc-le-suc}
 use native.Mathlib.Omega.{arith}
 use native.Mathlib.Nat.{le-refl}
-use mathlib.Core.Path.{_≡_, refl, sym, ap, _∙_}
+use mathlib.Core.Path.{_≡_, refl, sym, _∙_}
 use mathlib.Core.Bool.{Bool, true, false, _&&_, false≢true, true≢false}
 use mathlib.Core.List.{List, [], _∷_, List·Memᴰ, List·Memᴰ·head, List·Memᴰ·tail}
 use lib.ListN.{length}
 use lib.Dec.{eqb}
-use borrow.Author.Tests.{eqb-true, eqb-false, eq-eqb}
+use borrow.Author.Tests.{eqb-true, eq-eqb}
 use Rattle.laws.specs.Lists.{at, all, allFrom, allBelow, zeros}
 
 pub and-of : {a b : Bool} → a ≡ true → b ≡ true → (a && b) ≡ true
@@ -32,6 +32,29 @@ module _ {A : Type 0} (p : A → Bool) where
   unfolding all
   all-of [] f = refl
   all-of (x ∷ xs) f = rw (f x (List·Memᴰ·head refl), all) (all-of xs (λ y m. f y (List·Memᴰ·tail m)))
+
+  pub all-cons : (x : A) (xs : List A) → all p (x ∷ xs) ≡ true → (p x ≡ true) × (all p xs ≡ true)
+  unfolding all
+  all-cons x xs t = go (p x) refl
+    where
+      go : (b : Bool) → p x ≡ b → (p x ≡ true) × (all p xs ≡ true)
+      go true e = (e, rw (all, e) at t)
+      go false e = let z : false ≡ true = rw (all, e) at t in absurd (false≢true z)
+
+  pub cons-all : (x : A) (xs : List A) → p x ≡ true → all p xs ≡ true → all p (x ∷ xs) ≡ true
+  unfolding all
+  cons-all x xs e t = rw (all, e) t
+
+-- the same by places
+pub all-at : (p : ℕ → Bool) (xs : List ℕ) → all p xs ≡ true → (i : ℕ) → i < length xs → p (at xs i) ≡ true
+all-at p [] t i b = absurd (omega arith)
+all-at p (x ∷ xs) t zero b = all-cons p x xs t .0
+all-at p (x ∷ xs) t (suc i) b = all-at p xs (all-cons p x xs t .1) i (omega arith)
+
+pub at-all : (p : ℕ → Bool) (xs : List ℕ) → ((i : ℕ) → i < length xs → p (at xs i) ≡ true) → all p xs ≡ true
+unfolding all
+at-all p [] f = refl
+at-all p (x ∷ xs) f = cons-all p x xs (f 0 (suc-le-suc zero-le)) (at-all p xs (λ i b. f (suc i) (suc-le-suc b)))
 
 pub from-of : (p : ℕ → Bool) (m j : ℕ) → ((i : ℕ) → j ≤ i → i < j + m → p i ≡ true) → allFrom p m j ≡ true
 unfolding allFrom

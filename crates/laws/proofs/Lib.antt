@@ -1,7 +1,10 @@
 pub mod Loops
 pub mod Lists
 pub mod Tests
+pub mod Tallies
 pub mod Sums
 pub mod Once
 pub mod Facts
 pub mod Parts
+pub mod Each
+pub mod Copies

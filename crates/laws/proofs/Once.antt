@@ -6,7 +6,7 @@ use native.Mathlib.Nat.{le-refl}
 use native.Mathlib.Decide.{ℕ-discrete}
 use mathlib.Core.Path.{_≡_, refl, sym, ap, _∙_}
 use mathlib.Core.Logic.{_≢_, _⊎_, inl, inr}
-use mathlib.Core.Bool.{Bool, true, false}
+use mathlib.Core.Bool.{true, false}
 use mathlib.Core.List.{List, [], _∷_, _++_, List·Memᴰ, List·Memᴰ·head, List·Memᴰ·tail, List·Memᴰ·cases-cons, List·Memᴰ·not-nil, List·Memᴰ·append-cases}
 use lib.ListN.{length}
 use lib.Dec.{eqb}
@@ -18,6 +18,12 @@ use Rattle.laws.proofs.Facts.{below-of, same-test}
 pub data Once : List ℕ → Type 0 where
   once-none : Once []
   once-more : {k : ℕ} {ks : List ℕ} → (List·Memᴰ k ks → ⊥) → Once ks → Once (k ∷ ks)
+
+pub once-tail : {k : ℕ} {ks : List ℕ} → Once (k ∷ ks) → Once ks
+once-tail (once-more f o) = o
+
+pub once-head : {k : ℕ} {ks : List ℕ} → Once (k ∷ ks) → List·Memᴰ k ks → ⊥
+once-head (once-more f o) = f
 
 pub data Last : List ℕ → ℕ → Type 0 where
   only : {k : ℕ} → Last (k ∷ []) k
@@ -67,6 +73,70 @@ linked-once (goes t) =
 pub linked-last : {l : ℕ → ℕ} {x k : ℕ} {ks : List ℕ} → Linked l x ks → Last ks k → l k ≡ 0
 linked-last (goes t) only = linked-none t
 linked-last (goes t) (later u) = linked-last t u
+
+-- and a number whose link is 0 is the last
+pub linked-ends : {l : ℕ → ℕ} {x k : ℕ} {ks : List ℕ} → Linked l x ks → List·Memᴰ k ks → l k ≡ 0 → Last ks k
+linked-ends (goes {k} t) (List·Memᴰ·head e) q = head-last (rw (← e) at t) q (sym e)
+  where
+    head-last : {l : ℕ → ℕ} {k j : ℕ} {ks : List ℕ} → Linked l (l k) ks → l k ≡ 0 → j ≡ k → Last (j ∷ ks) k
+    head-last {ks = []} t q e = rw e only
+    head-last {ks = y ∷ ys} t q e = let z = linked-first t .0 in absurd (omega arith)
+linked-ends (goes t) (List·Memᴰ·tail m) q = later (linked-ends t m q)
+
+no-last : {A : Type 0} {l : ℕ} → Last [] l → A
+no-last u = elim u [ ]
+
+pub last-one : {ks : List ℕ} {a b : ℕ} → Last ks a → Last ks b → a ≡ b
+last-one only only = refl
+last-one only (later v) = no-last v
+last-one (later u) only = no-last u
+last-one (later u) (later v) = last-one u v
+
+-- a chain that is not empty has a last number
+last-of : (k : ℕ) (ks : List ℕ) → (z : ℕ) × Last (k ∷ ks) z
+last-of k [] = (k, only)
+last-of k (y ∷ ys) = let r = last-of y ys in (r .0, later (r .1))
+
+pub has-last : {l : ℕ → ℕ} {k : ℕ} {ks : List ℕ} → Linked l (suc k) ks → (z : ℕ) × Last ks z
+has-last (goes {k} {ks} t) = last-of k ks
+
+-- ---- one number more, behind the last
+
+pub linked-snoc : {l m : ℕ → ℕ} {x z k : ℕ} {ks : List ℕ} → Linked l x ks → Last ks z → Once ks → m z ≡ suc k → m k ≡ 0
+    → ((y : ℕ) → List·Memᴰ y ks → y ≢ z → l y ≡ m y) → Linked m x (ks ++ k ∷ [])
+linked-snoc {m = m} {k = k} (goes {k = z} t) only o e e′ same =
+    let t₀ : Linked m (m k) [] = rw e′ stop in
+    let t₁ : Linked m (suc k) (k ∷ []) = goes t₀ in
+    let t₂ : Linked m (m z) (k ∷ []) = rw e t₁ in
+    goes t₂
+linked-snoc {m = m} {z = z} (goes {k = y} t) (later u) (once-more f o) e e′ same =
+    let rest = linked-snoc t u o e e′ (λ w p ne. same w (List·Memᴰ·tail p) ne) in
+    goes (rw (same y (List·Memᴰ·head refl) (λ q. f (rw (← q) at (last-in u)))) at rest)
+
+pub last-snoc : {k : ℕ} (ks : List ℕ) → Last (ks ++ k ∷ []) k
+last-snoc [] = only
+last-snoc (y ∷ ys) = later (last-snoc ys)
+
+pub last-is : {k l : ℕ} (ks : List ℕ) → Last (ks ++ k ∷ []) l → l ≡ k
+last-is ks u = last-one u (last-snoc ks)
+
+pub in-snoc : {k y : ℕ} (ks : List ℕ) → List·Memᴰ y (ks ++ k ∷ []) → List·Memᴰ y ks ⊎ (y ≡ k)
+in-snoc [] (List·Memᴰ·head e) = inr e
+in-snoc [] (List·Memᴰ·tail m) = absurd (List·Memᴰ·not-nil m)
+in-snoc (x ∷ xs) (List·Memᴰ·head e) = inl (List·Memᴰ·head e)
+in-snoc {k} {y} (x ∷ xs) (List·Memᴰ·tail m) = go (in-snoc xs m)
+  where
+    go : List·Memᴰ y xs ⊎ (y ≡ k) → List·Memᴰ y (x ∷ xs) ⊎ (y ≡ k)
+    go (inl p) = inl (List·Memᴰ·tail p)
+    go (inr e) = inr e
+
+pub once-snoc : {k : ℕ} {ks : List ℕ} → Once ks → (List·Memᴰ k ks → ⊥) → Once (ks ++ k ∷ [])
+once-snoc once-none f = once-more (λ m. List·Memᴰ·not-nil m) once-none
+once-snoc {k} (once-more {k = y} {ks} g o) f = once-more (λ m. go (in-snoc ks m)) (once-snoc o (λ m. f (List·Memᴰ·tail m)))
+  where
+    go : List·Memᴰ y ks ⊎ (y ≡ k) → ⊥
+    go (inl p) = g p
+    go (inr e) = f (List·Memᴰ·head (sym e))
 
 -- ---- numbers that stand once, and how often a number stands in a list
 
@@ -257,3 +327,40 @@ once-by-count n {xs} small o =
     same-test _ _
     (λ t. eq-eqb (length xs) n (full-length n small o (each-once n small t .1)))
     (λ t. once-each n o (once-full n small o (eqb-true (length xs) n t)))
+
+-- ---- the numbers from k on
+
+unfoldable pub counting : ℕ → ℕ → List ℕ
+counting zero k = []
+counting (suc m) k = k ∷ counting m (suc k)
+
+pub counting-length : (m k : ℕ) → length (counting m k) ≡ m
+unfolding counting
+counting-length zero k = refl
+counting-length (suc m) k = ap suc (counting-length m (suc k))
+
+pub in-counting : (m k i : ℕ) → List·Memᴰ i (counting m k) → (k ≤ i) × (i < k + m)
+unfolding counting
+in-counting zero k i m = absurd (List·Memᴰ·not-nil m)
+in-counting (suc c) k i m = go (List·Memᴰ·cases-cons m) (λ q. in-counting c (suc k) i q)
+  where
+    go : (i ≡ k) ⊎ List·Memᴰ i (counting c (suc k)) → (List·Memᴰ i (counting c (suc k)) → (suc k ≤ i) × (i < suc k + c)) → (k ≤ i) × (i < k + suc c)
+    go (inl e) rest = (omega arith, omega arith)
+    go (inr q) rest = let t = rest q in let a = t .0 in let b = t .1 in (omega arith, omega arith)
+
+pub counting-in : (m k i : ℕ) → k ≤ i → i < k + m → List·Memᴰ i (counting m k)
+unfolding counting
+counting-in zero k i a b = absurd (omega arith)
+counting-in (suc m) k i a b = go (ℕ-discrete i k) (λ p q. counting-in m (suc k) i p q)
+  where
+    go : Dec (i ≡ k) → (suc k ≤ i → i < suc k + m → List·Memᴰ i (counting m (suc k))) → List·Memᴰ i (k ∷ counting m (suc k))
+    go (yes e) rest = List·Memᴰ·head e
+    go (no ne) rest = List·Memᴰ·tail (rest (omega arith) (omega arith))
+
+pub counting-linked : (l : ℕ → ℕ) (N : ℕ) → ((i : ℕ) → suc i < N → l i ≡ suc (suc i)) → ((i : ℕ) → suc i ≡ N → l i ≡ 0) → (m k : ℕ) → k + suc m ≡ N → Linked l (suc k) (counting (suc m) k)
+unfolding counting
+counting-linked l N next last zero k e = let t : Linked l (l k) [] = rw (last k (omega arith)) stop in goes t
+counting-linked l N next last (suc m) k e =
+    let r = counting-linked l N next last m (suc k) (omega arith) in
+    let t : Linked l (l k) (counting (suc m) (suc k)) = rw (next k (omega arith)) r in
+    goes t

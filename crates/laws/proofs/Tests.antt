@@ -5,10 +5,10 @@ use native.Mathlib.Omega.{arith}
 use native.Mathlib.Decide.{ℕ-discrete}
 use mathlib.Core.Path.{_≡_, refl, sym, ap, _∙_}
 use mathlib.Core.Logic.{_⊎_, inl, inr}
-use mathlib.Core.Bool.{Bool, true, false, _&&_}
+use mathlib.Core.Bool.{Bool, true, false, _&&_, and-true}
 use mathlib.Core.List.{List, [], _∷_, List·Memᴰ, List·Memᴰ·cases-cons}
 use lib.ListN.{length, getD}
-use lib.Seq.{slice, slice-cons}
+use lib.Seq.{slice, slice-cons, take-length}
 use lib.Dec.{leb, ltb, eqb}
 use borrow.Author.Tests.{lt-ltb, le-ltb, le-leb, lt-leb, eq-eqb, ne-eqb}
 use Rattle.laws.specs.Lists.{all, allFrom, allBelow, zeros}
@@ -113,6 +113,10 @@ module _ (p : ℕ → Bool) (h : List ℕ) (f e : ℕ) (r : Bool) where
 
   pub fields-stop : f < e → e ≤ length h → p (getD h f 0) ≡ false → (all p (slice f e h) && r) ≡ false
   fields-stop b c t = rw (slice-cons f e h 0 b c, all-turn p, t)
+
+-- all of a list's words
+pub fields-all : (p : ℕ → Bool) (h : List ℕ) → (all p (slice 0 (length h) h) && true) ≡ all p h
+fields-all p h = rw (take-length h, and-true)
 
 -- zeros, from address z up to address e
 module _ (h : List ℕ) (z e : ℕ) (r : Bool) where

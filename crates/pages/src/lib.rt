@@ -4,12 +4,13 @@ ghost use Prim.Native.Nat.{_+_, _-_, _*_, _/_, _^_, _≤_, _<_};
 ghost use Prim.Native.Nat.{ℕ};
 ghost use mathlib.Core.List.{List};
 ghost use lib.ListN.{length, replicate};
-ghost use Rattle.rules.specs.Memory.{limits, lent, pageCount};
+ghost use Rattle.rules.specs.Memory.{limits, lent, pageCount, bodyAddress, pageEnd};
 ghost use Rattle.rules.specs.Refusals.{common, Paged};
 ghost use Rattle.rules.specs.Pages.{linkFits, takePage, clearPage};
 ghost use Rattle.rules.specs.Calls.{pageByNumber, pageRefusal};
 ghost use Rattle.pages.specs.First.{firstTests};
 ghost use Rattle.pages.specs.Taking.{PageFree, runOf, takenAs};
+use rules::Address;
 use rules::Control;
 use rules::Page;
 use rules::Plain;
@@ -99,6 +100,24 @@ pub fn first_tests(heap: usize, table: usize, roots: usize, consts: usize, c: Co
         return Tested::Refused(Refusal::Broken(0));
     }
     Tested::Fine
+}
+
+// The address just past a page.
+pub fn page_end(k: Page, n: u32) -> Address
+    requires { ⌜ (k .0 ≤ 65536) × (4 ≤ n) × (n ≤ 8) ⌝ }
+    ensures { λ r. ⌜ r .0 ≡ pageEnd n (k .0) ⌝ }
+{
+    let start = page_address(k, n);
+    Address(start.0 + page_words(n))
+}
+
+// The address of a page's third word.
+pub fn body_address(k: Page, n: u32) -> Address
+    requires { ⌜ (k .0 ≤ 65536) × (n ≤ 8) ⌝ }
+    ensures { λ r. ⌜ r .0 ≡ bodyAddress n (k .0) ⌝ }
+{
+    let start = page_address(k, n);
+    Address(start.0 + 2)
 }
 
 // Each word becomes w.

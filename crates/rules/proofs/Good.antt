@@ -1,7 +1,7 @@
 -- The turn laws of good pointers: each way in which the code decides is what the definition decides.
 use Prim.Native.Nat.{ℕ, zero, suc, _+_, _-_, _*_, _/_, _%_, _^_, _≤_, _<_}
-use mathlib.Core.Path.{_≡_, refl, sym, ap, _∙_}
-use mathlib.Core.Bool.{Bool, true, false}
+use mathlib.Core.Path.{_≡_, refl, ap}
+use mathlib.Core.Bool.{true, false}
 use mathlib.Core.List.{List}
 use native.Mathlib.Omega.{arith}
 use native.Mathlib.Nat.{mul-le-mul-right, le-div-iff-mul-le}
@@ -10,7 +10,7 @@ use lib.ListN.{length, getD, List·getD-eq-default}
 use lib.Seq.{take-length}
 use Rattle.rules.specs.Memory.{origin}
 use Rattle.rules.specs.Refusals.{Paged}
-use Rattle.rules.specs.Words.{wordOf, pageVals, valsIn, standsAt, goodOn, goodHeap, goodConst, goodIn}
+use Rattle.rules.specs.Words.{wordOf, valsIn, standsAt, goodOn, goodHeap, goodConst, goodIn}
 use Rattle.rules.proofs.Chains.{page-vals}
 use Rattle.rules.proofs.Limits.{page-size, whole-pages}
 
@@ -28,7 +28,7 @@ module _ (n R : ℕ) (h : List ℕ) (a : ℕ) where
   unfolding goodHeap goodOn
   good-out g b = rw (goodOn, origin-out n h a g b)
 
-  -- over code that has the address of a's page as base, and p for 2 ^ n
+  -- over code that has the address of a's page as base
   module _ (base : ℕ) (e : base ≡ a / 2 ^ n * 2 ^ n) where
     pub good-none : getD h (base + 1) 0 < 1 → goodHeap n R h a ≡ false
     unfolding goodHeap goodOn origin
@@ -38,11 +38,12 @@ module _ (n R : ℕ) (h : List ℕ) (a : ℕ) where
     unfolding goodHeap goodOn origin
     good-high b = rw (← e, goodOn, lt-leb (getD h (base + 1) 0) R b, le-leb 1 (getD h (base + 1) 0) (omega arith))
 
-    pub good-go : (p : ℕ) → p ≡ 2 ^ n → 1 ≤ getD h (base + 1) 0 → getD h (base + 1) 0 ≤ R → goodHeap n R h a ≡ standsAt a (valsIn h (base + 2) (base + p))
+    pub good-go : (start end : ℕ) → start ≡ base + 2 → end ≡ base + 2 ^ n → 1 ≤ getD h (base + 1) 0 → getD h (base + 1) 0 ≤ R
+        → goodHeap n R h a ≡ standsAt a (valsIn h start end)
     unfolding goodHeap goodOn origin
-    good-go p q b c =
+    good-go start end p q b c =
         rw (← e, goodOn, le-leb 1 (getD h (base + 1) 0) b, le-leb (getD h (base + 1) 0) R c)
-        (ap (standsAt a) (rw (e, q) (page-vals n h (a / 2 ^ n))))
+        (ap (standsAt a) (rw (p, q, e) (page-vals n h (a / 2 ^ n))))
 
 pub const-go : (h : List ℕ) (a : ℕ) → goodConst h a ≡ standsAt a (valsIn h 0 (length h))
 unfolding goodConst valsIn

@@ -2,11 +2,14 @@ pub mod Headers
 pub mod Limits
 pub mod Stepping
 pub mod Chains
+pub mod Good
+pub mod Looks
 pub mod Walks
 pub mod Nests
-pub mod Good
 pub mod Once
-pub mod Looks
 pub mod Pages
-pub mod Soundings
 pub mod Whole
+pub mod Soundings
+pub mod Fresh
+pub mod Rows
+pub mod Pointers

@@ -1,18 +1,17 @@
 -- What a good pointer names: the value lies inside its memory, since the stepping that lands on it tests that; and the turn laws of `look`.
-use Prim.Native.Nat.{ℕ, zero, suc, _+_, _-_, _*_, _/_, _%_, _^_, _≤_, _<_}
+use Prim.Native.Nat.{ℕ, zero, suc, _+_, _-_, _*_, _/_, _%_, _^_, _<_}
 use mathlib.Core.Path.{_≡_, refl, sym, ap, _∙_}
 use mathlib.Core.Bool.{Bool, true, false}
 use mathlib.Core.List.{List, [], _∷_}
 use native.Mathlib.Omega.{arith}
 use native.Mathlib.Decide.{decLe}
 use lib.Dec.{leb}
-use lib.ListN.{length, take, drop, getD}
+use lib.ListN.{length, take, drop}
 use Rattle.laws.specs.Lists.{at}
-use Rattle.laws.specs.Choice.{_⇒_∣_}
 use Rattle.rules.specs.Calls.{isThere}
 use Rattle.rules.specs.Memory.{origin}
 use Rattle.rules.specs.Refusals.{Paged}
-use Rattle.rules.specs.Words.{Word, number, inHeap, inConst, wordOf, headOf, wordsBy, fits, valsIn, pageVals, standsAt, goodOn, goodHeap, goodConst, valueAt, look}
+use Rattle.rules.specs.Words.{number, inHeap, inConst, wordOf, fits, pageVals, standsAt, goodOn, goodHeap, goodConst, valueAt, look}
 use Rattle.rules.proofs.Chains.{page-vals}
 use Rattle.rules.proofs.Good.{good-out, const-go}
 use Rattle.rules.proofs.Headers.{fits-more, fits-words}

@@ -1,19 +1,19 @@
 -- The turn laws of a walk: each way in which one step, or the end of a path, is decided. They hold because `walkFrom` is one recursion on
 -- the path, and tests what the code tests.
-use Prim.Native.Nat.{ℕ, zero, suc, _+_, _-_, _/_, _%_, _≤_, _<_}
-use mathlib.Core.Path.{_≡_, refl, sym, ap, _∙_}
+use Prim.Native.Nat.{ℕ, _+_, _-_, _/_, _%_, _≤_, _<_}
+use mathlib.Core.Path.{_≡_, refl, ap}
 use mathlib.Core.Bool.{true, false}
 use mathlib.Core.List.{List, [], _∷_}
 use native.Mathlib.Omega.{arith}
 use native.Mathlib.Decide.{ℕ-discrete}
 use native.Mathlib.Numerals.{add-one}
 use borrow.Author.Tests.{le-leb, lt-leb}
-use lib.ListN.{length, take, drop, length-drop}
+use lib.ListN.{length, take, drop}
 use lib.Seq.{take-all}
 use Rattle.laws.specs.Lists.{at}
 use Rattle.rules.specs.declared.Refusal.{Refusal}
 use Rattle.rules.specs.Words.{wordOf, isRecord}
-use Rattle.rules.specs.Calls.{Walked, ends, stops, isNumber, stepInto, walkFrom}
+use Rattle.rules.specs.Calls.{ends, stops, isNumber, stepInto, walkFrom}
 use Rattle.rules.proofs.Looks.{word-is-number, word-is-const, word-is-heap, there-none, there-some}
 
 number-odd : (w : ℕ) → w % 2 ≡ 1 → isNumber (wordOf w) ≡ true

@@ -1,21 +1,20 @@
 -- Chains as lists: their pages are pages of the heap, one that ends with link 0 is linked by its pages' links, and the other way round; so
 -- chains that end, whose pages bear their own origin and whose lengths add up to N, hold each page once, and rule 3 can count.
-use Prim.Native.Nat.{ℕ, zero, suc, _+_, _≤_, _<_, zero-le, suc-le-suc}
+use Prim.Native.Nat.{ℕ, zero, suc, _+_, _≤_, _<_}
 use native.Mathlib.Omega.{arith}
 use native.Mathlib.Nat.{le-refl}
 use native.Mathlib.Decide.{ℕ-discrete}
 use mathlib.Core.Path.{_≡_, refl, sym, ap, _∙_}
-use mathlib.Core.Logic.{_≢_, _⊎_, inl, inr}
+use mathlib.Core.Logic.{_⊎_, inl, inr}
 use mathlib.Core.Bool.{Bool, true, false, _&&_}
 use mathlib.Core.List.{List, [], _∷_, _++_, List·Memᴰ, List·Memᴰ·head, List·Memᴰ·tail, List·Memᴰ·cases-cons, List·Memᴰ·not-nil, List·Memᴰ·append-cases, Memᴰ·append-left, Memᴰ·append-right}
 use lib.ListN.{length}
 use lib.Dec.{ltb, eqb}
-use borrow.Author.Tests.{ltb-true, ltb-false, lt-ltb, eqb-true}
+use borrow.Author.Tests.{ltb-true, lt-ltb, eqb-true}
 use Rattle.laws.specs.Lists.{all, allBelow, times}
 use Rattle.laws.proofs.Tests.{both, all-in, below-in}
 use Rattle.laws.proofs.Facts.{and-of, same-test}
-use Rattle.laws.proofs.Once.{Once, once-none, Linked, stop, goes, linked-first, linked-none, linked-once, once-append, once-by-count}
-use Rattle.rules.specs.declared.Control.{Control}
+use Rattle.laws.proofs.Once.{Once, once-none, Linked, stop, goes, linked-once, once-append, once-by-count}
 use Rattle.rules.specs.Memory.{Store, pageCount, link, origin, chain, chainEnd, firstLink, regionPages, freePages, pagesFrom, regionOrigin}
 use Rattle.rules.specs.Audit.{endsWell, eachPage, allChains, opens, lastLink, rule3}
 

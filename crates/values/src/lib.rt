@@ -1,5 +1,6 @@
 // Headers, good pointers, the value that a pointer names, and whole numbers.
-use pages::page_words;
+use pages::body_address;
+use pages::page_end;
 use rules::Address;
 use rules::Numbered;
 use rules::Refusal;
@@ -67,17 +68,18 @@ pub fn good_heap(heap: &[u32], n: u32, regions: u32, a: Address) -> bool
         return false;
     }
     let page = address_page(a, n);
-    let base = page_address(page, n).0;
-    let origin = heap[base + 1];
+    let base = page_address(page, n);
+    let at = base.0;
+    let origin = heap[at + 1];
     if origin < 1 {
         return false;
     }
     if regions < origin {
         return false;
     }
-    let start = base + 2;
-    let end = base + page_words(n);
-    stands(heap, Address(start), Address(end), a)
+    let start = body_address(page, n);
+    let end = page_end(page, n);
+    stands(heap, start, end, a)
 }
 
 // Whether a pointer to constant address a is good.

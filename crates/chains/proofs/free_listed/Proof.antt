@@ -7,7 +7,7 @@ use Prim.Native.Nat.{_+_, _-_, _^_, _<_, _≤_}
 use native.Mathlib.Omega.{arith}
 use lib.Dec.{eqb}
 use lib.ListN.{length}
-use Rattle.laws.proofs.Sums.{sum-done, sum-skip, sum-step}
+use Rattle.laws.proofs.Tallies.{sum-done, sum-skip, sum-step}
 use Rattle.rules.specs.Memory.{chain, chainEnd, freePages}
 use Rattle.rules.specs.Audit.{endsWell, lastLink}
 use Rattle.rules.proofs.Limits.{Inside, page-here, pages-few}

@@ -10,7 +10,7 @@ use lib.Dec.{eqb}
 use lib.ListN.{length}
 use Rattle.laws.specs.Lists.{allFrom}
 use Rattle.laws.proofs.Tests.{from-end, not-that}
-use Rattle.laws.proofs.Sums.{sum-done, sum-skip, sum-step, sum-open}
+use Rattle.laws.proofs.Tallies.{sum-done, sum-skip, sum-step, sum-open}
 use Rattle.rules.specs.Memory.{chain, chainEnd, pagesFrom}
 use Rattle.rules.proofs.Limits.{Inside, page-here, pages-few}
 use Rattle.rules.proofs.Nests.{Over, over-fuel, over-none, over-bad}

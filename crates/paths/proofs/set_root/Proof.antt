@@ -1,7 +1,6 @@
 -- `paths::set_root` meets its contract: the tests in their order, and one word written inside the roots.
 use borrow.Author.Needs.{needs}
 use borrow.Author.Tests.{le-leb, lt-leb}
-use lib.ListN.{length}
 use Rattle.rules.specs.Calls.{setRoot}
 use Rattle.rules.specs.Memory.{lent}
 use Rattle.rules.specs.Refusals.{refused}

@@ -1,6 +1,6 @@
 -- `values::good_heap` meets its contract: the page of an address below the heap's length lies inside the heap, so its descriptor can be
 -- read, and the stepping goes from its third word to its end.
-use Prim.Native.Nat.{_*_, _/_, _^_}
+use Prim.Native.Nat.{_+_, _*_, _/_, _^_, _≤_}
 use mathlib.Core.Path.{_≡_, refl, sym, ap, _∙_}
 use native.Mathlib.Nat.{div-le-self}
 use native.Mathlib.Omega.{arith}
@@ -17,8 +17,12 @@ returns c = sym (good-out _ _ _ _ (c .before .before .before .pre) (c .if1 .take
 address-page-requires : tie.Need-address-page-requires
 address-page-requires c κs = search needs
 
+-- the page's number
+small : (c : tie.After-address-page) → c .address-page .result .0 ≤ 65536
+small c = omega (arith, div-le-self (c .before .before .before .before .args .a .0) (2 ^ c .before .before .before .before .args .n))
+
 page-address-requires : tie.Need-page-address-requires
-page-address-requires c κs = omega (arith, div-le-self (c .before .before .before .before .args .a .0) (2 ^ c .before .before .before .before .args .n))
+page-address-requires c κs = let s = small c in omega arith
 
 abbrev entry : tie.After-page-address → tie.Start
 entry c = c .before .before .before .before .before
@@ -45,22 +49,20 @@ returns-2 c = sym (good-none _ _ _ _ _ (base (c .before .before)) (c .if2 .taken
 returns-3 : tie.Need-returns-3
 returns-3 c = sym (good-high _ _ _ _ _ (base (c .before .before .before)) (c .if3 .taken))
 
-add-start : tie.Need-add-start
-add-start c = omega (arith, here (c .before .before .before))
+body-address-requires : tie.Need-body-address-requires
+body-address-requires c κs = let s = small (c .before .before .before .before) in omega arith
 
-page-words-requires : tie.Need-page-words-requires
-page-words-requires c κs = search needs
-
-add-end : tie.Need-add-end
-add-end c = let i = here (c .before .before .before .before) in omega arith
+page-end-requires : tie.Need-page-end-requires
+page-end-requires c κs = let s = small (c .before .before .before .before .before) in omega arith
 
 stands-requires : tie.Need-stands-requires
-stands-requires c κs = let i = here (c .before .before .before .before) in omega arith
+stands-requires c κs = let i = here (c .before .before .before .before .before) in omega arith
 
 returns-4 : tie.Need-returns-4
 returns-4 c =
-    c .stands .ensures
-    ∙ sym (good-go _ _ _ _ _ (base (c .before .before .before .before .before)) _ (c .before .page-words .ensures) (c .before .before .before .if2 .left) (c .before .before .if3 .left))
+    let start : c .before .before .body-address .result .0 ≡ c .before .before .before .before .before .before .page-address .result .0 + 2 = omega arith in
+    let end : c .before .page-end .result .0 ≡ c .before .before .before .before .before .before .page-address .result .0 + 2 ^ c .before .before .before .before .before .before .before .before .before .before .before .args .n = omega arith in
+    c .stands .ensures ∙ sym (good-go _ _ _ _ _ (base (c .before .before .before .before .before .before)) _ _ start end (c .before .before .before .before .if2 .left) (c .before .before .before .if3 .left))
 
 pub good-heap-spec : {M : Type 1} → statement M
 good-heap-spec =
@@ -74,8 +76,7 @@ good-heap-spec =
     shared-slice-read-origin
     returns-2
     returns-3
-    add-start
-    page-words-requires
-    add-end
+    body-address-requires
+    page-end-requires
     stands-requires
     returns-4)

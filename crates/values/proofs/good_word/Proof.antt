@@ -1,5 +1,5 @@
 -- `values::good_word` meets its contract: a word's remainder by 4 says whether it is a heap pointer, a constant pointer or a number.
-use mathlib.Core.Path.{_≡_, sym, ap, _∙_}
+use mathlib.Core.Path.{sym, ap, _∙_}
 use borrow.Author.Needs.{needs}
 use Rattle.rules.specs.Words.{goodHeap, goodConst}
 use Rattle.rules.proofs.Good.{word-heap, word-const, word-number}

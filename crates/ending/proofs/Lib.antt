@@ -1,0 +1,3 @@
+pub mod Undone
+pub mod Chains
+pub mod Written

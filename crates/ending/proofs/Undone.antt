@@ -1,0 +1,27 @@
+-- The undoing of one page, a turn by what `undo_value` ensures: the loop runs the definition's.
+use Prim.Native.Nat.{ℕ, _+_, _-_, _*_, _^_, _≤_, _<_}
+use mathlib.Core.Path.{_≡_, sym, _∙_}
+use mathlib.Core.List.{List}
+use borrow.Author.Tests.{le-leb, lt-leb, eq-eqb, ne-eqb}
+use Rattle.laws.specs.Lists.{at}
+use Rattle.laws.specs.Each.{After, after}
+use Rattle.laws.proofs.Loops.{loop-more, loop-over}
+use Rattle.motion.specs.Whole.{undoValue, undoTurn, undoVals, undoPage}
+
+pub undo-more : (f e x w : ℕ) (h : List ℕ) (o : After ℕ (List ℕ)) → 0 < f → x < e → w ≡ at h x → (w ≡ 0 → ⊥) → o ≡ undoValue x h
+    → undoVals f e (after x h) ≡ undoVals (f - 1) e o
+unfolding undoTurn
+undo-more f e x w h o l b q n r = loop-more _ _ _ _ _ l (rw (lt-leb e x b, ne-eqb (at h x) 0 (λ z. n (q ∙ z)), r))
+
+pub undo-past : (f e x : ℕ) (h : List ℕ) → 0 < f → e ≤ x → undoVals f e (after x h) ≡ h
+unfolding undoTurn
+undo-past f e x h l b = loop-over _ _ _ _ _ l (rw (le-leb e x b))
+
+pub undo-zero : (f e x w : ℕ) (h : List ℕ) → 0 < f → x < e → w ≡ at h x → w ≡ 0 → undoVals f e (after x h) ≡ h
+unfolding undoTurn
+undo-zero f e x w h l b q n = loop-over _ _ _ _ _ l (rw (lt-leb e x b, eq-eqb (at h x) 0 (sym q ∙ n)))
+
+-- page k, of p words from a on
+pub undo-all : (n k a p : ℕ) (h : List ℕ) → a ≡ k * 2 ^ n → p ≡ 2 ^ n → undoVals p (a + p) (after (a + 2) h) ≡ undoPage n k h
+unfolding undoPage
+undo-all n k a p h e q = rw (e, q)

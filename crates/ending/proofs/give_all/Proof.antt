@@ -1,0 +1,70 @@
+-- `ending::give_all` meets its contract: the loop runs `steps`, and a turn is what `give_chain` does.
+use Prim.Native.Nat.{_+_}
+use mathlib.Core.Path.{_≡_, refl, sym, _∙_}
+use native.Mathlib.Omega.{arith}
+use lib.ListN.{length}
+use Rattle.laws.specs.Each.{steps}
+use Rattle.laws.proofs.Each.{steps-end}
+use Rattle.rules.specs.Memory.{firstLink}
+use Rattle.motion.specs.Leaves.{desk}
+use Rattle.motion.specs.Whole.{giveChain}
+use Rattle.ending.proofs.Chains.{give-region}
+use Rattle.ending.proofs.give_all.Statement.{statement}
+use Rattle.ending.proofs.give_all.Tie as tie
+
+abbrev Inv-loop : tie.InvT-loop
+Inv-loop heap₀ notes₀ table regions pages n j₀ left₀ heap notes j left = (steps left (λ i. giveChain n pages (firstLink n table i)) j (desk heap notes) ≡ steps regions (λ i. giveChain n pages (firstLink n table i)) 0 (desk heap₀ notes₀)) × (length heap ≡ length heap₀) × (length notes ≡ length notes₀) × (j + left ≡ regions)
+
+abbrev μ-loop : tie.MeasureT-loop
+μ-loop heap₀ notes₀ table regions pages n j₀ left₀ heap notes j left = left
+
+loop-holds : tie.Need-loop-holds Inv-loop μ-loop
+loop-holds c = (refl, refl, refl, omega arith)
+
+first-of-requires : tie.Need-first-of-requires Inv-loop μ-loop
+first-of-requires c κs = omega arith
+
+address-page-requires : tie.Need-address-page-requires Inv-loop μ-loop
+address-page-requires c κs = c .before .before .before .before .before .before .before .before .pre .0 .high
+
+give-chain-requires : tie.Need-give-chain-requires Inv-loop μ-loop
+give-chain-requires c κs = rw (c .before .before .before .before .before .loop .inv .1) (c .before .before .before .before .before .before .before .before .before .pre .0, c .before .before .before .before .before .before .before .before .before .pre .1)
+
+add-j : tie.Need-add-j Inv-loop μ-loop
+add-j c = omega arith
+
+sub-left : tie.Need-sub-left Inv-loop μ-loop
+sub-left c = omega arith
+
+loop-less : tie.Need-loop-less Inv-loop μ-loop
+loop-less c = omega arith
+
+loop-again : tie.Need-loop-again Inv-loop μ-loop
+loop-again c = (sym (give-region (c .before .before .before .before .before .before .before .before .before .before .before .before .before .before .args .n) (c .before .before .before .before .before .before .before .before .before .before .loop .left) (c .before .before .before .before .before .before .before .before .before .before .before .before .before .before .args .pages) (c .before .before .before .before .before .before .before .before .before .before .loop .j) (c .before .before .before .before .before .address-page .result .0) (c .before .before .before .before .before .before .before .before .first-of .result .0) (c .before .before .before .before .before .before .before .before .before .before .before .before .before .before .args .table .now) _ _ (c .before .before .before .before .before .before .before .before .before .loop-test .taken) (c .before .before .before .before .before .before .before .before .first-of .ensures .0) (c .before .before .before .before .before .address-page .ensures) (c .before .before .before .before .give-chain .ensures)) ∙ c .before .before .before .before .before .before .before .before .before .before .loop .inv .0, c .before .before .before .before .give-chain .kept .0 ∙ c .before .before .before .before .before .before .before .before .before .before .loop .inv .1, c .before .before .before .before .give-chain .kept .1 .0 ∙ c .before .before .before .before .before .before .before .before .before .before .loop .inv .2, omega arith)
+
+same-length : tie.Need-same-length Inv-loop μ-loop
+same-length c = c .before .loop .inv .1
+
+same-length-2 : tie.Need-same-length-2 Inv-loop μ-loop
+same-length-2 c = c .before .loop .inv .2
+
+returns : tie.Need-returns Inv-loop μ-loop
+returns c = sym (steps-end _ _ _ _ (c .loop-test .left)) ∙ c .before .loop .inv .0
+
+pub give-all-spec : {M : Type 1} → statement M
+give-all-spec =
+    tie.close
+    (tie.spec
+    Inv-loop
+    μ-loop
+    loop-holds
+    first-of-requires
+    address-page-requires
+    give-chain-requires
+    add-j
+    sub-left
+    loop-less
+    loop-again
+    same-length
+    same-length-2
+    returns)

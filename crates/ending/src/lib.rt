@@ -1,0 +1,307 @@
+// How a collection ends: the undoing of one that lacks a page, and the end of one that is done. Each function does what its definition in motion says.
+ghost use mathlib.Core.Path.{_≡_};
+ghost use mathlib.Core.List.{List};
+ghost use Prim.Native.Nat.{_+_, _≤_, _<_};
+ghost use lib.ListN.{length};
+ghost use Rattle.laws.specs.Each.{after};
+ghost use Rattle.rules.specs.declared.Plain.{Plain};
+ghost use Rattle.rules.specs.Memory.{lent, pageCount, pageLink, row, setLink};
+ghost use Rattle.rules.specs.Refusals.{Paged, outcome};
+ghost use Rattle.rules.specs.Pages.{clearPage};
+ghost use Rattle.motion.specs.Leaves.{desk, taken as takenDef};
+ghost use Rattle.motion.specs.Whole.{undoValue, undoPage, undoChain, undoHeaders, relinkAll, undo as undoDef, ownChain, ownAll};
+ghost use Rattle.motion.specs.Whole.{giveBack, giveChain, giveAll, rootWord, writtenRoots, writtenTable, recordBy};
+use leaves::first_of;
+use leaves::less;
+use leaves::link_start;
+use leaves::low;
+use leaves::word;
+use leaves::write;
+use motion::FREE_FIRST;
+use motion::FREE_LAST;
+use motion::GIVEN;
+use motion::TAKEN;
+use pages::clear_page;
+use pages::page_words;
+use rules::Address;
+use rules::Control;
+use rules::Page;
+use rules::Region;
+use rules::address_page;
+use rules::link_page;
+use rules::page_address;
+use rules::page_link;
+use rules::pointer_address;
+use rules::region_origin;
+
+// ---- The undoing.
+
+// A forward at x becomes the header that the copy has kept. The next value's address.
+pub fn undo_value(heap: &mut [u32], x: Address) -> Address
+    requires { ⌜ x .0 ≤ 4294967296 ⌝ }
+    ensures { λ r. ⌜ after (r .0) (now (heap .exit)) ≡ undoValue (x .0) (now (heap .entry)) ⌝ }
+{
+    let at = x.0;
+    let w = word(heap, at);
+    if w % 2 == 1 {
+        return Address(at + (w / 8 + 1));
+    }
+    let copy = pointer_address(w as u32);
+    let head = word(heap, copy.0);
+    write(heap, at, head);
+    Address(at + (head / 8 + 1))
+}
+
+// The headers of page k.
+pub fn undo_page(heap: &mut [u32], k: Page, n: u32)
+    requires { ⌜ (4 ≤ n) × (n ≤ 8) × (k .0 ≤ 65536) ⌝ }
+    ensures { λ _. ⌜ now (heap .exit) ≡ undoPage n (k .0) (now (heap .entry)) ⌝ }
+{
+    let start = page_address(k, n);
+    let p = page_words(n);
+    let e = start.0 + p;
+    let mut x = Address(start.0 + 2);
+    let mut left = p;
+    while 0 < left {
+        if e <= x.0 {
+            return;
+        }
+        let w = word(heap, x.0);
+        if w == 0 {
+            return;
+        }
+        x = undo_value(heap, x);
+        left -= 1;
+    }
+}
+
+// The headers of the chain of pages that starts with `first`.
+pub fn undo_chain(heap: &mut [u32], first: Page, pages: usize, n: u32)
+    requires { ⌜ (4 ≤ n) × (n ≤ 8) × (pages ≤ 65536) ⌝ }
+    ensures { λ _. ⌜ now (heap .exit) ≡ undoChain n pages (pageLink (first .0)) (now (heap .entry)) ⌝ }
+{
+    let mut k = first;
+    let mut left = pages;
+    while 0 < left {
+        if pages <= k.0 {
+            return;
+        }
+        let start = page_address(k, n);
+        let next = word(heap, start.0);
+        undo_page(heap, k, n);
+        if next == 0 {
+            return;
+        }
+        k = link_page(next as u32);
+        left -= 1;
+    }
+}
+
+// The headers of all regions' pages.
+pub fn undo_headers(heap: &mut [u32], table: &[u32], regions: u32, pages: usize, n: u32)
+    requires { ⌜ (4 ≤ n) × (n ≤ 8) × (pages ≤ 65536) ⌝ }
+    ensures { λ _. ⌜ now (heap .exit) ≡ undoHeaders n pages regions (now (table .entry)) (now (heap .entry)) ⌝ }
+{
+    let mut j: usize = 0;
+    let mut left = regions as usize;
+    while 0 < left {
+        let fp = first_of(table, Region(j));
+        undo_chain(heap, address_page(fp, n), pages, n);
+        j += 1;
+        left -= 1;
+    }
+}
+
+// Page k free again, with its link.
+pub fn relink(heap: &mut [u32], k: Page, link: usize, n: u32)
+    requires { ⌜ (Paged n (length (now heap))) × (k .0 < pageCount n (now heap)) × (link < 4294967296) ⌝ }
+    ensures { λ _. ⌜ now (heap .exit) ≡ setLink n (clearPage n (now (heap .entry)) (k .0)) (k .0) link ⌝ }
+{
+    clear_page(heap, k, n);
+    let start = page_address(k, n);
+    write(heap, start.0, link);
+}
+
+// The pages that were taken, from the link `first` on, free again.
+pub fn relink_all(heap: &mut [u32], first: usize, taken: usize, pages: usize, n: u32)
+    requires { ⌜ (Paged n (length (now heap))) × (pages ≡ pageCount n (now heap)) × (first < 4294967296) ⌝ }
+    ensures { λ _. ⌜ now (heap .exit) ≡ relinkAll n taken pages first (now (heap .entry)) ⌝ }
+{
+    let mut link = first;
+    let mut left = taken;
+    while 0 < left {
+        if link == 0 {
+            return;
+        }
+        if pages < link {
+            return;
+        }
+        let k = link_page(link as u32);
+        let start = page_address(k, n);
+        let next = word(heap, start.0 + 1);
+        relink(heap, k, next, n);
+        link = next;
+        left -= 1;
+    }
+}
+
+// ---- The end.
+
+// The origin of region j for the chain of pages that starts with `first`.
+pub fn own_chain(heap: &mut [u32], j: Region, first: Page, pages: usize, n: u32)
+    requires { ⌜ (n ≤ 8) × (j .0 ≤ 64) × (pages ≤ 65536) ⌝ }
+    ensures { λ _. ⌜ now (heap .exit) ≡ ownChain n pages (j .0) (pageLink (first .0)) (now (heap .entry)) ⌝ }
+{
+    let mut k = first;
+    let mut left = pages;
+    while 0 < left {
+        if pages <= k.0 {
+            return;
+        }
+        let start = page_address(k, n);
+        let next = word(heap, start.0);
+        write(heap, start.0 + 1, region_origin(j) as usize);
+        if next == 0 {
+            return;
+        }
+        k = link_page(next as u32);
+        left -= 1;
+    }
+}
+
+// The origins of all regions' new pages.
+pub fn own_all(heap: &mut [u32], notes: &[u32], regions: u32, pages: usize, n: u32)
+    requires { ⌜ (n ≤ 8) × (regions ≤ 64) × (pages ≤ 65536) ⌝ }
+    ensures { λ _. ⌜ now (heap .exit) ≡ ownAll n pages regions (now (notes .entry)) (now (heap .entry)) ⌝ }
+{
+    let mut j: usize = 0;
+    let mut left = regions as usize;
+    while 0 < left {
+        let fp = first_of(notes, Region(j));
+        own_chain(heap, Region(j), address_page(fp, n), pages, n);
+        j += 1;
+        left -= 1;
+    }
+}
+
+// Page k, cleared, at the back of the free list.
+pub fn give_back(heap: &mut [u32], notes: &mut [u32], k: Page, n: u32)
+    requires { ⌜ (Paged n (length (now heap))) × (k .0 < pageCount n (now heap)) ⌝ }
+    ensures { λ _. ⌜ desk (now (heap .exit)) (now (notes .exit)) ≡ giveBack n (k .0) (desk (now (heap .entry)) (now (notes .entry))) ⌝ }
+{
+    let first = word(notes, FREE_FIRST);
+    let given = word(notes, GIVEN);
+    clear_page(heap, k, n);
+    write(notes, GIVEN, low(given + 1));
+    let link = page_link(k) as usize;
+    if first == 0 {
+        write(notes, FREE_FIRST, link);
+        write(notes, FREE_LAST, link);
+        return;
+    }
+    let last = word(notes, FREE_LAST);
+    let start = link_start(last, n);
+    write(heap, start.0, link);
+    write(notes, FREE_LAST, link);
+}
+
+// The chain of pages that starts with `first`, given back.
+pub fn give_chain(heap: &mut [u32], notes: &mut [u32], first: Page, pages: usize, n: u32)
+    requires { ⌜ (Paged n (length (now heap))) × (pages ≡ pageCount n (now heap)) ⌝ }
+    ensures { λ _. ⌜ desk (now (heap .exit)) (now (notes .exit)) ≡ giveChain n pages (pageLink (first .0)) (desk (now (heap .entry)) (now (notes .entry))) ⌝ }
+{
+    let mut k = first;
+    let mut left = pages;
+    while 0 < left {
+        if pages <= k.0 {
+            return;
+        }
+        let start = page_address(k, n);
+        let next = word(heap, start.0);
+        give_back(heap, notes, k, n);
+        if next == 0 {
+            return;
+        }
+        k = link_page(next as u32);
+        left -= 1;
+    }
+}
+
+// The old pages of all regions, bottom region first, given back.
+pub fn give_all(
+    heap: &mut [u32],
+    notes: &mut [u32],
+    table: &[u32],
+    regions: u32,
+    pages: usize,
+    n: u32,
+)
+    requires { ⌜ (Paged n (length (now heap))) × (pages ≡ pageCount n (now heap)) ⌝ }
+    ensures { λ _. ⌜ desk (now (heap .exit)) (now (notes .exit)) ≡ giveAll n pages regions (now (table .entry)) (desk (now (heap .entry)) (now (notes .entry))) ⌝ }
+{
+    let mut j: usize = 0;
+    let mut left = regions as usize;
+    while 0 < left {
+        let fp = first_of(table, Region(j));
+        give_chain(heap, notes, address_page(fp, n), pages, n);
+        j += 1;
+        left -= 1;
+    }
+}
+
+// The new word of a root.
+pub fn root_word(heap: &[u32], w: usize) -> usize
+    requires { ⌜ w < 4294967296 ⌝ }
+    ensures { λ r. ⌜ (r ≡ rootWord (now (heap .entry)) w) × (r < 4294967296) ⌝ }
+{
+    if w % 4 != 0 {
+        return w;
+    }
+    let a = pointer_address(w as u32);
+    word(heap, a.0)
+}
+
+// The roots, by the forwards.
+pub fn write_roots(heap: &[u32], roots: &mut [u32])
+    ensures { λ _. ⌜ now (roots .exit) ≡ writtenRoots (now (heap .entry)) (now (roots .entry)) ⌝ }
+{
+    let mut i: usize = 0;
+    while i < roots.len() {
+        let w = word(roots, i);
+        let new = root_word(heap, w);
+        write(roots, i, new);
+        i += 1;
+    }
+}
+
+// The rows of the regions, from the notes.
+pub fn write_table(table: &mut [u32], notes: &[u32], regions: u32)
+    requires { ⌜ (regions ≤ 64) × (row regions ≤ length (now table)) × (row regions ≤ length (now notes)) ⌝ }
+    ensures { λ _. ⌜ now (table .exit) ≡ writtenTable regions (now (notes .entry)) (now (table .entry)) ⌝ }
+{
+    let m = 4 * regions as usize;
+    let mut i: usize = 0;
+    while i < m {
+        let w = word(notes, i);
+        write(table, i, w);
+        i += 1;
+    }
+}
+
+// The record, by the notes.
+pub fn record_by(notes: &[u32], c: Control) -> Control
+    ensures { λ r. ⌜ r ≡ recordBy c (now (notes .entry)) ⌝ }
+{
+    let taken = word(notes, TAKEN);
+    let given = word(notes, GIVEN);
+    let first = word(notes, FREE_FIRST);
+    let last = word(notes, FREE_LAST);
+    let kept = less(c.count as usize, taken);
+    Control {
+        n: c.n,
+        regions: c.regions,
+        first: first as u32,
+        last: last as u32,
+        count: low(kept + given) as u32,
+    }
+}

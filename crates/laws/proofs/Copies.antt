@@ -1,0 +1,73 @@
+-- A copy made word by word: what was copied so far, one word more, and the whole. `paste d b s i` is d with its words from b on replaced by the first
+-- i words of s. A word that is read from the same list lies outside the words written so far, because the two parts lie apart.
+use Prim.Native.Nat.{ℕ, zero, suc, _+_, _-_, _≤_, _<_}
+use mathlib.Core.Path.{_≡_, refl, sym, ap, _∙_}
+use mathlib.Core.Logic.{_⊎_, inl, inr, ⊎-elim}
+use mathlib.Core.List.{List, [], _∷_, map, append-nil}
+use native.Mathlib.Omega.{arith}
+use native.Mathlib.Numerals.{add-one}
+use lib.ListN.{length, take, drop, set, length-drop, length-map}
+use lib.Seq.{paste, paste-suc, length-take-le, getD-drop, drop-length, take-all}
+use Rattle.laws.specs.Lists.{at, put}
+use Rattle.laws.proofs.Lists.{at-put-below, at-put-above}
+
+pub paste-put : (h : List ℕ) (b : ℕ) (s : List ℕ) (i : ℕ) → i ≤ length s → paste h b s i ≡ put h b (take i s)
+unfolding put
+paste-put h b s i l = rw (length-take-le i s l)
+
+-- a word outside the part written
+at-paste : (h : List ℕ) (b : ℕ) (s : List ℕ) (i x : ℕ) → i ≤ length s → b + i ≤ length h → (x < b) ⊎ (b + i ≤ x) → at (paste h b s i) x ≡ at h x
+at-paste h b s i x l m w =
+    let q : length (take i s) ≡ i = length-take-le i s l in
+    rw (paste-put h b s i l)
+    (⊎-elim (λ u. at-put-below h b (take i s) x (omega arith) u) (λ u. at-put-above h b (take i s) x (omega arith) (omega arith)) w)
+
+-- one word more, from another list
+pub paste-more : (d : List ℕ) (b : ℕ) (s : List ℕ) (i v : ℕ) → b + i < length d → i < length s → v ≡ at s i
+    → set (paste d b s i) (b + i) v ≡ paste d b s (i + 1)
+paste-more d b s i v m l e = rw (e, add-one i) (paste-suc d b s i 0 m l)
+
+-- one word more, from the same list: m words at a go to b, which lies apart
+pub copy-more : (h : List ℕ) (a b m i v : ℕ) → i < m → a + m ≤ length h → b + m ≤ length h → (a + m ≤ b) ⊎ (b + m ≤ a)
+    → v ≡ at (paste h b (drop a h) i) (a + i) → set (paste h b (drop a h) i) (b + i) v ≡ paste h b (drop a h) (i + 1)
+copy-more h a b m i v l p q w e =
+    let k : length (drop a h) ≡ length h - a = length-drop a h in
+    let out : (a + i < b) ⊎ (b + i ≤ a + i) = ⊎-elim (λ u. inl (omega arith)) (λ u. inr (omega arith)) w in
+    paste-more h b (drop a h) i v (omega arith) (omega arith)
+    (e ∙ at-paste h b (drop a h) i (a + i) (omega arith) (omega arith) out ∙ sym (getD-drop a h i 0))
+
+-- the whole list replaced
+pub put-whole : (h ws : List ℕ) → length ws ≡ length h → put h 0 ws ≡ ws
+unfolding put
+put-whole h ws e = let q : 0 + length ws ≡ length h = omega arith in rw (q, drop-length h) (append-nil ws)
+
+-- all m words are there
+pub copy-done : (h : List ℕ) (a b m i : ℕ) → i ≤ m → m ≤ i → a + m ≤ length h → paste h b (drop a h) i ≡ put h b (take m (drop a h))
+copy-done h a b m i l l′ p =
+    let e : i ≡ m = omega arith in
+    let k : length (drop a h) ≡ length h - a = length-drop a h in
+    rw e (paste-put h b (drop a h) m (omega arith))
+
+-- ---- from the front on: every word of d replaced by the word of s at its place
+
+pub at-map : (f : ℕ → ℕ) (l : List ℕ) (i : ℕ) → i < length l → at (map f l) i ≡ f (at l i)
+at-map f [] i b = absurd (omega arith)
+at-map f (x ∷ l) zero b = refl
+at-map f (x ∷ l) (suc i) b = at-map f l i (omega arith)
+
+pub front-more : (d s : List ℕ) (i v : ℕ) → i < length d → i < length s → v ≡ at s i → set (paste d 0 s i) i v ≡ paste d 0 s (i + 1)
+front-more d s i v m l e = let q : i ≡ 0 + i = omega arith in ap (λ k. set (paste d 0 s i) k v) q ∙ paste-more d 0 s i v (omega arith) l e
+
+-- what is not replaced yet
+pub front-next : (d s : List ℕ) (i : ℕ) → i ≤ length s → i ≤ length d → at (paste d 0 s i) i ≡ at d i
+front-next d s i l m = at-paste d 0 s i i l (omega arith) (inr (omega arith))
+
+-- all of it
+pub front-done : (d s : List ℕ) (m i : ℕ) → i ≤ m → m ≤ i → m ≤ length s → paste d 0 s i ≡ put d 0 (take m s)
+front-done d s m i l l′ k = let e : i ≡ m = omega arith in rw e (paste-put d 0 s m k)
+
+pub map-done : (f : ℕ → ℕ) (d : List ℕ) (i : ℕ) → i ≤ length d → length d ≤ i → paste d 0 (map f d) i ≡ map f d
+map-done f d i l l′ =
+    let q : length (map f d) ≡ length d = length-map d f in
+    front-done d (map f d) i i (omega arith) (omega arith) (omega arith)
+    ∙ ap (put d 0) (take-all i (map f d) (omega arith)) ∙ put-whole d (map f d) q

@@ -1,0 +1,33 @@
+-- `leaves::apart` meets its contract: it makes the definition's tests, and each decides where it stands.
+use Rattle.laws.proofs.Tests.{tests}
+use borrow.Author.Needs.{needs}
+use Rattle.leaves.proofs.apart.Statement.{statement}
+use Rattle.leaves.proofs.apart.Tie as tie
+
+add-if1 : tie.Need-add-if1
+add-if1 c = search needs
+
+returns : tie.Need-returns
+returns c = search tests
+
+add-if2 : tie.Need-add-if2
+add-if2 c = search needs
+
+returns-2 : tie.Need-returns-2
+returns-2 c = search tests
+
+add-if3 : tie.Need-add-if3
+add-if3 c = search needs
+
+returns-3 : tie.Need-returns-3
+returns-3 c = search tests
+
+add-result : tie.Need-add-result
+add-result c = search needs
+
+returns-4 : tie.Need-returns-4
+returns-4 c = search tests
+
+pub apart-spec : {M : Type 1} → statement M
+apart-spec =
+    tie.close (tie.spec add-if1 returns add-if2 returns-2 add-if3 returns-3 add-result returns-4)

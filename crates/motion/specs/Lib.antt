@@ -1,0 +1,3 @@
+pub mod Leaves
+pub mod Run
+pub mod Whole

@@ -1,0 +1,14 @@
+pub mod Ordered
+pub mod Outcomes
+pub mod KeepsGood
+pub mod KeepsFields
+pub mod KeepsPush
+pub mod KeepsAllocate
+pub mod KeepsPop
+pub mod KeepsSetUp
+pub mod Keeps
+pub mod KeepsReading
+pub mod NumbersBack
+pub mod Demand1
+pub mod Demand2
+pub mod Demand3
