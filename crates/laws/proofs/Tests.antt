@@ -18,6 +18,17 @@ use Rattle.laws.proofs.Lists.{slice-none}
 -- what turns the tests of a definition into the tests that the code made
 pub ruleset tests = (lt-ltb, le-ltb, le-leb, lt-leb, eq-eqb, ne-eqb)
 
+-- a word x that was read, and what it is: the test of a definition is the test that the code made
+pub is-eqb : (x w y : ℕ) → x ≡ w → x ≡ y → eqb w y ≡ true
+is-eqb x w y e q = eq-eqb w y (sym e ∙ q)
+
+pub not-eqb : (x w y : ℕ) → x ≡ w → (x ≡ y → ⊥) → eqb w y ≡ false
+not-eqb x w y e ne = ne-eqb w y (λ q. ne (e ∙ q))
+
+-- x is not y, and y is w
+pub not-that : (x y w : ℕ) → y ≡ w → (x ≡ y → ⊥) → x ≡ w → ⊥
+not-that x y w e ne q = ne (q ∙ sym e)
+
 pub and-left : (a b : Bool) → (a && b) ≡ true → a ≡ true
 and-left true b e = refl
 and-left false b e = e
@@ -28,6 +39,14 @@ and-right false b e = let z : _≡_ {A = ℕ} 0 1 = cc in absurd (omega arith)
 
 pub both : {a b : Bool} → (a && b) ≡ true → (a ≡ true) × (b ≡ true)
 both {a} {b} e = (and-left a b e, and-right a b e)
+
+pub and-yes : (a : Bool) → (a && true) ≡ a
+and-yes true = refl
+and-yes false = refl
+
+pub and-assoc : (a b c : Bool) → (a && b && c) ≡ (a && (b && c))
+and-assoc true b c = refl
+and-assoc false b c = refl
 
 module _ {A : Type 0} (p : A → Bool) where
   pub all-in : (xs : List A) → all p xs ≡ true → (x : A) → List·Memᴰ x xs → p x ≡ true
@@ -96,6 +115,12 @@ from-add p (suc a) b j = go (p j) refl (from-add p a b (suc j))
         let k : j + suc a ≡ suc j + a = omega arith in
         rw (q, k, allFrom, e) r
     go false e r = let q : suc a + b ≡ suc (a + b) = omega arith in rw (q, allFrom, e)
+
+pub from-pass : (p : ℕ → Bool) (m j : ℕ) → 0 < m → p j ≡ true → allFrom p m j ≡ allFrom p (m - 1) (j + 1)
+from-pass p m j l t = from-go p m j l ∙ rw t
+
+pub from-stop : (p : ℕ → Bool) (m j : ℕ) → 0 < m → p j ≡ false → allFrom p m j ≡ false
+from-stop p m j l t = from-go p m j l ∙ rw t
 
 -- fields, from address f up to address e
 module _ (p : ℕ → Bool) (h : List ℕ) (f e : ℕ) (r : Bool) where

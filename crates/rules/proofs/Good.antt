@@ -14,14 +14,19 @@ use Rattle.rules.specs.Words.{wordOf, valsIn, standsAt, goodOn, goodHeap
 use Rattle.rules.proofs.Chains.{page-vals}
 use Rattle.rules.proofs.Limits.{page-size, whole-pages}
 
+-- the page of an address outside has no origin
+pub origin-out : (n : ℕ) (h : List ℕ) (a : ℕ) → Paged n (length h) → length h ≤ a → origin n h (a / 2 ^ n) ≡ 0
+unfolding origin
+origin-out n h a g b =
+    let z = page-size n (g .low) (g .high) in
+    let m : length h / 2 ^ n ≤ a / 2 ^ n = le-div-iff-mul-le {k = 2 ^ n} (omega arith) .1 (rw (whole-pages n (length h) g) b) in
+    let o : length h ≤ a / 2 ^ n * 2 ^ n + 1 = omega (arith, whole-pages n (length h) g, mul-le-mul-right (2 ^ n) m) in
+    List·getD-eq-default h 0 o
+
 module _ (n R : ℕ) (h : List ℕ) (a : ℕ) where
   pub good-out : Paged n (length h) → length h ≤ a → goodHeap n R h a ≡ false
-  unfolding goodHeap goodOn origin
-  good-out g b =
-      let z = page-size n (g .low) (g .high) in
-      let m : length h / 2 ^ n ≤ a / 2 ^ n = le-div-iff-mul-le {k = 2 ^ n} (omega arith) .1 (rw (whole-pages n (length h) g) b) in
-      let o : length h ≤ a / 2 ^ n * 2 ^ n + 1 = omega (arith, whole-pages n (length h) g, mul-le-mul-right (2 ^ n) m) in
-      rw (goodOn, List·getD-eq-default h 0 o)
+  unfolding goodHeap goodOn
+  good-out g b = rw (goodOn, origin-out n h a g b)
 
   -- over code that has the address of a's page as base
   module _ (base : ℕ) (e : base ≡ a / 2 ^ n * 2 ^ n) where

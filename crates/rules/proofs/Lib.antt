@@ -6,6 +6,8 @@ pub mod Good
 pub mod Frames
 pub mod Looks
 pub mod Walks
+pub mod Nests
+pub mod Once
 pub mod Pages
 pub mod Whole
 pub mod Soundings

@@ -1,12 +1,12 @@
 -- What the limits and the common test say as facts, and that a page of a heap within them lies inside it.
-use Prim.Native.Nat.{ℕ, suc, _+_, _*_, _/_, _%_, _^_, _≤_, _<_}
+use Prim.Native.Nat.{ℕ, suc, _+_, _-_, _*_, _/_, _%_, _^_, _≤_, _<_}
 use mathlib.Core.Path.{_≡_, refl, _∙_}
 use mathlib.Core.Bool.{Bool, true, false, _&&_, Bool·beq}
 use borrow.Author.Tests.{leb-true, eqb-true, eqb-false, eq-eqb}
 use lib.Dec.{leb, eqb}
 use Rattle.laws.proofs.Tests.{both}
 use native.Mathlib.Omega.{arith}
-use native.Mathlib.Nat.{le-trans, le-div-iff-mul-le, mul-le-mul-left, mul-le-mul-right, add-mul, one-mul, div-add-mod', div-lt-iff-lt-mul}
+use native.Mathlib.Nat.{le-trans, le-div-iff-mul-le, mul-le-mul-left, mul-le-mul-right, add-mul, one-mul, div-add-mod', div-lt-iff-lt-mul, div-le-self}
 use lib.Pow.{pow-pos, pow-mono, shr-le}
 use Rattle.rules.specs.declared.Control.{Control}
 use Rattle.rules.specs.Memory.{limits}
@@ -44,6 +44,10 @@ page-inside n h p k q g b =
 pub page-number : (n h k : ℕ) → Paged n h → k < h / 2 ^ n → (k ≤ 65536) × (n ≤ 8)
 page-number n h k g b = (omega (arith, shr-le h n, g .size), g .high)
 
+-- so does the page that the link k names, over code that has N for the number of pages and b for the page's address
+pub page-here : (n h N k b : ℕ) → Paged n h → N ≡ h / 2 ^ n → b ≡ (k - 1) * 2 ^ n → (k ≡ 0 → ⊥) → k ≤ N → Inside (2 ^ n) b h
+page-here n h N k b g e q z c = rw q (page-inside n h (2 ^ n) (k - 1) refl g (omega arith))
+
 -- the address of such a page, and what is past it, wrap nothing
 pub address-small : (n k : ℕ) → k ≤ 65536 → n ≤ 8 → (k * 2 ^ n ≤ 65536 * 256) × (2 ^ n ≤ 256)
 address-small n k a b =
@@ -56,6 +60,10 @@ in-page n h p base a q e g b =
     let z = page-size n (g .low) (g .high) in
     let d : a / 2 ^ n < h / 2 ^ n = div-lt-iff-lt-mul {k = 2 ^ n} (omega arith) .1 (rw (whole-pages n h g) b) in
     rw (e, q) (page-inside n h (2 ^ n) (a / 2 ^ n) refl g d)
+
+-- there are few pages
+pub pages-few : (n h N : ℕ) → Paged n h → N ≡ h / 2 ^ n → N ≤ 65536
+pages-few n h N g e = let z = g .size in omega (arith, div-le-self h (2 ^ n))
 
 -- ---- the tests of every call, as facts
 
