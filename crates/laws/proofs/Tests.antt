@@ -116,12 +116,6 @@ from-add p (suc a) b j = go (p j) refl (from-add p a b (suc j))
         rw (q, k, allFrom, e) r
     go false e r = let q : suc a + b ≡ suc (a + b) = omega arith in rw (q, allFrom, e)
 
-pub from-pass : (p : ℕ → Bool) (m j : ℕ) → 0 < m → p j ≡ true → allFrom p m j ≡ allFrom p (m - 1) (j + 1)
-from-pass p m j l t = from-go p m j l ∙ rw t
-
-pub from-stop : (p : ℕ → Bool) (m j : ℕ) → 0 < m → p j ≡ false → allFrom p m j ≡ false
-from-stop p m j l t = from-go p m j l ∙ rw t
-
 -- fields, from address f up to address e
 module _ (p : ℕ → Bool) (h : List ℕ) (f e : ℕ) (r : Bool) where
   pub fields-end : e ≤ f → (all p (slice f e h) && r) ≡ r

@@ -5,7 +5,7 @@ use Prim.Native.Nat.{_+_, _-_, _*_, _<_, _≤_}
 use native.Mathlib.Omega.{arith}
 use lib.Dec.{eqb}
 use Rattle.laws.specs.Lists.{allFrom}
-use Rattle.laws.proofs.Tests.{is-eqb, not-eqb, from-pass, from-stop, from-end}
+use Rattle.laws.proofs.Tests.{is-eqb, not-eqb, from-next, from-stop, from-end}
 use Rattle.rules.specs.Memory.{statusOf}
 use Rattle.chains.proofs.idle.Statement.{statement}
 use Rattle.chains.proofs.idle.Tie as tie
@@ -35,7 +35,7 @@ loop-less : tie.Need-loop-less Inv-loop μ-loop
 loop-less c = omega arith
 
 loop-again : tie.Need-loop-again Inv-loop μ-loop
-loop-again c = (sym (from-pass _ _ _ (c .before .before .before .loop-test .taken) (is-eqb _ _ _ (c .before .before .status-of .ensures) (c .before .if1 .left))) ∙ c .before .before .before .before .loop .inv .0, omega arith)
+loop-again c = (sym (from-next _ _ _ (c .before .before .before .loop-test .taken) (is-eqb _ _ _ (c .before .before .status-of .ensures) (c .before .if1 .left))) ∙ c .before .before .before .before .loop .inv .0, omega arith)
 
 returns-2 : tie.Need-returns-2 Inv-loop μ-loop
 returns-2 c = sym (from-end _ _ _ (c .loop-test .left)) ∙ c .before .loop .inv .0
