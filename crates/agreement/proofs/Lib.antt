@@ -1,1 +1,2 @@
 pub mod Matching
+pub mod Frames
