@@ -1,2 +1,4 @@
 pub mod Matching
 pub mod Frames
+pub mod Stuck
+pub mod Took
