@@ -20,11 +20,14 @@ use Rattle.agreement.proofs.Matching.{Noted, bare, above, Matching}
 
 -- ---- the scan stack
 
-pub noted-same : {t t′ : List ℕ} {ts : List Scan} → Noted t ts → length ts ≤ 64 → ((x : ℕ) → 256 ≤ x → x < 384 → at t′ x ≡ at t x) → Noted t′ ts
-noted-same bare few same = bare
-noted-same (above {ts = ts} e f rest) few same =
+pub noted-below : {t t′ : List ℕ} {ts : List Scan} → Noted t ts → ((x : ℕ) → 256 ≤ x → x < entry (length ts) → at t′ x ≡ at t x) → Noted t′ ts
+noted-below bare same = bare
+noted-below (above {ts = ts} e f rest) same =
     above (same (entry (length ts)) (omega arith) (omega arith) ∙ e) (same (entry (length ts) + 1) (omega arith) (omega arith) ∙ f)
-    (noted-same rest (omega arith) same)
+    (noted-below rest (λ x p q. same x p (omega arith)))
+
+pub noted-same : {t t′ : List ℕ} {ts : List Scan} → Noted t ts → length ts ≤ 64 → ((x : ℕ) → 256 ≤ x → x < 384 → at t′ x ≡ at t x) → Noted t′ ts
+noted-same m few same = noted-below m (λ x p q. same x p (omega arith))
 
 -- ---- a word set in two lists
 

@@ -78,7 +78,7 @@ module _ (s : Store) (S : Sound s) (g : Ghost) (r : Run) (I : Inv s S g r) where
     again b m = (unfold evacuateAt in (rw (I .logged .copies m .forward, evacuateAt, forward-head b)), stays (4 * a) (4 * b) (went (in-pointers (g .log) m)))
 
     module _ (new : (b : ℕ) → List·Memᴰ (to a b) (g .log) → ⊥) where
-      unfoldable pub value : Uncopied s g
+      abbrev pub value : Uncopied s g
       value =
           record {
             region = j;
@@ -152,7 +152,6 @@ module _ (s : Store) (S : Sound s) (g : Ghost) (r : Run) (I : Inv s S g r) where
       no-room e = let q : place n j (take (suc l) (drop a (r .heap))) r ≡ none = rw (ap (λ y. room n j y r) len ∙ e, place) in rw q
 
       now : ((evacuateAt n a r ≡ none) × Lacking s S (evacuateAtFor n a r .1)) ⊎ ((v : ℕ) × (r′ : Run) × (evacuateAt n a r ≡ some (v, r′)) × Became s S g r (4 * a) v r′)
-      unfolding value
       now = go (room-or n N R (g .own) (g .fin) (g .pages) (g .free) r (I .laid) j (suc l) (x .known) (let lo = steps-le (x .steps) in let hi = x .stands .ends in omega arith))
         where
           head : evacuateAt n a r ≡ moveTo n j a l r
