@@ -6,3 +6,5 @@ pub mod Rooms
 pub mod Wakes
 pub mod Heads
 pub mod Moves
+pub mod Words
+pub mod Fields
