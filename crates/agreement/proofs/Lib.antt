@@ -8,3 +8,6 @@ pub mod Heads
 pub mod Moves
 pub mod Words
 pub mod Fields
+pub mod Values
+pub mod Nexts
+pub mod Works
