@@ -33,7 +33,7 @@ use Rattle.motion.specs.Leaves.{Desk, desk, low, entry, depth, goOn, onStep, po
 use Rattle.motion.specs.Run as X
 use Rattle.motion.specs.Run.{Scanning, stepOn, step, workOn, workTurn}
 use Rattle.motion.specs.Whole as Y
-use Rattle.agreement.proofs.Matching.{Noted, above, Matching}
+use Rattle.agreement.proofs.Matching.{Noted, bare, above, Matching}
 use Rattle.agreement.proofs.Frames.{noted-same, by-owners, row-on, top-same}
 use Rattle.agreement.proofs.Stuck.{Stuck}
 use Rattle.agreement.proofs.Took.{low-is}
@@ -56,6 +56,7 @@ module _ (s : Store) (S : Sound s) (g : Ghost) (r : Run) (d : Desk) (M : Matchin
 
     top-is : {us : List Scan} → Noted (d .notes) us → us ≡ t ∷ ts
         → (at (d .notes) (entry (length ts)) ≡ t .address) × (at (d .notes) (entry (length ts) + 1) ≡ t .region) × Noted (d .notes) ts
+    top-is bare q = let z : _≡_ {A = ℕ} 0 1 = cc in absurd (omega arith)
     top-is (above {t = t′} {ts = ts′} a b rest) q =
         let p : t′ ≡ t = cc in
         let p′ : ts′ ≡ ts = cc in
