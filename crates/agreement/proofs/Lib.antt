@@ -11,3 +11,4 @@ pub mod Fields
 pub mod Values
 pub mod Nexts
 pub mod Works
+pub mod Freshens
