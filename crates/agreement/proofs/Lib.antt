@@ -12,3 +12,5 @@ pub mod Values
 pub mod Nexts
 pub mod Works
 pub mod Freshens
+pub mod Rooted
+pub mod Attempts
