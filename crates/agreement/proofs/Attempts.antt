@@ -1,18 +1,18 @@
 -- Steps 1 to 3, at work and in the plain run: both lack a page, or both have all scanned, and then the desk matches the run and the roots' new words
 -- are those that the plain run has.
-use Prim.Native.Nat.{ℕ, _+_, _*_, _^_, _≤_, _<_}
+use Prim.Native.Nat.{ℕ, _*_}
 use native.Mathlib.Omega.{arith}
-use mathlib.Core.Path.{_≡_, refl, sym, ap, _∙_, subst}
-use mathlib.Core.Logic.{_⊎_, inl, inr}
+use mathlib.Core.Path.{_≡_, sym, ap, _∙_, subst}
+use mathlib.Core.Logic.{inl, inr}
 use mathlib.Core.Bool.{Bool, true, false}
-use mathlib.Core.Option.{none, some}
-use mathlib.Core.List.{List, [], _∷_}
+use mathlib.Core.Option.{some}
+use mathlib.Core.List.{List}
 use lib.ListN.{length}
 use Rattle.laws.specs.Each.{After, after, each}
 use Rattle.rules.specs.declared.Refusal.{Refusal}
 use Rattle.rules.specs.Memory.{Store}
 use Rattle.rules.specs.Pages.{Run, begun}
-use Rattle.rules.specs.Collection.{finished, lacksPage, freshen, evacuateAll, workStack, ending, collected}
+use Rattle.rules.specs.Collection.{finished, freshen, evacuateAll, workStack, ending, collected}
 use Rattle.rules.specs.Refusals.{refused}
 use Rattle.facts.specs.View.{root}
 use Rattle.facts.proofs.Sound.{Sound}
@@ -23,11 +23,11 @@ use Rattle.working.proofs.Roots.{rel-grows, AllBecame}
 use Rattle.working.proofs.Running.{none-total, first, first-inv, Ran}
 use Rattle.working.proofs.Work.{Finished}
 use Rattle.motion.specs.declared.Step.{Step}
-use Rattle.motion.specs.Leaves.{Desk, desk, begunNotes, onStep}
+use Rattle.motion.specs.Leaves.{Desk, desk, begunNotes}
 use Rattle.motion.specs.Whole as Y
 use Rattle.motion.specs.Whole.{fresh, moveRoots, workDone, rootsDone, freshDone, attempt, writtenRoots}
 use Rattle.agreement.proofs.Matching.{Matching}
-use Rattle.agreement.proofs.Stuck.{Stuck, unmoved}
+use Rattle.agreement.proofs.Stuck.{Stuck}
 use Rattle.agreement.proofs.Freshens.{starts, Freshens, freshens}
 use Rattle.agreement.proofs.Rooted.{roots-written, Rooted, moves-all}
 use Rattle.agreement.proofs.Works.{WorksStack, works-stack}

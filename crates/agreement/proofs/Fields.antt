@@ -1,39 +1,31 @@
 -- The fields of a copy scanned at work and in the plain run, one after the other: a copy stands behind its page's descriptor, so both read the same
 -- word and set it alike.
-use Prim.Native.Nat.{ℕ, zero, suc, _+_, _*_, _/_, _%_, _^_, _≤_, _<_}
+use Prim.Native.Nat.{ℕ, zero, suc, _+_, _*_, _^_, _≤_, _<_}
 use native.Mathlib.Nat.{mul-le-mul-right}
 use native.Mathlib.Omega.{arith}
-use mathlib.Core.Path.{_≡_, refl, sym, ap, _∙_, subst}
+use mathlib.Core.Path.{_≡_, refl, ap, _∙_}
 use mathlib.Core.Logic.{_≢_, _⊎_, inl, inr}
 use mathlib.Core.Bool.{true, false}
 use mathlib.Core.Option.{none, some}
-use mathlib.Core.List.{List, [], _∷_, List·Memᴰ}
 use lib.ListN.{length, set}
-use borrow.Author.Tests.{eq-eqb, ne-eqb}
 use Rattle.laws.specs.Lists.{at}
 use Rattle.laws.specs.Each.{after, each}
 use Rattle.rules.specs.Memory.{Store}
-use Rattle.rules.specs.Words.{inHeap, wordOf, rec, headOf}
+use Rattle.rules.specs.Words.{rec, headOf}
 use Rattle.rules.specs.Pages.{Run, withHeap}
-use Rattle.rules.specs.Collection.{evacuateAt, evacuate, scanFields}
-use Rattle.rules.proofs.Pointers.{pointer, pointer-is}
-use Rattle.facts.specs.View.{seen, Reached}
+use Rattle.rules.specs.Collection.{evacuate, scanFields}
 use Rattle.facts.proofs.Steps.{steps-le}
 use Rattle.facts.proofs.Laid.{mine≢beyond}
-use Rattle.facts.proofs.Copied.{to, num, stay}
-use Rattle.facts.proofs.Sound.{Good, a-number, to-heap, to-const, Sound}
+use Rattle.facts.proofs.Sound.{Sound}
 use Rattle.working.proofs.Log.{Copy}
-use Rattle.working.proofs.Invariant.{Ghost, Kept, Inv, later-refl, Became}
-use Rattle.working.proofs.Fielding.{counted}
+use Rattle.working.proofs.Invariant.{Ghost, Kept, Inv, Became}
 use Rattle.working.proofs.Scanning.{Ready, field-good, field-reached, kind, len-is, unscanned, stepped}
-use Rattle.motion.specs.Leaves.{Desk, desk}
+use Rattle.motion.specs.Leaves.{Desk}
 use Rattle.motion.specs.Run as X
-use Rattle.motion.specs.Run.{move, evacuated, evacuateOf}
 use Rattle.agreement.proofs.Matching.{Matching}
-use Rattle.agreement.proofs.Frames.{Plain, by-owners, word-on, word-has}
+use Rattle.agreement.proofs.Frames.{by-owners}
 use Rattle.agreement.proofs.Stuck.{Stuck, stuck-moving}
-use Rattle.agreement.proofs.Heads.{pointer-rest, number-rest, const-rest}
-use Rattle.agreement.proofs.Moves.{body-plain, Moves, moves}
+use Rattle.agreement.proofs.Moves.{body-plain}
 use Rattle.agreement.proofs.Words.{Evacuates, evacuates, field-stops, field-goes}
 
 -- ---- the fields of the copy at b of the record at c

@@ -1,12 +1,12 @@
 -- What keeps the matching: words of both heaps, or of table and notes, changed alike. A word that changes in both is the same in both after it,
 -- and the rest of the matching does not speak of it.
-use Prim.Native.Nat.{ℕ, suc, _+_, _-_, _*_, _^_, _≤_, _<_}
+use Prim.Native.Nat.{ℕ, _+_, _-_, _*_, _^_, _≤_, _<_}
 use native.Mathlib.Nat.{add-zero}
 use native.Mathlib.Omega.{arith}
 use native.Mathlib.Decide.{ℕ-discrete}
 use mathlib.Core.Path.{_≡_, refl, sym, ap, _∙_}
 use mathlib.Core.Logic.{_≢_}
-use mathlib.Core.List.{List, [], _∷_, List·Memᴰ}
+use mathlib.Core.List.{List, List·Memᴰ}
 use lib.ListN.{length, set, length-set}
 use lib.Seq.{getD-set-same, getD-set-other}
 use Rattle.laws.specs.Lists.{at}
@@ -15,7 +15,7 @@ use Rattle.rules.specs.Pages.{Scan, Run, withHeap, withTable}
 use Rattle.facts.proofs.Laid.{Owner, mine}
 use Rattle.facts.proofs.Sound.{Sound}
 use Rattle.working.proofs.Invariant.{Ghost}
-use Rattle.motion.specs.Leaves.{Desk, desk, entry, depth}
+use Rattle.motion.specs.Leaves.{Desk, desk, entry}
 use Rattle.agreement.proofs.Matching.{Noted, bare, above, Matching}
 
 -- ---- the scan stack

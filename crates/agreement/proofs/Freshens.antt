@@ -1,14 +1,13 @@
 -- Fresh pages for the regions, at work and in the plain run, one after the other: each region's row is written alike when its page is taken. The rows
 -- that are not written yet do not count: until then the notes are compared with themselves.
-use Prim.Native.Nat.{ℕ, zero, suc, _+_, _-_, _*_, _^_, _≤_, _<_, zero-le}
+use Prim.Native.Nat.{ℕ, zero, suc, _+_, _-_, _*_, _^_, _<_, zero-le}
 use native.Mathlib.Numerals.{sub-one}
 use native.Mathlib.Omega.{arith}
-use native.Mathlib.Nat.{add-zero}
 use mathlib.Core.Path.{_≡_, refl, sym, ap, _∙_, subst}
 use mathlib.Core.Logic.{_≢_, _⊎_, inl, inr}
 use mathlib.Core.Bool.{true, false}
 use mathlib.Core.Option.{none, some}
-use mathlib.Core.List.{List, [], _∷_, List·Memᴰ, List·Memᴰ·head}
+use mathlib.Core.List.{List, [], _∷_, List·Memᴰ·head}
 use lib.ListN.{length, set, replicate, length-set, length-replicate, getD-replicate}
 use lib.Seq.{getD-set-same, getD-set-other}
 use borrow.Author.Tests.{ne-eqb}
@@ -16,17 +15,16 @@ use Rattle.laws.specs.Lists.{at}
 use Rattle.laws.specs.Each.{after, each}
 use Rattle.laws.proofs.Once.{Linked, linked-first, linked-none}
 use Rattle.rules.specs.Memory.{Store, pageCount, link, pageEnd, pageAddress, bodyAddress, setRow}
-use Rattle.rules.specs.Pages.{Run, begun, withTable, takePage}
+use Rattle.rules.specs.Pages.{Run, begun, withTable}
 use Rattle.rules.specs.Collection.{freshen}
 use Rattle.rules.proofs.Rows.{row-width, row-else}
-use Rattle.facts.proofs.Laid.{Owner, spare, mine, Layout, upd, spare≢beyond}
+use Rattle.facts.proofs.Laid.{mine, Layout, upd, spare≢beyond}
 use Rattle.facts.proofs.Sound.{Sound}
 use Rattle.working.proofs.Taken as K
 use Rattle.working.proofs.Fresh.{Fresh, fresh-start, start-own, start-free}
 use Rattle.working.proofs.Freshening.{fresh-step, step-own, step-free}
 use Rattle.working.proofs.Invariant.{Ghost}
 use Rattle.motion.specs.Leaves.{Desk, desk, depth, freeFirst, taken, freeLast, given, begunNotes}
-use Rattle.motion.specs.Run.{takeFree}
 use Rattle.motion.specs.Whole.{freshAt, freshOn, fresh}
 use Rattle.agreement.proofs.Matching.{Matching, bare}
 use Rattle.agreement.proofs.Frames.{set-alike, owning, by-owners, rows-on}

@@ -1,10 +1,10 @@
 -- What the work reads off a header or a word, by remainders, is what the plain run reads off it by cases.
-use Prim.Native.Nat.{ℕ, zero, suc, _+_, _*_, _/_, _%_}
+use Prim.Native.Nat.{ℕ, zero, suc, _*_, _/_, _%_}
 use native.Mathlib.Nat.{mul-mod-right, mul-div-right}
 use native.Mathlib.Omega.{arith}
 use mathlib.Core.Path.{_≡_, refl}
 use mathlib.Core.Logic.{_≢_}
-use mathlib.Core.Option.{none, some}
+use mathlib.Core.Option.{some}
 use Rattle.rules.specs.Words.{number, inHeap, inConst, wordOf, rec, raw, headBy, headOf, lengthBy}
 
 module _ (w l : ℕ) where

@@ -4,9 +4,9 @@ use Prim.Native.Nat.{ℕ, suc, _+_, _-_, _*_, _/_, _%_, _^_, _≤_, _<_}
 use native.Mathlib.Nat.{mul-le-mul-right}
 use native.Mathlib.Omega.{arith}
 use native.Mathlib.Decide.{ℕ-discrete, decLt}
-use mathlib.Core.Path.{_≡_, refl, sym, ap, _∙_, subst}
+use mathlib.Core.Path.{_≡_, refl, sym, ap, _∙_}
 use mathlib.Core.Logic.{_≢_, _⊎_, inl, inr}
-use mathlib.Core.Bool.{Bool, true, false, _&&_, _||_}
+use mathlib.Core.Bool.{Bool, true, false, _||_}
 use mathlib.Core.Option.{none, some}
 use mathlib.Core.List.{List, [], _∷_, List·Memᴰ, List·Memᴰ·head}
 use lib.ListN.{length, take, drop, set, length-set, length-drop}
@@ -19,16 +19,15 @@ use Rattle.laws.proofs.Facts.{and-of}
 use Rattle.laws.proofs.Lists.{apart as pages-apart, part-same, length-put, at-put-below, at-put-in, at-put-above}
 use Rattle.rules.specs.Memory.{Store, pageCount, origin, endOf, topOf, statusOf, setTop}
 use Rattle.rules.specs.Words.{headOf}
-use Rattle.rules.specs.Pages.{Run, withHeap, withTable, store}
+use Rattle.rules.specs.Pages.{Run, withHeap, store}
 use Rattle.rules.specs.Pages as Q
 use Rattle.rules.specs.Collection.{regionAt, evacuateAt, moveTo, wake}
 use Rattle.rules.proofs.Chains.{page-of}
 use Rattle.facts.specs.View.{seen, Reached}
 use Rattle.facts.proofs.Steps.{steps-le}
-use Rattle.facts.proofs.Laid.{Owner, old, spare, mine, old≢spare, old≢mine, old≢beyond, mine≢beyond}
+use Rattle.facts.proofs.Laid.{old, mine, old≢spare, old≢mine, old≢beyond, mine≢beyond}
 use Rattle.facts.proofs.Copied.{to, went}
 use Rattle.facts.proofs.Sound.{InHeap, Sound}
-use Rattle.working.proofs.Log.{Evacuated}
 use Rattle.working.proofs.Placed.{Roomed}
 use Rattle.working.proofs.Invariant.{Ghost, Inv, later-refl, Became}
 use Rattle.working.proofs.Evacuating.{in-log, in-pointers, room-or}
@@ -41,12 +40,12 @@ use Rattle.working.proofs.CopyPending as G
 use Rattle.working.proofs.CopyInv.{copied-inv}
 use Rattle.working.proofs.Waking.{entry}
 use Rattle.motion.specs.Leaves as W
-use Rattle.motion.specs.Leaves.{Desk, desk, low, regionOn, pageStart, apart, copied, forwarded}
+use Rattle.motion.specs.Leaves.{Desk, desk, low, regionOn, apart, copied, forwarded}
 use Rattle.motion.specs.Run as X
 use Rattle.motion.specs.Run.{room, move, moveOf, moveOn}
 use Rattle.agreement.proofs.Matching.{Matching}
 use Rattle.agreement.proofs.Frames.{Plain, owning, by-owners, heap-on, word-on, row-on, top-same}
-use Rattle.agreement.proofs.Heads.{header-odd, pointer-rest}
+use Rattle.agreement.proofs.Heads.{header-odd}
 use Rattle.agreement.proofs.Took.{low-is, start-is}
 use Rattle.agreement.proofs.Rooms.{no-room, Room, rooms}
 use Rattle.agreement.proofs.Wakes.{stack-few, wakes}

@@ -1,27 +1,25 @@
 -- Where the scan goes on, at work and in the plain run: both read the same header, the same word behind the value (none where the value ends its page)
 -- and the same link.
-use Prim.Native.Nat.{ℕ, zero, suc, _+_, _-_, _*_, _/_, _%_, _^_, _≤_, _<_}
+use Prim.Native.Nat.{ℕ, suc, _+_, _-_, _*_, _/_, _%_, _^_, _≤_, _<_}
 use native.Mathlib.Nat.{mul-le-mul-right, mul-mod-left}
-use native.Mathlib.Numerals.{sub-one}
 use native.Mathlib.Omega.{arith}
 use native.Mathlib.Decide.{ℕ-discrete}
 use mathlib.Core.Path.{_≡_, refl, sym, ap, _∙_, subst}
 use mathlib.Core.Logic.{_≢_, _⊎_, inl, inr}
 use mathlib.Core.Bool.{Bool, true, false, _||_}
 use mathlib.Core.List.{List, [], _∷_, List·Memᴰ, List·Memᴰ·head, List·Memᴰ·tail, List·Memᴰ·cases-cons}
-use lib.ListN.{length}
 use lib.Dec.{eqb}
 use borrow.Author.Tests.{eqb-false}
 use Rattle.laws.specs.Lists.{at}
 use Rattle.laws.proofs.Once.{Linked, linked-first, linked-none}
-use Rattle.rules.specs.Memory.{Store, pageCount, link, linkPage, topOf}
+use Rattle.rules.specs.Memory.{Store, pageCount, link, topOf}
 use Rattle.rules.specs.Words.{headOf, wordsBy}
 use Rattle.rules.specs.Pages.{Run}
 use Rattle.rules.specs.Collection.{nextFrom, nextScan}
 use Rattle.rules.proofs.Chains.{page-of}
 use Rattle.rules.proofs.Pointers.{words-of}
 use Rattle.facts.proofs.Steps.{steps-le}
-use Rattle.facts.proofs.Laid.{mine, mine≢beyond}
+use Rattle.facts.proofs.Laid.{mine≢beyond}
 use Rattle.facts.proofs.Sound.{Sound}
 use Rattle.working.proofs.Rows.{InRow}
 use Rattle.working.proofs.Invariant.{Ghost, Inv}

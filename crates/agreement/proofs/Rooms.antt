@@ -6,7 +6,7 @@ use native.Mathlib.Omega.{arith}
 use mathlib.Core.Path.{_≡_, refl, sym, ap, _∙_, subst}
 use mathlib.Core.Logic.{_≢_, _⊎_, inl, inr}
 use mathlib.Core.Bool.{true, false}
-use mathlib.Core.List.{List, [], _∷_, List·Memᴰ, List·Memᴰ·head}
+use mathlib.Core.List.{List, [], _∷_, List·Memᴰ·head}
 use lib.ListN.{length, set, length-set}
 use lib.Dec.{leb}
 use borrow.Author.Tests.{ne-eqb, lt-leb}
@@ -14,13 +14,13 @@ use Rattle.laws.specs.Each.{after}
 use Rattle.laws.proofs.Once.{linked-none, last-in, Linked}
 use Rattle.rules.specs.Memory.{Store, pageCount, link, endOf, topOf}
 use Rattle.rules.specs.Pages.{Run, withHeap, withTable, join}
-use Rattle.facts.proofs.Laid.{Owner, mine, spare, Layout, upd, mine≢beyond, spare≢beyond}
+use Rattle.facts.proofs.Laid.{mine, Layout, upd, mine≢beyond, spare≢beyond}
 use Rattle.facts.proofs.Sound.{Sound}
 use Rattle.working.proofs.Taken.{taken}
 use Rattle.working.proofs.Placed.{Roomed}
 use Rattle.working.proofs.Invariant.{Ghost}
 use Rattle.motion.specs.Leaves.{Desk, desk}
-use Rattle.motion.specs.Run.{takeFree, joinAt, joinOn, room}
+use Rattle.motion.specs.Run.{joinAt, joinOn, room}
 use Rattle.agreement.proofs.Matching.{Matching}
 use Rattle.agreement.proofs.Frames.{owning, by-owners, word-on, row-on, end-same, top-same}
 use Rattle.agreement.proofs.Took as T

@@ -1,8 +1,8 @@
 -- The roots evacuated in order, at work and in the plain run. At work only their values are moved; each root's new word is the forward in its value's
 -- old header, which stays there to the end.
-use Prim.Native.Nat.{ℕ, zero, suc, _+_, _*_, _/_, _%_, _^_, _≤_, _<_, zero-le, suc-le-suc}
+use Prim.Native.Nat.{ℕ, zero, suc, _*_, _/_, _%_, _<_, zero-le, suc-le-suc}
 use native.Mathlib.Omega.{arith}
-use mathlib.Core.Path.{_≡_, refl, sym, ap, _∙_}
+use mathlib.Core.Path.{_≡_, refl, ap, _∙_}
 use mathlib.Core.Logic.{_⊎_, inl, inr}
 use mathlib.Core.Bool.{true, false}
 use mathlib.Core.Option.{none, some}
@@ -14,7 +14,6 @@ use Rattle.laws.specs.Lists.{at}
 use Rattle.laws.specs.Each.{after, eachOf}
 use Rattle.laws.proofs.Copies.{at-map}
 use Rattle.rules.specs.Memory.{Store}
-use Rattle.rules.specs.Words.{wordOf}
 use Rattle.rules.specs.Pages.{Run}
 use Rattle.rules.specs.Collection.{evacuate, evacuateAll}
 use Rattle.rules.proofs.Pointers.{is-number}

@@ -4,14 +4,14 @@ use Prim.Native.Nat.{ℕ, _+_, _*_, _^_, _<_}
 use native.Mathlib.Omega.{arith}
 use mathlib.Core.Path.{_≡_, sym, ap, _∙_}
 use mathlib.Core.Logic.{_≢_, _↔_}
-use mathlib.Core.List.{List, [], List·Memᴰ, List·Memᴰ·eq-of-singleton}
+use mathlib.Core.List.{[], List·Memᴰ, List·Memᴰ·eq-of-singleton}
 use mathlib.Core.Option.{none}
 use lib.ListN.{length}
 use Rattle.laws.proofs.Once.{once-none}
 use Rattle.rules.specs.Memory.{Store, pageCount}
 use Rattle.rules.specs.Pages.{Run, withTable}
 use Rattle.facts.proofs.Steps.{steps-le}
-use Rattle.facts.proofs.Laid.{Owner, old, beyond, mine}
+use Rattle.facts.proofs.Laid.{old, beyond, mine}
 use Rattle.facts.proofs.Sound.{Sound}
 use Rattle.working.proofs.Owned.{Owned}
 use Rattle.working.proofs.Log.{Log}

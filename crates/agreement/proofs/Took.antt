@@ -1,23 +1,23 @@
 -- A page taken at work and in the plain run: the same page, with link 0 in both. At work its origin word keeps its free link, which is the one that
 -- it had at the start, since the free list is what is left of that list.
-use Prim.Native.Nat.{ℕ, zero, suc, _+_, _-_, _*_, _%_, _^_, _≤_, _<_}
+use Prim.Native.Nat.{ℕ, suc, _+_, _-_, _*_, _^_, _≤_, _<_}
 use native.Mathlib.Nat.{mul-le-mul-left, mul-le-mul-right, mod-eq-of-lt}
 use native.Mathlib.Numerals.{sub-one}
 use native.Mathlib.Omega.{arith}
 use native.Mathlib.Decide.{ℕ-discrete}
-use mathlib.Core.Path.{_≡_, refl, sym, ap, _∙_, subst}
+use mathlib.Core.Path.{_≡_, refl, sym, ap, _∙_}
 use mathlib.Core.Logic.{_≢_, _⊎_, inl, inr}
 use mathlib.Core.List.{List, [], _∷_, _++_, append-assoc, List·Memᴰ, List·Memᴰ·head, Memᴰ·append-left, Memᴰ·append-right}
 use lib.ListN.{length, set, length-set, length-append}
 use lib.Seq.{getD-set-same, getD-set-other}
-use borrow.Author.Tests.{le-leb, ne-eqb, eq-eqb}
+use borrow.Author.Tests.{le-leb, ne-eqb}
 use Rattle.laws.specs.Lists.{at}
 use Rattle.laws.specs.Each.{after}
 use Rattle.laws.proofs.Lists.{apart}
 use Rattle.laws.proofs.Once.{Linked, linked-first, linked-none, in-snoc, once-most}
 use Rattle.rules.specs.Memory.{Store, pageCount, link}
 use Rattle.rules.specs.Pages.{Run}
-use Rattle.facts.proofs.Laid.{Owner, spare, mine, Layout, upd, upd-same, upd-other, spare≢mine, spare≢beyond, mine≢beyond}
+use Rattle.facts.proofs.Laid.{Owner, spare, mine, Layout, upd, upd-same, upd-other, spare≢mine, spare≢beyond}
 use Rattle.facts.proofs.Sound.{Sound}
 use Rattle.working.proofs.Taken as T
 use Rattle.working.proofs.Invariant.{Ghost}

@@ -1,11 +1,11 @@
 -- A copy scanned at work and in the plain run: both read the same header, and a record's fields go alike.
-use Prim.Native.Nat.{ℕ, suc, _+_, _*_, _/_, _%_, _^_, _≤_, _<_}
+use Prim.Native.Nat.{ℕ, suc, _+_, _/_, _%_, _≤_}
 use native.Mathlib.Omega.{arith}
-use mathlib.Core.Path.{_≡_, refl, sym, ap, _∙_, subst}
+use mathlib.Core.Path.{_≡_, refl, sym, ap, _∙_}
 use mathlib.Core.Logic.{_≢_, _⊎_, inl, inr}
 use mathlib.Core.Bool.{true, false}
 use mathlib.Core.Option.{none, some}
-use mathlib.Core.List.{List, [], _∷_, List·Memᴰ}
+use mathlib.Core.List.{List, _∷_, List·Memᴰ}
 use borrow.Author.Tests.{eq-eqb, ne-eqb}
 use Rattle.laws.specs.Lists.{at}
 use Rattle.laws.specs.Each.{after, each}
@@ -20,7 +20,7 @@ use Rattle.working.proofs.Log.{Copy}
 use Rattle.working.proofs.Invariant.{Ghost, Kept, Inv, later-refl}
 use Rattle.working.proofs.Scanning.{Ready}
 use Rattle.working.proofs.Turn as T
-use Rattle.working.proofs.Turn.{opened, closed, Turned, b-fresh, b-gone, turned}
+use Rattle.working.proofs.Turn.{opened, Turned, b-fresh, b-gone, turned}
 use Rattle.motion.specs.Leaves.{Desk}
 use Rattle.motion.specs.Run as X
 use Rattle.motion.specs.Run.{scanOf}

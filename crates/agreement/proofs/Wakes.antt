@@ -1,14 +1,12 @@
 -- A region woken at work and in the plain run: its status is read alike, and the entry of the scan stack goes where the depth says. No region stands
 -- there twice, so there is room for it.
-use Prim.Native.Nat.{ℕ, zero, suc, _+_, _*_, _^_, _≤_, _<_}
+use Prim.Native.Nat.{ℕ, zero, suc, _+_, _*_, _≤_, _<_}
 use native.Mathlib.Omega.{arith}
-use mathlib.Core.Path.{_≡_, refl, sym, ap, _∙_, subst}
-use mathlib.Core.Logic.{_≢_, _⊎_, inl, inr}
-use mathlib.Core.Bool.{true, false}
+use mathlib.Core.Path.{_≡_, refl, ap, _∙_}
+use mathlib.Core.Logic.{_≢_}
 use mathlib.Core.List.{List, [], _∷_, List·Memᴰ}
 use lib.ListN.{length, set, length-set}
 use lib.Seq.{getD-set-same, getD-set-other}
-use lib.Dec.{eqb}
 use borrow.Author.Tests.{eq-eqb, ne-eqb}
 use Rattle.laws.specs.Lists.{at}
 use Rattle.laws.proofs.Once.{once-most}
@@ -20,7 +18,7 @@ use Rattle.working.proofs.Invariant.{Ghost, regionsOf, Inv}
 use Rattle.working.proofs.Waking.{of-regions}
 use Rattle.motion.specs.Leaves as W
 use Rattle.motion.specs.Leaves.{Desk, desk, low, entry, depth, wakeOn}
-use Rattle.agreement.proofs.Matching.{Matching, Noted, above}
+use Rattle.agreement.proofs.Matching.{Matching, above}
 use Rattle.agreement.proofs.Frames.{noted-below, row-on, status-same}
 use Rattle.agreement.proofs.Took.{low-is}
 

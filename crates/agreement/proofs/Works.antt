@@ -1,20 +1,20 @@
 -- The scan stack worked, at work and in the plain run, step for step with the same fuel: both scan the same copy or leave the same region, and the
 -- entry on top is the same.
-use Prim.Native.Nat.{ℕ, zero, suc, _+_, _-_, _*_, _^_, _≤_, _<_}
+use Prim.Native.Nat.{ℕ, zero, suc, _+_, _-_, _*_, _≤_, _<_}
 use native.Mathlib.Numerals.{sub-one}
 use native.Mathlib.Omega.{arith}
 use mathlib.Core.Path.{_≡_, refl, sym, ap, _∙_, subst}
 use mathlib.Core.Logic.{_≢_, _⊎_, inl, inr}
-use mathlib.Core.Bool.{Bool, true, false}
+use mathlib.Core.Bool.{true, false}
 use mathlib.Core.Option.{none, some}
-use mathlib.Core.List.{List, [], _∷_, _++_, append-assoc, List·Memᴰ, List·Memᴰ·head, Memᴰ·append-left, Memᴰ·append-right}
+use mathlib.Core.List.{List, [], _∷_, List·Memᴰ, List·Memᴰ·head, Memᴰ·append-left, Memᴰ·append-right}
 use lib.ListN.{length, set, length-set}
 use lib.Seq.{getD-set-same, getD-set-other}
 use lib.Dec.{eqb}
 use borrow.Author.Tests.{eq-eqb, ne-eqb}
 use Rattle.laws.specs.Lists.{at}
 use Rattle.laws.specs.Each.{After, after}
-use Rattle.laws.specs.Loop.{Turn, more, over, loop}
+use Rattle.laws.specs.Loop.{loop}
 use Rattle.rules.specs.Memory.{Store, topOf, setStatus}
 use Rattle.rules.specs.Pages.{Scan, Run, withTable, withStack}
 use Rattle.rules.specs.Collection.{finished, lacksPage, scanValue, nextScan, work, workStack}
@@ -29,7 +29,7 @@ use Rattle.working.proofs.Leaving.{scanning, left, left-last, left-next}
 use Rattle.working.proofs.Work.{Finished, log-bound, not-top, next}
 use Rattle.working.proofs.Roots.{entered-inv}
 use Rattle.motion.specs.declared.Step.{Step}
-use Rattle.motion.specs.Leaves.{Desk, desk, low, entry, depth, goOn, onStep, popOn, pop}
+use Rattle.motion.specs.Leaves.{Desk, desk, low, entry, depth, goOn, popOn, pop}
 use Rattle.motion.specs.Run as X
 use Rattle.motion.specs.Run.{Scanning, stepOn, step, workOn, workTurn}
 use Rattle.motion.specs.Whole as Y
