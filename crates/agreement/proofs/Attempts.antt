@@ -25,22 +25,13 @@ use Rattle.working.proofs.Work.{Finished}
 use Rattle.motion.specs.declared.Step.{Step}
 use Rattle.motion.specs.Leaves.{Desk, desk, begunNotes}
 use Rattle.motion.specs.Whole as Y
-use Rattle.motion.specs.Whole.{fresh, moveRoots, workDone, rootsDone, freshDone, attempt, writtenRoots}
+use Rattle.motion.specs.Whole.{fresh, moveRoots, workDone, rootsDone, freshDone, writtenRoots}
 use Rattle.agreement.proofs.Matching.{Matching}
 use Rattle.agreement.proofs.Stuck.{Stuck}
 use Rattle.agreement.proofs.Freshens.{starts, Freshens, freshens}
 use Rattle.agreement.proofs.Rooted.{roots-written, Rooted, moves-all}
 use Rattle.agreement.proofs.Works.{WorksStack, works-stack}
-
--- what steps 1 to 3 at work come to
-abbrev pub tried : Store → After Bool Desk
-tried s = attempt (s .ctl .n) (s .ctl .regions) (2 * length (s .heap)) (s .roots) (desk (s .heap) (begunNotes (s .ctl .first) (s .ctl .last)))
-
--- steps 1 to 3 at work against the plain ones: a page is lacking in both, or all is scanned in both
-pub data Attempted (s : Store) (S : Sound s) : Type 0 where
-  lacks : collected s ≡ refused s Refusal.NoPage → tried s .answer ≡ false → Stuck s S (tried s .state) → Attempted s S
-  scanned : (roots : List ℕ) (r : Run) → collected s ≡ ending s roots (finished r) → (A : Ran s S roots r) → tried s .answer ≡ true
-      → Matching s S (A .end .ghost) r (tried s .state) → writtenRoots (tried s .state .heap) (s .roots) ≡ roots → Attempted s S
+use Rattle.agreement.proofs.Ended.{tried, Attempted, lacks, scanned}
 
 module _ (s : Store) (S : Sound s) where
   abbrev n : ℕ

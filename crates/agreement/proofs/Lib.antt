@@ -13,4 +13,12 @@ pub mod Nexts
 pub mod Works
 pub mod Freshens
 pub mod Rooted
+pub mod Walked
+pub mod Restored
+pub mod Undone
+pub mod Origins
+pub mod GivenBack
+pub mod Done
+pub mod Ended
 pub mod Attempts
+pub mod Agrees
