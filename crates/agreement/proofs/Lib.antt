@@ -1,5 +1,18 @@
 pub mod Matching
+pub mod Frames
 pub mod Stuck
+pub mod Took
+pub mod Rooms
+pub mod Wakes
+pub mod Heads
+pub mod Moves
+pub mod Words
+pub mod Fields
+pub mod Values
+pub mod Nexts
+pub mod Works
+pub mod Freshens
+pub mod Rooted
 pub mod Walked
 pub mod Restored
 pub mod Undone
@@ -7,3 +20,5 @@ pub mod Origins
 pub mod GivenBack
 pub mod Done
 pub mod Ended
+pub mod Attempts
+pub mod Agrees

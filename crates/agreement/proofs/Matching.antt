@@ -35,5 +35,6 @@ pub record Matching (s : Store) (S : Sound s) (g : Ghost) (r : Run) (d : Desk) :
   pub taken-count : at (d .notes) taken ≡ length took
   pub free-last : at (d .notes) freeLast ≡ s .ctl .last
   pub given-none : at (d .notes) given ≡ 0
+  pub shallow : length (r .stack) ≤ 64
   pub deep : at (d .notes) depth ≡ length (r .stack)
   pub noted : Noted (d .notes) (r .stack)

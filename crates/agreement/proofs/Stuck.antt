@@ -4,14 +4,14 @@ use Prim.Native.Nat.{ℕ, _+_, _*_, _^_, _<_}
 use native.Mathlib.Omega.{arith}
 use mathlib.Core.Path.{_≡_, sym, ap, _∙_}
 use mathlib.Core.Logic.{_≢_, _↔_}
-use mathlib.Core.List.{List, [], List·Memᴰ, List·Memᴰ·eq-of-singleton}
+use mathlib.Core.List.{[], List·Memᴰ, List·Memᴰ·eq-of-singleton}
 use mathlib.Core.Option.{none}
 use lib.ListN.{length}
 use Rattle.laws.proofs.Once.{once-none}
 use Rattle.rules.specs.Memory.{Store, pageCount}
-use Rattle.rules.specs.Pages.{Run}
+use Rattle.rules.specs.Pages.{Run, withTable}
 use Rattle.facts.proofs.Steps.{steps-le}
-use Rattle.facts.proofs.Laid.{Owner, old, beyond, mine}
+use Rattle.facts.proofs.Laid.{old, beyond, mine}
 use Rattle.facts.proofs.Sound.{Sound}
 use Rattle.working.proofs.Owned.{Owned}
 use Rattle.working.proofs.Log.{Log}
@@ -64,11 +64,12 @@ unmoved F =
       half = none;
     }
 
-pub stuck-fresh : (s : Store) (S : Sound s) (j : ℕ) (r : Run) (d : Desk) → j < s .ctl .regions → (F : Fresh s S j r) → Matching s S (unmoved F) r d → F .free ≡ [] → Stuck s S d
+-- rows that are not written yet do not count
+pub stuck-fresh : (s : Store) (S : Sound s) (j : ℕ) (r : Run) (d : Desk) → j < s .ctl .regions → (F : Fresh s S j r) → Matching s S (unmoved F) (withTable r (d .notes)) d → F .free ≡ [] → Stuck s S d
 stuck-fresh s S j r d jR F M e =
     record {
       ghost = unmoved F;
-      run = r;
+      run = withTable r (d .notes);
       matching = M;
       none-free = e;
       size = F .laid .size;

@@ -52,7 +52,7 @@ module _ (s : Store) (S : Sound s) (g : Ghost) (r : Run) (I : Inv s S g r) where
   stays w v rel = record { ghost = g; inv = I; later = later-refl R g r; rel = rel; count = λ q. refl }
 
   -- the page of a good pointer is an old one
-  old-page : (a : ℕ) (x : InHeap n R (s .heap) a) → g .own (x .page) ≡ old
+  pub old-page : (a : ℕ) (x : InHeap n R (s .heap) a) → g .own (x .page) ≡ old
   old-page a x = go (S .chained (x .page) (x .there))
     where
       go : Chained R (S .own) (S .pages) (S .free) (x .page) → g .own (x .page) ≡ old
@@ -74,11 +74,11 @@ module _ (s : Store) (S : Sound s) (g : Ghost) (r : Run) (I : Inv s S g r) where
     l = x .len
 
     -- it was moved before
-    again : (b : ℕ) → List·Memᴰ (to a b) (g .log) → (evacuateAt n a r ≡ some (4 * b, r)) × Became s S g r (4 * a) (4 * b) r
+    pub again : (b : ℕ) → List·Memᴰ (to a b) (g .log) → (evacuateAt n a r ≡ some (4 * b, r)) × Became s S g r (4 * a) (4 * b) r
     again b m = (unfold evacuateAt in (rw (I .logged .copies m .forward, evacuateAt, forward-head b)), stays (4 * a) (4 * b) (went (in-pointers (g .log) m)))
 
     module _ (new : (b : ℕ) → List·Memᴰ (to a b) (g .log) → ⊥) where
-      value : Uncopied s g
+      abbrev pub value : Uncopied s g
       value =
           record {
             region = j;
@@ -95,12 +95,12 @@ module _ (s : Store) (S : Sound s) (g : Ghost) (r : Run) (I : Inv s S g r) where
           }
 
       -- the value's header and its region, as the heap has them now
-      header : at (r .heap) a ≡ at (s .heap) a
+      pub header : at (r .heap) a ≡ at (s .heap) a
       header =
           ap (at (r .heap)) (sym (add-zero a)) ∙ still n s (Kept s) (g .own) (g .fin) (r .heap) (g .log) (g .count) (I .logged) f a l (old-page a x) (x .steps) (x .stands) new 0 zero-le
           ∙ ap (at (s .heap)) (add-zero a)
 
-      region : regionAt n (r .heap) a ≡ j
+      pub region : regionAt n (r .heap) a ≡ j
       unfolding regionAt origin
       region =
           let lo = steps-le (x .steps) in
@@ -109,7 +109,7 @@ module _ (s : Store) (S : Sound s) (g : Ghost) (r : Run) (I : Inv s S g r) where
           = still-whose n s (Kept s) (g .own) (g .fin) (r .heap) (g .log) (g .count) (I .logged) f a l (old-page a x) (x .steps) (x .stands) new ∙ x .whose in
           rw (page-of n f a (omega arith) (omega arith)) (omega arith)
 
-      by-head : (y : Head) → headOf (at (s .heap) a) ≡ y → lengthBy y ≡ some l → evacuateAt n a r ≡ moveTo n j a l r
+      pub by-head : (y : Head) → headOf (at (s .heap) a) ≡ y → lengthBy y ≡ some l → evacuateAt n a r ≡ moveTo n j a l r
       unfolding evacuateAt
       by-head (rec m) q t = let e : headOf (at (r .heap) a) ≡ rec m = ap headOf header ∙ q in let d : m ≡ l = cc in rw (e, evacuateAt, region, d)
       by-head (raw m) q t = let e : headOf (at (r .heap) a) ≡ raw m = ap headOf header ∙ q in let d : m ≡ l = cc in rw (e, evacuateAt, region, d)
@@ -147,12 +147,11 @@ module _ (s : Store) (S : Sound s) (g : Ghost) (r : Run) (I : Inv s S g r) where
           rw (by-head-for (headOf (at (s .heap) a)) refl (x .stands .head), test, roomFor)
           (forward-dry n (length (s .heap) + 2 ^ n) j a ws (joined n j (anyPage n j r)) (join-dry n (length (s .heap) + 2 ^ n) j (anyPage n j r) (page-dry n (length (s .heap)) j r dry)))
 
-      no-room : room n j (suc l) r ≡ none → moveTo n j a l r ≡ none
+      pub no-room : room n j (suc l) r ≡ none → moveTo n j a l r ≡ none
       unfolding moveTo place moveOn
       no-room e = let q : place n j (take (suc l) (drop a (r .heap))) r ≡ none = rw (ap (λ y. room n j y r) len ∙ e, place) in rw q
 
       now : ((evacuateAt n a r ≡ none) × Lacking s S (evacuateAtFor n a r .1)) ⊎ ((v : ℕ) × (r′ : Run) × (evacuateAt n a r ≡ some (v, r′)) × Became s S g r (4 * a) v r′)
-      unfolding value
       now = go (room-or n N R (g .own) (g .fin) (g .pages) (g .free) r (I .laid) j (suc l) (x .known) (let lo = steps-le (x .steps) in let hi = x .stands .ends in omega arith))
         where
           head : evacuateAt n a r ≡ moveTo n j a l r

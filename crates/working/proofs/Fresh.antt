@@ -132,3 +132,12 @@ module _ (s : Store) (S : Sound s) where
         taken = let c = S .laid .free-count in omega arith;
         stack = refl;
       }
+
+  -- no page is a region's yet
+  pub start-own : (k j : ℕ) → fresh-start .own k ≡ mine j → ⊥
+  unfolding fresh-start
+  start-own k j o = aged-mine (S .own k) o
+
+  pub start-free : S .free ≡ fresh-start .free
+  unfolding fresh-start
+  start-free = refl

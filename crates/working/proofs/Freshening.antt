@@ -200,6 +200,15 @@ module _ (s : Store) (S : Sound s) (j : ℕ) (r : Run) (F : Fresh s S j r) (jR :
         stack = same-stack ∙ F .stack;
       }
 
+  -- the page is the region's, and no longer free
+  pub step-own : own′ ≡ fresh-step .own
+  unfolding fresh-step
+  step-own = refl
+
+  pub step-free : ks ≡ fresh-step .free
+  unfolding fresh-step
+  step-free = refl
+
 -- ---- all of them
 
 module _ (s : Store) (S : Sound s) where

@@ -43,6 +43,9 @@ pub record Roomed (n N R : ℕ) (own : ℕ → Owner) (fin : ℕ → ℕ) (pages
   pub width : length (r .table) ≡ length (r₀ .table)
   pub row-kept : (x : ℕ) → x ≢ 4 * j → x ≢ 4 * j + 2 → at (r .table) x ≡ at (r₀ .table) x
   pub stack-kept : r .stack ≡ r₀ .stack
+  -- there was room, or a page was taken
+  pub how : ((leb (topOf (r₀ .table) j + m) (endOf (r₀ .table) j) ≡ true) × (r₀ ≡ r) × (own ≡ own₁) × (free ≡ free₁))
+      ⊎ ((leb (topOf (r₀ .table) j + m) (endOf (r₀ .table) j) ≡ false) × ((k : ℕ) × (free ≡ k ∷ free₁) × (join n j k (taken n j k r₀) ≡ r) × (upd own k (mine j) ≡ own₁)))
 
 module _ (n N R : ℕ) (own : ℕ → Owner) (fin : ℕ → ℕ) (pages : ℕ → List ℕ) (r : Run) (j m : ℕ) (jR : j < R) (small : m + 2 ≤ 2 ^ n) where
   -- there was room
@@ -70,6 +73,7 @@ module _ (n N R : ℕ) (own : ℕ → Owner) (fin : ℕ → ℕ) (pages : ℕ �
       width = refl;
       row-kept = λ x p q. refl;
       stack-kept = refl;
+      how = inl (e, refl, refl, refl);
     },
   )
 
@@ -188,5 +192,6 @@ module _ (n N R : ℕ) (own : ℕ → Owner) (fin : ℕ → ℕ) (pages : ℕ �
         width = same-width;
         row-kept = same-row;
         stack-kept = same-stack;
+        how = inr (e, (k, refl, refl, refl));
       },
     )

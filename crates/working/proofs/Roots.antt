@@ -133,7 +133,7 @@ module _ (s : Store) (S : Sound s) where
         go i (inl m) = by i (List·Memᴰ·cases-cons (rw e at m))
         go i (inr q) = let z : none ≡ some i = sym none-cur ∙ q in let z′ : _≡_ {A = ℕ} 0 1 = cc in absurd (omega arith)
 
-    entered-inv : Inv s S (scanning g (some (t .region))) (withStack r ts)
+    pub entered-inv : Inv s S (scanning g (some (t .region))) (withStack r ts)
     entered-inv =
         record {
           laid = stack-laid n (pageCount n (s .heap)) R (g .own) (g .fin) (g .pages) (g .free) r (I .laid) ts;

@@ -36,7 +36,7 @@ unfolding total
 total-ones f zero e = refl
 total-ones f (suc m) e = let t = e m (omega arith) in let u = total-ones f m (λ i b. e i (omega arith)) in rw (t .1) (omega arith)
 
-none-total : (m : ℕ) → total (λ j. []) m ≡ 0
+pub none-total : (m : ℕ) → total (λ j. []) m ≡ 0
 unfolding total
 none-total zero = refl
 none-total (suc m) = let e = none-total m in omega arith

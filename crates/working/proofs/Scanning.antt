@@ -90,22 +90,22 @@ module _ (s : Store) (S : Sound s) (g₀ : Ghost) (r₀ : Run) (c d l : ℕ) whe
     pub gone : (j : ℕ) → j < s .ctl .regions → List·Memᴰ d (ghost .todo j) → ⊥
 
   module _ (head : headOf (at (s .heap) c) ≡ rec l) where
-    len-is : {r : Run} {i : ℕ} (Q : Ready r i) → Q .inv .logged .copies (Q .entry) .len ≡ l
+    pub len-is : {r : Run} {i : ℕ} (Q : Ready r i) → Q .inv .logged .copies (Q .entry) .len ≡ l
     len-is Q = let e = Q .inv .logged .copies (Q .entry) .from-stands .head in let t : lengthBy (headOf (at (s .heap) c)) ≡ some l = ap lengthBy head in cc
 
-    kind : isRecord (at (s .heap) c) ≡ true
+    pub kind : isRecord (at (s .heap) c) ≡ true
     unfolding isRecord
     kind = ap recordBy head
 
     -- the word to scan is the old one
-    unscanned : {r : Run} {i : ℕ} → i < l → (Q : Ready r i) → at (r .heap) (d + suc i) ≡ at (s .heap) (c + suc i)
+    pub unscanned : {r : Run} {i : ℕ} → i < l → (Q : Ready r i) → at (r .heap) (d + suc i) ≡ at (s .heap) (c + suc i)
     unscanned {r} {i} b Q =
         let z = len-is Q in
         let e = Q .next in
         Q .inv .logged .copies (Q .entry) .waiting i (omega arith) (omega arith)
 
     -- one field
-    stepped : {r : Run} {i : ℕ} → i < l → (Q : Ready r i) (v : ℕ) (r′ : Run) → Became s S (Q .ghost) r (at (s .heap) (c + suc i)) v r′
+    unfoldable pub stepped : {r : Run} {i : ℕ} → i < l → (Q : Ready r i) (v : ℕ) (r′ : Run) → Became s S (Q .ghost) r (at (s .heap) (c + suc i)) v r′
         → Ready (withHeap r′ (set (r′ .heap) (d + suc i) v)) (suc i)
     stepped {r} {i} b Q v r′ O =
         let m = O .later .log (to c d) (Q .entry) in

@@ -208,20 +208,20 @@ pub record Turned (s : Store) (S : Sound s) (g : Ghost) (r : Run) (j b : ℕ) (r
   pub cost : total (ghost .todo) (s .ctl .regions) + length (r′ .stack) + suc (2 * length (g .log)) ≤ total (g .todo) (s .ctl .regions) + length (r .stack) + 2 * length (ghost .log)
 
 module _ (s : Store) (S : Sound s) (g : Ghost) (r : Run) (I : Inv s S g r) (j b : ℕ) (ts : List ℕ) (cur : g .cur ≡ some j) (todo : g .todo j ≡ b ∷ ts) (none-open : g .half ≡ none) where
-  abbrev c : ℕ
+  abbrev pub c : ℕ
   c = b-entry s S g r I j b ts cur todo none-open .0
 
-  m : List·Memᴰ (to c b) (g .log)
+  pub m : List·Memᴰ (to c b) (g .log)
   m = b-entry s S g r I j b ts cur todo none-open .1
 
-  header : at (r .heap) b ≡ at (s .heap) c
+  pub header : at (r .heap) b ≡ at (s .heap) c
   header = I .logged .copies m .head
 
-  start : Inv s S (opened g j b ts) r
+  pub start : Inv s S (opened g j b ts) r
   start = opened-inv s S g r I j b ts cur todo none-open
 
   -- from a state in which all its fields are scanned, or that has none
-  turned : {g′ : Ghost} {r′ : Run} → Inv s S g′ r′ → Later (s .ctl .regions) (opened g j b ts) r g′ r′ → ((l : ℕ) → headOf (at (r′ .heap) b) ≡ rec l → l ≤ g′ .count b) → Turned s S g r j b r′
+  unfoldable pub turned : {g′ : Ghost} {r′ : Run} → Inv s S g′ r′ → Later (s .ctl .regions) (opened g j b ts) r g′ r′ → ((l : ℕ) → headOf (at (r′ .heap) b) ≡ rec l → l ≤ g′ .count b) → Turned s S g r j b r′
   turned {g′} {r′} I′ L full =
       let less = one-less s S g r I j b ts cur todo none-open in
       let cost = L .cost in

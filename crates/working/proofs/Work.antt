@@ -84,7 +84,7 @@ module _ (s : Store) (S : Sound s) where
 
   module _ (g : Ghost) (r : Run) (I : Inv s S g r) (j : ℕ) (jR : j < R) where
     -- no copy stands at the region's a
-    not-top : (b : ℕ) → List·Memᴰ b (g .todo j) → b ≢ topOf (r .table) j
+    pub not-top : (b : ℕ) → List·Memᴰ b (g .todo j) → b ≢ topOf (r .table) j
     not-top b m e = go (ℕ-discrete (F .page) z)
       where
         F : InRow n (r .heap) (g .fin) (g .pages j) b
@@ -112,7 +112,7 @@ module _ (s : Store) (S : Sound s) where
     mid (x ∷ xs) = after-there (mid xs)
 
     -- after the copy at b, the next that waits, or the region's a
-    next : (past : List ℕ) (b : ℕ) → g .past j ≡ past ++ b ∷ [] → nextScan n j b r ≡ headOr (topOf (r .table) j) (g .todo j)
+    pub next : (past : List ℕ) (b : ℕ) → g .past j ≡ past ++ b ∷ [] → nextScan n j b r ≡ headOr (topOf (r .table) j) (g .todo j)
     next past b e =
         let t = I .laid .mine-links j jR in
         next-row n (pageCount n (s .heap)) R (g .own) (g .fin) (g .pages) (g .free) r (I .laid) j jR (t .2) (I .laid .mine-once j jR) (I .laid .mine-top j jR .1)
