@@ -1,153 +1,144 @@
--- Two views that mean the same: every path reads the same, and meets the same.
-use Prim.Native.Nat.{ℕ, zero, suc, _+_, _<_, zero-le, suc-le-suc}
+-- Two views that mean the same: every path reads the same, and meets the same. Step by step both walks make the same tests, because the
+-- values that they are at have one header, one length, and fields that mean the same.
+use Prim.Native.Nat.{ℕ, suc, _-_, _<_, zero-le, suc-le-suc}
 use native.Mathlib.Omega.{arith}
-use mathlib.Core.Path.{_≡_, refl, sym, ap, _∙_, subst}
-use mathlib.Core.Logic.{_≢_, _↔_, _⊎_, inl, inr}
+use mathlib.Core.Path.{_≡_, refl, sym, ap, _∙_}
+use mathlib.Core.Logic.{_↔_}
 use mathlib.Core.Bool.{Bool, true, false}
-use mathlib.Core.Option.{Option, none, some}
 use mathlib.Core.List.{List, [], _∷_}
-use lib.ListN.{length}
-use lib.Dec.{eqb, ltb}
-use borrow.Author.Tests.{ltb-true, ltb-false}
+use lib.ListN.{length, drop}
+use lib.Dec.{leb}
+use borrow.Author.Tests.{leb-false}
 use Rattle.laws.specs.Lists.{at}
-use Rattle.facts.specs.View.{Obj, View, isNumber, Walked, ends, stops, walkFrom, walk, Reading, refusal, whole, ofRecord, ofRaw, masked, readObj, readBy, reading, Reached, root, field}
+use Rattle.rules.specs.declared.Refusal.{Refusal}
+use Rattle.rules.specs.Words.{wordOf, isRecord}
+use Rattle.rules.specs.Calls.{headerIn, fieldsIn, isThere, isNumber, Walked, ends, stops, stepInto, walkFrom}
+use Rattle.facts.specs.View.{View, whole, ofRecord, masked, readValue, readBy, path, reading, Reached, root, field}
 
--- two values alike: kind, home and length are one; a record's words are related, a raw value's are the same
-pub record Alike (R : ℕ → ℕ → Type 0) (o p : Obj) : Type 0 where
-  pub kind : o .isRec ≡ p .isRec
-  pub home : o .home ≡ p .home
-  pub size : length (o .words) ≡ length (p .words)
-  pub fields : o .isRec ≡ true → (f : ℕ) → f < length (o .words) → R (at (o .words) f) (at (p .words) f)
-  pub text : o .isRec ≡ false → o .words ≡ p .words
+-- two values alike: header and length are one; a record's fields are related, a raw value's words are the same
+pub record Alike (R : ℕ → ℕ → Type 0) (x y : List ℕ) : Type 0 where
+  pub header : headerIn x ≡ headerIn y
+  pub size : length x ≡ length y
+  pub fields : isRecord (headerIn x) ≡ true → (f : ℕ) → f < fieldsIn x → R (at x (suc f)) (at y (suc f))
+  pub text : isRecord (headerIn x) ≡ false → x ≡ y
 
 -- R relates the words of two views that mean the same
 pub record Same (X Y : View) (R : ℕ → ℕ → Type 0) : Type 0 where
-  pub numbers : (v w : ℕ) → R v w → isNumber v ≡ isNumber w
-  pub value-of : (v w : ℕ) → R v w → isNumber v ≡ true → v ≡ w
-  pub absent : (v w : ℕ) → R v w → isNumber v ≡ false → X v ≡ none → Y w ≡ none
-  pub present : (v w : ℕ) → R v w → isNumber v ≡ false → (o : Obj) → X v ≡ some o → (p : Obj) × (Y w ≡ some p) × Alike R o p
+  pub numbers : (v w : ℕ) → R v w → isNumber (wordOf v) ≡ isNumber (wordOf w)
+  pub value-of : (v w : ℕ) → R v w → isNumber (wordOf v) ≡ true → v ≡ w
+  pub values : (v w : ℕ) → R v w → Alike R (X .value v) (Y .value w)
+  pub homes : (v w : ℕ) → R v w → X .home v ≡ Y .home w
   pub once : (v w v′ w′ : ℕ) → R v w → R v′ w′ → (v ≡ v′) ↔ (w ≡ w′)
 
 -- two walks alike
 pub data AlikeWalks (R : ℕ → ℕ → Type 0) : Walked → Walked → Type 0 where
   both-end : {v w : ℕ} → R v w → AlikeWalks R (ends v) (ends w)
-  both-stop : {k : ℕ} → AlikeWalks R (stops k) (stops k)
+  both-stop : {k : Refusal} → AlikeWalks R (stops k) (stops k)
 
--- ---- one step of a walk, case by case
-module _ (X : View) (v f : ℕ) (fs : List ℕ) where
-  pub step-number : isNumber v ≡ true → walkFrom X v (f ∷ fs) ≡ stops 9
-  unfolding walkFrom
-  step-number e = rw (e, walkFrom)
+same-there : (x y : List ℕ) → length x ≡ length y → isThere x ≡ isThere y
+same-there [] [] e = refl
+same-there [] (y ∷ ys) e = absurd (omega arith)
+same-there (x ∷ xs) [] e = absurd (omega arith)
+same-there (x ∷ xs) (y ∷ ys) e = refl
 
-  pub step-absent : isNumber v ≡ false → X v ≡ none → walkFrom X v (f ∷ fs) ≡ stops 7
-  unfolding walkFrom
-  step-absent e q = rw (e, walkFrom, q)
+module _ {R : ℕ → ℕ → Type 0} where
+  -- one step into alike values
+  pub steps-alike : (x y : List ℕ) → Alike R x y → (go go′ : ℕ → Walked) → ((v w : ℕ) → R v w → AlikeWalks R (go v) (go′ w)) → (f : ℕ)
+      → AlikeWalks R (stepInto x f go) (stepInto y f go′)
+  unfolding stepInto
+  steps-alike x y a go go′ rest f = by (isThere x) refl (isRecord (headerIn x)) refl (leb (fieldsIn x) f) refl
+    where
+      there : isThere y ≡ isThere x
+      there = sym (same-there x y (a .size))
 
-  pub step-raw : (o : Obj) → isNumber v ≡ false → X v ≡ some o → o .isRec ≡ false → walkFrom X v (f ∷ fs) ≡ stops 9
-  unfolding walkFrom
-  step-raw o e q k = rw (e, walkFrom, q, k)
+      kind : isRecord (headerIn y) ≡ isRecord (headerIn x)
+      kind = ap isRecord (sym (a .header))
 
-  pub step-past : (o : Obj) → isNumber v ≡ false → X v ≡ some o → o .isRec ≡ true → ltb f (length (o .words)) ≡ false → walkFrom X v (f ∷ fs) ≡ stops 10
-  unfolding walkFrom
-  step-past o e q k b = rw (e, walkFrom, q, k, b)
+      past : leb (fieldsIn y) f ≡ leb (fieldsIn x) f
+      past = ap (λ l. leb (l - 1) f) (sym (a .size))
 
-  pub step-on : (o : Obj) → isNumber v ≡ false → X v ≡ some o → o .isRec ≡ true → ltb f (length (o .words)) ≡ true
-      → walkFrom X v (f ∷ fs) ≡ walkFrom X (at (o .words) f) fs
-  unfolding walkFrom
-  step-on o e q k b = rw (e, walkFrom, q, k, b)
-
-module _ (X : View) (v : ℕ) where
-  pub end-number : isNumber v ≡ true → walkFrom X v [] ≡ ends v
-  unfolding walkFrom
-  end-number e = rw (e, walkFrom)
-
-  pub end-absent : isNumber v ≡ false → X v ≡ none → walkFrom X v [] ≡ stops 7
-  unfolding walkFrom
-  end-absent e q = rw (e, walkFrom, q)
-
-  pub end-value : (o : Obj) → isNumber v ≡ false → X v ≡ some o → walkFrom X v [] ≡ ends v
-  unfolding walkFrom
-  end-value o e q = rw (e, walkFrom, q)
-
-alike : {R : ℕ → ℕ → Type 0} {a b a′ b′ : Walked} → a ≡ a′ → b ≡ b′ → AlikeWalks R a′ b′ → AlikeWalks R a b
-alike p q t = rw (p, q) t
+      by : (p : Bool) → isThere x ≡ p → (q : Bool) → isRecord (headerIn x) ≡ q → (t : Bool) → leb (fieldsIn x) f ≡ t
+          → AlikeWalks R (stepInto x f go) (stepInto y f go′)
+      by false e q e₁ t e₂ = rw (there, e) both-stop
+      by true e false e₁ t e₂ = rw (there, kind, e, e₁) both-stop
+      by true e true e₁ true e₂ = rw (there, kind, past, e, e₁, e₂) both-stop
+      by true e true e₁ false e₂ = let b = leb-false (fieldsIn x) f e₂ in rw (there, kind, past, e, e₁, e₂) (rest _ _ (a .fields e₁ f (omega arith)))
 
 module _ (X Y : View) (R : ℕ → ℕ → Type 0) (same : Same X Y R) where
-  pub walks : (fs : List ℕ) (v w : ℕ) → R v w → AlikeWalks R (walkFrom X v fs) (walkFrom Y w fs)
-  walks [] v w r = go (isNumber v) refl (X v) refl
+  pub walks : (fs : List ℕ) (v w : ℕ) → R v w → AlikeWalks R (walkFrom (X .value) v fs) (walkFrom (Y .value) w fs)
+  unfolding walkFrom
+  walks [] v w r = go (isNumber (wordOf v)) refl (isThere (X .value v)) refl
     where
-      go : (b : Bool) → isNumber v ≡ b → (o : Option Obj) → X v ≡ o → AlikeWalks R (walkFrom X v []) (walkFrom Y w [])
-      go true e o q = alike (end-number X v e) (end-number Y w (sym (same .numbers v w r) ∙ e)) (both-end r)
-      go false e none q = alike (end-absent X v e q) (end-absent Y w (sym (same .numbers v w r) ∙ e) (same .absent v w r e q)) both-stop
-      go false e (some o) q =
-          let p = same .present v w r e o q in
-          alike (end-value X v o e q) (end-value Y w (p .0) (sym (same .numbers v w r) ∙ e) (p .1)) (both-end r)
-  walks (f ∷ fs) v w r = go (isNumber v) refl (X v) refl (λ v′ w′ r′. walks fs v′ w′ r′)
+      there : isThere (Y .value w) ≡ isThere (X .value v)
+      there = sym (same-there (X .value v) (Y .value w) (same .values v w r .size))
+
+      go : (b : Bool) → isNumber (wordOf v) ≡ b → (t : Bool) → isThere (X .value v) ≡ t → AlikeWalks R (walkFrom (X .value) v []) (walkFrom (Y .value) w [])
+      go true e t q = rw (← same .numbers v w r, e) (both-end r)
+      go false e true q = rw (← same .numbers v w r, e, there, q) (both-end r)
+      go false e false q = rw (← same .numbers v w r, e, there, q) both-stop
+  walks (f ∷ fs) v w r = go (isNumber (wordOf v)) refl (λ v′ w′ r′. walks fs v′ w′ r′)
     where
-      go : (b : Bool) → isNumber v ≡ b → (o : Option Obj) → X v ≡ o → ((v′ w′ : ℕ) → R v′ w′ → AlikeWalks R (walkFrom X v′ fs) (walkFrom Y w′ fs))
-          → AlikeWalks R (walkFrom X v (f ∷ fs)) (walkFrom Y w (f ∷ fs))
-      go true e o q rest = alike (step-number X v f fs e) (step-number Y w f fs (sym (same .numbers v w r) ∙ e)) both-stop
-      go false e none q rest = alike (step-absent X v f fs e q) (step-absent Y w f fs (sym (same .numbers v w r) ∙ e) (same .absent v w r e q)) both-stop
-      go false e (some o) q rest =
-          let e′ : isNumber w ≡ false = sym (same .numbers v w r) ∙ e in
-          let p = same .present v w r e o q in
-          into (p .0) e′ (p .1) (p .2) (o .isRec) refl (ltb f (length (o .words))) refl
-        where
-          into : (p : Obj) → isNumber w ≡ false → Y w ≡ some p → Alike R o p → (k : Bool) → o .isRec ≡ k → (b : Bool) → ltb f (length (o .words)) ≡ b
-              → AlikeWalks R (walkFrom X v (f ∷ fs)) (walkFrom Y w (f ∷ fs))
-          into p e′ q′ a false k b m = alike (step-raw X v f fs o e q k) (step-raw Y w f fs p e′ q′ (sym (a .kind) ∙ k)) both-stop
-          into p e′ q′ a true k false m =
-              alike (step-past X v f fs o e q k m) (step-past Y w f fs p e′ q′ (sym (a .kind) ∙ k) (ap (ltb f) (sym (a .size)) ∙ m)) both-stop
-          into p e′ q′ a true k true m =
-              alike (step-on X v f fs o e q k m) (step-on Y w f fs p e′ q′ (sym (a .kind) ∙ k) (ap (ltb f) (sym (a .size)) ∙ m))
-              (rest _ _ (a .fields k f (ltb-true f (length (o .words)) m)))
+      go : (b : Bool) → isNumber (wordOf v) ≡ b → ((v′ w′ : ℕ) → R v′ w′ → AlikeWalks R (walkFrom (X .value) v′ fs) (walkFrom (Y .value) w′ fs))
+          → AlikeWalks R (walkFrom (X .value) v (f ∷ fs)) (walkFrom (Y .value) w (f ∷ fs))
+      go true e rest = rw (← same .numbers v w r, e) both-stop
+      go false e rest = rw (← same .numbers v w r, e) (steps-alike (X .value v) (Y .value w) (same .values v w r) _ _ rest f)
 
 -- ---- what is read
 
-pub masked-same : {R : ℕ → ℕ → Type 0} → ((v w : ℕ) → R v w → isNumber v ≡ isNumber w) → ((v w : ℕ) → R v w → isNumber v ≡ true → v ≡ w)
+pub masked-same : {R : ℕ → ℕ → Type 0} → ((v w : ℕ) → R v w → isNumber (wordOf v) ≡ isNumber (wordOf w)) → ((v w : ℕ) → R v w → isNumber (wordOf v) ≡ true → v ≡ w)
     → (vs ws : List ℕ) → length vs ≡ length ws → ((f : ℕ) → f < length vs → R (at vs f) (at ws f)) → masked vs ≡ masked ws
 unfolding masked
 masked-same n e [] [] l r = refl
 masked-same n e [] (w ∷ ws) l r = absurd (omega arith)
 masked-same n e (v ∷ vs) [] l r = absurd (omega arith)
 masked-same {R} n e (v ∷ vs) (w ∷ ws) l r =
-    go (isNumber v) refl (masked-same n e vs ws (omega arith) (λ f b. r (suc f) (suc-le-suc b)))
+    go (isNumber (wordOf v)) refl (masked-same n e vs ws (omega arith) (λ f b. r (suc f) (suc-le-suc b)))
   where
     r₀ : R v w
     r₀ = r 0 (suc-le-suc zero-le)
 
-    go : (b : Bool) → isNumber v ≡ b → masked vs ≡ masked ws → masked (v ∷ vs) ≡ masked (w ∷ ws)
-    go true q rest = let q′ : isNumber w ≡ true = sym (n v w r₀) ∙ q in let p : v ≡ w = e v w r₀ q in rw (q, q′, rest, p)
-    go false q rest = let q′ : isNumber w ≡ false = sym (n v w r₀) ∙ q in rw (q, q′, rest)
+    go : (b : Bool) → isNumber (wordOf v) ≡ b → masked vs ≡ masked ws → masked (v ∷ vs) ≡ masked (w ∷ ws)
+    go true q rest = let p : v ≡ w = e v w r₀ q in rw (p, rest)
+    go false q rest = let q′ : isNumber (wordOf w) ≡ false = sym (n v w r₀) ∙ q in rw (q, q′, rest)
+
+-- the words behind a header
+behind : (R : ℕ → ℕ → Type 0) (x y : List ℕ) → length x ≡ length y → ((f : ℕ) → f < fieldsIn x → R (at x (suc f)) (at y (suc f)))
+    → (length (drop 1 x) ≡ length (drop 1 y)) × ((f : ℕ) → f < length (drop 1 x) → R (at (drop 1 x) f) (at (drop 1 y) f))
+behind R [] [] e r = (refl, λ f b. absurd (omega arith))
+behind R [] (y ∷ ys) e r = absurd (omega arith)
+behind R (x ∷ xs) [] e r = absurd (omega arith)
+behind R (x ∷ xs) (y ∷ ys) e r = (omega arith, λ f b. r f (omega arith))
 
 module _ (X Y : View) (R : ℕ → ℕ → Type 0) (same : Same X Y R) where
-  pub objs-read : (o p : Obj) → Alike R o p → readObj o ≡ readObj p
-  objs-read o p a = go (o .isRec) refl
+  pub values-read : (home : ℕ) (x y : List ℕ) → Alike R x y → readValue home x ≡ readValue home y
+  unfolding readValue
+  values-read home x y a = go (isRecord (headerIn x)) refl
     where
-      go : (k : Bool) → o .isRec ≡ k → readObj o ≡ readObj p
-      go true k = rw (k, sym (a .kind) ∙ k) (ap ofRecord (masked-same (same .numbers) (same .value-of) (o .words) (p .words) (a .size) (a .fields k)))
-      go false k = rw (k, sym (a .kind) ∙ k) (ap ofRaw (a .text k))
+      go : (k : Bool) → isRecord (headerIn x) ≡ k → readValue home x ≡ readValue home y
+      go true k =
+          let u = behind R x y (a .size) (a .fields k) in
+          rw (← a .header, k) (ap (ofRecord home) (masked-same (same .numbers) (same .value-of) (drop 1 x) (drop 1 y) (u .0) (u .1)))
+      go false k = rw (a .text k)
 
   pub ends-read : (v w : ℕ) → R v w → readBy X (ends v) ≡ readBy Y (ends w)
-  ends-read v w r = go (isNumber v) refl (X v) refl
+  ends-read v w r = go (isNumber (wordOf v)) refl
     where
-      go : (b : Bool) → isNumber v ≡ b → (o : Option Obj) → X v ≡ o → readBy X (ends v) ≡ readBy Y (ends w)
-      go true e o q = rw (e, readBy, sym (same .numbers v w r) ∙ e) (ap whole (same .value-of v w r e))
-      go false e none q = rw (e, readBy, sym (same .numbers v w r) ∙ e, q, same .absent v w r e q)
-      go false e (some o) q = let p = same .present v w r e o q in rw (e, readBy, sym (same .numbers v w r) ∙ e, q, p .1) (objs-read o (p .0) (p .2))
+      go : (b : Bool) → isNumber (wordOf v) ≡ b → readBy X (ends v) ≡ readBy Y (ends w)
+      go true e = rw (← same .numbers v w r, e) (ap whole (same .value-of v w r e))
+      go false e = rw (← same .numbers v w r, e) (ap (λ h. readValue h (X .value v)) (same .homes v w r) ∙ values-read (Y .home w) (X .value v) (Y .value w) (same .values v w r))
 
   pub walks-read : {a b : Walked} → AlikeWalks R a b → readBy X a ≡ readBy Y b
   walks-read (both-end {v} {w} r) = ends-read v w r
   walks-read both-stop = refl
 
   module _ (rx ry : List ℕ) (len : length rx ≡ length ry) (roots : (i : ℕ) → i < length rx → R (at rx i) (at ry i)) where
-    pub paths : (i : ℕ) (fs : List ℕ) → AlikeWalks R (walk X rx i fs) (walk Y ry i fs)
-    unfolding walk
-    paths i fs = go (ltb i (length rx)) refl
+    pub paths : (i : ℕ) (fs : List ℕ) → AlikeWalks R (path X rx i fs) (path Y ry i fs)
+    unfolding path
+    paths i fs = go (leb (length rx) i) refl
       where
-        go : (b : Bool) → ltb i (length rx) ≡ b → AlikeWalks R (walk X rx i fs) (walk Y ry i fs)
-        go true e = rw (e, walk, ap (ltb i) (sym len) ∙ e) (walks X Y R same fs (at rx i) (at ry i) (roots i (ltb-true i (length rx) e)))
-        go false e = rw (e, walk, ap (ltb i) (sym len) ∙ e) both-stop
+        go : (b : Bool) → leb (length rx) i ≡ b → AlikeWalks R (path X rx i fs) (path Y ry i fs)
+        go true e = rw (← len, e) both-stop
+        go false e = let b = leb-false (length rx) i e in rw (← len, e) (walks X Y R same fs (at rx i) (at ry i) (roots i (omega arith)))
 
     -- every path reads the same
     pub readings : (i : ℕ) (fs : List ℕ) → reading X rx i fs ≡ reading Y ry i fs
@@ -155,8 +146,11 @@ module _ (X Y : View) (R : ℕ → ℕ → Type 0) (same : Same X Y R) where
     readings i fs = walks-read (paths i fs)
 
 -- ---- meetings: two paths end on one value
-pub Meet : View → List ℕ → ℕ → List ℕ → ℕ → List ℕ → Type 0
-Meet X roots i fs j gs = (w : ℕ) × (walk X roots i fs ≡ ends w) × (walk X roots j gs ≡ ends w) × (isNumber w ≡ false)
+pub record MeetIn (X : View) (roots : List ℕ) (i : ℕ) (fs : List ℕ) (j : ℕ) (gs : List ℕ) : Type 0 where
+  pub word : ℕ
+  pub one : path X roots i fs ≡ ends word
+  pub other : path X roots j gs ≡ ends word
+  pub pointer : isNumber (wordOf word) ≡ false
 
 pub alike-end : {R : ℕ → ℕ → Type 0} {a b : Walked} (v : ℕ) → AlikeWalks R a b → a ≡ ends v → (w : ℕ) × (b ≡ ends w) × R v w
 alike-end {R} v (both-end {v = v′} {w} r) e = let q : v′ ≡ v = cc in (w, refl, rw q at r)
@@ -166,36 +160,33 @@ pub alike-back : {R : ℕ → ℕ → Type 0} {a b : Walked} (w : ℕ) → Alike
 alike-back {R} w (both-end {v} {w = w′} r) e = let q : w′ ≡ w = cc in (v, refl, rw q at r)
 alike-back w (both-stop {k}) e = let z : _≡_ {A = ℕ} 0 1 = cc in absurd (omega arith)
 
-module _ (X Y : View) (R : ℕ → ℕ → Type 0) (same : Same X Y R) (rx ry : List ℕ) (len : length rx ≡ length ry) (roots : (i : ℕ) → i < length rx → R (at rx i) (at ry i))
-    (pointers : (v : ℕ) (o : Obj) → X v ≡ some o → isNumber v ≡ false) where
-  pub meetings : (i : ℕ) (fs : List ℕ) (j : ℕ) (gs : List ℕ) → Meet X rx i fs j gs ↔ Meet Y ry i fs j gs
-  unfolding Meet
+module _ (X Y : View) (R : ℕ → ℕ → Type 0) (same : Same X Y R) (rx ry : List ℕ) (len : length rx ≡ length ry) (roots : (i : ℕ) → i < length rx → R (at rx i) (at ry i)) where
+  pub meetings : (i : ℕ) (fs : List ℕ) (j : ℕ) (gs : List ℕ) → MeetIn X rx i fs j gs ↔ MeetIn Y ry i fs j gs
   meetings i fs j gs = (there, back)
     where
-      P : AlikeWalks R (walk X rx i fs) (walk Y ry i fs)
+      P : AlikeWalks R (path X rx i fs) (path Y ry i fs)
       P = paths X Y R same rx ry len roots i fs
 
-      Q : AlikeWalks R (walk X rx j gs) (walk Y ry j gs)
+      Q : AlikeWalks R (path X rx j gs) (path Y ry j gs)
       Q = paths X Y R same rx ry len roots j gs
 
-      there : Meet X rx i fs j gs → Meet Y ry i fs j gs
+      there : MeetIn X rx i fs j gs → MeetIn Y ry i fs j gs
       there m =
-          let p = alike-end (m .0) P (m .1) in
-          let q = alike-end (m .0) Q (m .2) in
+          let p = alike-end (m .word) P (m .one) in
+          let q = alike-end (m .word) Q (m .other) in
           let e : p .0 ≡ q .0 = same .once _ _ _ _ (p .2) (q .2) .0 refl in
-          (p .0, p .1, q .1 ∙ ap ends (sym e), sym (same .numbers _ _ (p .2)) ∙ m .3)
+          record { word = p .0; one = p .1; other = q .1 ∙ ap ends (sym e); pointer = sym (same .numbers _ _ (p .2)) ∙ m .pointer }
 
-      back : Meet Y ry i fs j gs → Meet X rx i fs j gs
+      back : MeetIn Y ry i fs j gs → MeetIn X rx i fs j gs
       back m =
-          let p = alike-back (m .0) P (m .1) in
-          let q = alike-back (m .0) Q (m .2) in
+          let p = alike-back (m .word) P (m .one) in
+          let q = alike-back (m .word) Q (m .other) in
           let e : p .0 ≡ q .0 = same .once _ _ _ _ (p .2) (q .2) .1 refl in
-          (p .0, p .1, q .1 ∙ ap ends (sym e), same .numbers _ _ (p .2) ∙ m .3)
+          record { word = p .0; one = p .1; other = q .1 ∙ ap ends (sym e); pointer = same .numbers _ _ (p .2) ∙ m .pointer }
 
   -- what a root reaches has its like
   pub reached-like : {v : ℕ} → Reached X rx v → (w : ℕ) × R v w
   reached-like (root i b) = (at ry i, roots i b)
-  reached-like (field {w = v} o f r q k b) =
+  reached-like (field {w = v} f r k b) =
       let p = reached-like r in
-      let a = same .present v (p .0) (p .1) (pointers v o q) o q in
-      (at (a .0 .words) f, a .2 .fields k f b)
+      (at (Y .value (p .0)) (suc f), same .values v (p .0) (p .1) .fields k f b)

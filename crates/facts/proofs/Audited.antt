@@ -1,35 +1,17 @@
--- From the audit's tests to facts: the pieces.
-use Prim.Native.Nat.{ℕ, zero, suc, pred, _+_, _-_, _*_, _/_, _%_, _^_, _≤_, _<_, zero-le, suc-le-suc}
-use native.Mathlib.Nat.{le-trans, le-refl, add-zero, add-assoc, le-of-suc-le-suc, not-suc-le-zero}
+-- Stepping goes over all the values of the list and no further, since each value of the list fits.
+use Prim.Native.Nat.{ℕ, zero, suc, _+_}
+use native.Mathlib.Nat.{add-zero}
 use native.Mathlib.Omega.{arith}
-use native.Mathlib.Decide.{ℕ-discrete}
 use mathlib.Core.Path.{_≡_, refl, sym, ap, _∙_, subst}
-use mathlib.Core.Logic.{_≢_, _↔_, _⊎_, inl, inr}
-use mathlib.Core.Bool.{Bool, true, false, _&&_}
 use mathlib.Core.Option.{Option, none, some}
-use mathlib.Core.List.{List, [], _∷_, _++_, List·Memᴰ, List·Memᴰ·head, List·Memᴰ·tail, List·Memᴰ·cases-cons}
-use lib.ListN.{length, take, drop}
+use mathlib.Core.List.{List, [], _∷_}
+use lib.ListN.{length, take}
 use lib.Seq.{length-take-le}
-use lib.Dec.{leb, ltb, eqb}
-use borrow.Author.Tests.{ltb-true, ltb-false, eqb-true, eqb-false}
-use Rattle.rules.specs.Words.{headOf, lengthBy, fit, isRecord, Val, vals, usedOf}
-use Rattle.laws.specs.Lists.{all, allFrom, allBelow, zeros, at}
-use Rattle.rules.specs.Memory.{link, pageCount, chain, chainEnd}
-use Rattle.facts.proofs.Steps.{Stands, Steps, here, over, steps-le, Holds, holds-head, holds-tail}
+use Rattle.rules.specs.Words.{headOf, lengthBy, fit, vals, usedOf}
+use Rattle.laws.specs.Lists.{all}
+use Rattle.facts.proofs.Steps.{Stands, Steps, here, over, Holds, holds-head, holds-tail}
 use Rattle.rules.proofs.Headers.{fit-some}
-use Rattle.facts.proofs.Laid.{Linked, stop, goes}
-
--- a chain that ends with 0 is linked by its pages' links
-pub chain-linked : (f n : ℕ) (h : List ℕ) (x : ℕ) → chainEnd f n h x ≡ 0 → Linked (link n h) x (chain f n h x)
-unfolding chain chainEnd
-chain-linked zero n h x e = rw e stop
-chain-linked (suc f) n h zero e = stop
-chain-linked (suc f) n h (suc k) e = go (ltb k (pageCount n h)) refl (λ u. chain-linked f n h (link n h k) u)
-  where
-    go : (b : Bool) → ltb k (pageCount n h) ≡ b → (chainEnd f n h (link n h k) ≡ 0 → Linked (link n h) (link n h k) (chain f n h (link n h k)))
-        → Linked (link n h) (suc k) (chain (suc f) n h (suc k))
-    go true q rest = rw (chain, q) (goes (rest (rw (q, chainEnd) at e)))
-    go false q rest = let z : suc k ≡ 0 = rw (q, chainEnd) at e in absurd (omega arith)
+use Rattle.facts.proofs.Laid.{goes}
 
 pub steps-at : {h : List ℕ} {hi a b a′ b′ : ℕ} → a ≡ a′ → b ≡ b′ → Steps h hi a b → Steps h hi a′ b′
 steps-at p q t = rw (← p, ← q) t

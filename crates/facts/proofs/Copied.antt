@@ -1,16 +1,16 @@
--- What a finished collection leaves, seen by pointers alone, and what follows: paths, meetings, regions, used words.
--- Whoever copies (this collector, a plain one) shows `Copied`; nothing below it knows how.
-use Prim.Native.Nat.{ℕ, zero, suc, _+_, _<_, zero-le, suc-le-suc}
+-- What a finished collection leaves, seen by pointers alone, and what follows: paths, meetings, regions, reach.
+-- Whoever copies shows `Copied`; nothing below it knows how. It holds because each word has just one word that stands for it.
+use Prim.Native.Nat.{ℕ, _<_}
 use native.Mathlib.Omega.{arith}
-use mathlib.Core.Path.{_≡_, refl, sym, ap, _∙_, subst}
-use mathlib.Core.Logic.{_≢_, _↔_, _⊎_, inl, inr}
+use mathlib.Core.Path.{_≡_, refl, sym, ap, _∙_}
+use mathlib.Core.Logic.{_≢_, _↔_}
 use mathlib.Core.Bool.{Bool, true, false}
-use mathlib.Core.Option.{Option, none, some}
-use mathlib.Core.List.{List, [], _∷_, List·Memᴰ}
+use mathlib.Core.List.{List, [], List·Memᴰ}
 use lib.ListN.{length}
-use lib.Dec.{eqb, ltb}
 use Rattle.laws.specs.Lists.{at}
-use Rattle.facts.specs.View.{Obj, View, isNumber, Reached, root, field}
+use Rattle.rules.specs.Words.{wordOf}
+use Rattle.rules.specs.Calls.{isNumber}
+use Rattle.facts.specs.View.{View, Reached}
 use Rattle.facts.proofs.Alike.{Alike, Same, reached-like}
 
 -- a value of the pointer old now has the pointer new
@@ -23,112 +23,97 @@ to v w = record { old = v; new = w }
 
 -- a word before and the word that stands for it after: a number, a pointer that stays, or one that moved
 pub data Rel (kept : ℕ → Type 0) (log : List Moved) : ℕ → ℕ → Type 0 where
-  num : {v : ℕ} → isNumber v ≡ true → Rel kept log v v
+  num : {v : ℕ} → isNumber (wordOf v) ≡ true → Rel kept log v v
   stay : {v : ℕ} → kept v → Rel kept log v v
   went : {v w : ℕ} → List·Memᴰ (to v w) log → Rel kept log v w
 
--- the words of a region's values in a list of pointers: L + 1 each
-unfoldable pub wordsAt : ℕ → Option Obj → ℕ
-wordsAt j none = 0
-wordsAt j (some o) = elim (eqb (o .home) (suc j)) [ true ↦ suc (length (o .words)) | false ↦ 0 ]
+-- a number is no value and has no home
+pub record Plain (X : View) : Type 0 where
+  pub no-value : (v : ℕ) → isNumber (wordOf v) ≡ true → X .value v ≡ []
+  pub no-home : (v : ℕ) → isNumber (wordOf v) ≡ true → X .home v ≡ 0
 
-unfoldable pub tally : View → ℕ → List Moved → ℕ
-tally X j [] = 0
-tally X j (m ∷ ms) = wordsAt j (X (m .old)) + tally X j ms
+-- v before and w after are one value
+pub record OneValue (X Y : View) (R : ℕ → ℕ → Type 0) (v w : ℕ) : Type 0 where
+  pub before : isNumber (wordOf v) ≡ false
+  pub after : isNumber (wordOf w) ≡ false
+  pub alike : Alike R (X .value v) (Y .value w)
+  pub home : X .home v ≡ Y .home w
 
 pub record Copied (X Y : View) (kept : ℕ → Type 0) (log : List Moved) (rx ry : List ℕ) : Type 0 where
+  pub plain : Plain X
+  pub plain′ : Plain Y
   pub count : length rx ≡ length ry
   pub roots : (i : ℕ) → i < length rx → Rel kept log (at rx i) (at ry i)
-  pub staying : {v : ℕ} → kept v → (isNumber v ≡ false) × (o : Obj) × (p : Obj) × (X v ≡ some o) × (Y v ≡ some p) × Alike (Rel kept log) o p × (o .home ≡ 0)
-  pub moving : {v w : ℕ} → List·Memᴰ (to v w) log
-      → (isNumber v ≡ false) × (isNumber w ≡ false) × (o : Obj) × (p : Obj) × (X v ≡ some o) × (Y w ≡ some p) × Alike (Rel kept log) o p × (o .home ≢ 0)
+  pub staying : {v : ℕ} → kept v → OneValue X Y (Rel kept log) v v × (X .home v ≡ 0)
+  pub moving : {v w : ℕ} → List·Memᴰ (to v w) log → OneValue X Y (Rel kept log) v w × (X .home v ≢ 0)
   pub one-new : {v w w′ : ℕ} → List·Memᴰ (to v w) log → List·Memᴰ (to v w′) log → w ≡ w′
   pub one-old : {v v′ w : ℕ} → List·Memᴰ (to v w) log → List·Memᴰ (to v′ w) log → v ≡ v′
-  pub aside : {v w : ℕ} → kept v → List·Memᴰ (to w v) log → ⊥
   pub live : {v w : ℕ} → List·Memᴰ (to v w) log → Reached X rx v
 
--- what Rel says, whichever way it came
-pub record Said (X Y : View) (R : ℕ → ℕ → Type 0) (v w : ℕ) : Type 0 where
-  pub same-kind : isNumber v ≡ isNumber w
-  pub same-number : isNumber v ≡ true → v ≡ w
-  pub both : (isNumber v ≡ true) ⊎ ((o : Obj) × (p : Obj) × (X v ≡ some o) × (Y w ≡ some p) × Alike R o p)
-
 module _ (X Y : View) (kept : ℕ → Type 0) (log : List Moved) (rx ry : List ℕ) (c : Copied X Y kept log rx ry) where
-  said : {v w : ℕ} → Rel kept log v w → Said X Y (Rel kept log) v w
-  said (num e) = record { same-kind = refl; same-number = λ q. refl; both = inl e }
-  said (stay k) = let s = c .staying k in record { same-kind = refl; same-number = λ q. refl; both = inr (s .1, s .2, s .3, s .4, s .5) }
-  said {v} {w} (went m) =
-      let s = c .moving m in
-      record {
-        same-kind = s .0 ∙ sym (s .1);
-        same-number = λ q. let z : true ≡ false = sym q ∙ s .0 in let z′ : _≡_ {A = ℕ} 0 1 = cc in absurd (omega arith);
-        both = inr (s .2, s .3, s .4, s .5, s .6);
-      }
+  abbrev R : ℕ → ℕ → Type 0
+  R = Rel kept log
 
   no-way : {A : Type 0} → true ≡ false → A
   no-way z = let z′ : _≡_ {A = ℕ} 0 1 = cc in absurd (omega arith)
 
+  same-numbers : (v w : ℕ) → R v w → isNumber (wordOf v) ≡ isNumber (wordOf w)
+  same-numbers v w (num e) = refl
+  same-numbers v w (stay k) = refl
+  same-numbers v w (went m) = let s = c .moving m .0 in s .before ∙ sym (s .after)
+
+  same-value : (v w : ℕ) → R v w → isNumber (wordOf v) ≡ true → v ≡ w
+  same-value v w (num e) q = refl
+  same-value v w (stay k) q = refl
+  same-value v w (went m) q = no-way (sym q ∙ c .moving m .0 .before)
+
+  alike : (v w : ℕ) → R v w → Alike R (X .value v) (Y .value w)
+  alike v w (num e) = rw (c .plain .no-value v e, c .plain′ .no-value v e) (record { header = refl; size = refl; fields = λ k f b. absurd (omega arith); text = λ k. refl })
+  alike v w (stay k) = c .staying k .0 .alike
+  alike v w (went m) = c .moving m .0 .alike
+
+  homes : (v w : ℕ) → R v w → X .home v ≡ Y .home w
+  homes v w (num e) = c .plain .no-home v e ∙ sym (c .plain′ .no-home v e)
+  homes v w (stay k) = c .staying k .0 .home
+  homes v w (went m) = c .moving m .0 .home
+
   -- nothing both stays and moves
   apart : {v w : ℕ} → kept v → List·Memᴰ (to v w) log → ⊥
-  apart k m =
-      let s = c .staying k in
-      let t = c .moving m in
-      let e : some (s .1) ≡ some (t .2) = sym (s .3) ∙ t .4 in
-      let e′ : s .1 ≡ t .2 = cc in
-      t .7 (ap (λ (o : Obj). o .home) (sym e′) ∙ s .6)
+  apart k m = c .moving m .1 (c .staying k .1)
 
-  once-by : {v w v′ w′ : ℕ} → Rel kept log v w → Rel kept log v′ w′ → (isNumber v ≡ true) ⊎ (isNumber v ≡ false) → (v ≡ v′) ↔ (w ≡ w′)
-  once-by r r′ (inl n) =
-      let s = said r in
-      let s′ = said r′ in
-      let e = s .same-number n in (
-        λ q. let e′ = s′ .same-number (ap isNumber (sym q) ∙ n) in sym e ∙ q ∙ e′,
-        λ q. let e′ = s′ .same-number (s′ .same-kind ∙ ap isNumber (sym q) ∙ sym (s .same-kind) ∙ n) in e ∙ q ∙ sym e′,
+  -- nothing moves to where a value stays
+  aside : {v w : ℕ} → kept v → List·Memᴰ (to w v) log → ⊥
+  aside {v} {w} k m = c .moving m .1 (c .moving m .0 .home ∙ sym (c .staying k .0 .home) ∙ c .staying k .1)
+
+  once-by : {v w v′ w′ : ℕ} → R v w → R v′ w′ → (b : Bool) → isNumber (wordOf v) ≡ b → (v ≡ v′) ↔ (w ≡ w′)
+  once-by {v} {w} {v′} {w′} r r′ true n =
+      let e = same-value v w r n in (
+        λ q. let e′ = same-value v′ w′ r′ (ap (λ x. isNumber (wordOf x)) (sym q) ∙ n) in sym e ∙ q ∙ e′,
+        λ q. let e′ = same-value v′ w′ r′ (same-numbers v′ w′ r′ ∙ ap (λ x. isNumber (wordOf x)) (sym q) ∙ sym (same-numbers v w r) ∙ n) in e ∙ q ∙ sym e′,
       )
-  once-by (num n) r′ (inr f) = no-way (sym n ∙ f)
-  once-by (stay k) (num n) (inr f) = (λ q. q, λ q. q)
-  once-by (stay k) (stay k′) (inr f) = (λ q. q, λ q. q)
-  once-by (stay k) (went m) (inr f) = (λ q. absurd (apart k (rw (← q) at m)), λ q. absurd (c .aside k (rw (← q) at m)))
-  once-by (went m) (num n) (inr f) =
-      (λ q. no-way (sym n ∙ ap isNumber (sym q) ∙ f), λ q. no-way (sym n ∙ ap isNumber (sym q) ∙ c .moving m .1))
-  once-by (went m) (stay k) (inr f) = (λ q. absurd (apart k (rw q at m)), λ q. absurd (c .aside k (rw q at m)))
-  once-by (went m) (went m′) (inr f) = (λ q. c .one-new (rw q at m) m′, λ q. c .one-old (rw q at m) m′)
+  once-by (num n) r′ false f = no-way (sym n ∙ f)
+  once-by (stay k) (num n) false f = (λ q. q, λ q. q)
+  once-by (stay k) (stay k′) false f = (λ q. q, λ q. q)
+  once-by (stay k) (went m) false f = (λ q. absurd (apart k (rw (← q) at m)), λ q. absurd (aside k (rw (← q) at m)))
+  once-by (went m) (num n) false f =
+      (λ q. no-way (sym n ∙ ap (λ x. isNumber (wordOf x)) (sym q) ∙ f), λ q. no-way (sym n ∙ ap (λ x. isNumber (wordOf x)) (sym q) ∙ c .moving m .0 .after))
+  once-by (went m) (stay k) false f = (λ q. absurd (apart k (rw q at m)), λ q. absurd (aside k (rw q at m)))
+  once-by (went m) (went m′) false f = (λ q. c .one-new (rw q at m) m′, λ q. c .one-old (rw q at m) m′)
 
-  number-or : (v : ℕ) → (isNumber v ≡ true) ⊎ (isNumber v ≡ false)
-  number-or v = go (isNumber v) refl
-    where
-      go : (b : Bool) → isNumber v ≡ b → (isNumber v ≡ true) ⊎ (isNumber v ≡ false)
-      go true e = inl e
-      go false e = inr e
-
-  absent-by : {v w : ℕ} → isNumber v ≡ false → X v ≡ none → (isNumber v ≡ true) ⊎ ((o : Obj) × (p : Obj) × (X v ≡ some o) × (Y w ≡ some p) × Alike (Rel kept log) o p) → Y w ≡ none
-  absent-by f q (inl n) = no-way (sym n ∙ f)
-  absent-by f q (inr b) = let b2 = b .2 in cc
-
-  present-by : {v w : ℕ} → isNumber v ≡ false → (o : Obj) → X v ≡ some o → (isNumber v ≡ true) ⊎ ((o : Obj) × (p : Obj) × (X v ≡ some o) × (Y w ≡ some p) × Alike (Rel kept log) o p)
-      → (p : Obj) × (Y w ≡ some p) × Alike (Rel kept log) o p
-  present-by f o q (inl n) = no-way (sym n ∙ f)
-  present-by f o q (inr b) = let b2 = b .2 in let e : b .0 ≡ o = cc in (b .1, b .3, rw e at (b .4))
-
-  pub copied-same : Same X Y (Rel kept log)
+  pub copied-same : Same X Y R
   copied-same = record {
-    numbers = λ v w r. said r .same-kind;
-    value-of = λ v w r. said r .same-number;
-    absent = λ v w r f q. absent-by f q (said r .both);
-    present = λ v w r f o q. present-by f o q (said r .both);
-    once = λ v w v′ w′ r r′. once-by r r′ (number-or v);
+    numbers = same-numbers;
+    value-of = same-value;
+    values = alike;
+    homes = homes;
+    once = λ v w v′ w′ r r′. once-by r r′ (isNumber (wordOf v)) refl;
   }
 
-  module _ (pointers : (v : ℕ) (o : Obj) → X v ≡ some o → isNumber v ≡ false) where
-    -- a value in a region that a root reaches is one that moved
-    pub reached-moved : {v : ℕ} (o : Obj) → Reached X rx v → X v ≡ some o → o .home ≢ 0 → (w : ℕ) × List·Memᴰ (to v w) log
-    reached-moved {v} o r q ne = let p = reached-like X Y (Rel kept log) copied-same rx ry (c .count) (c .roots) pointers r in (p .0, by (p .1) q)
-      where
-        by : {w : ℕ} → Rel kept log v w → X v ≡ some o → List·Memᴰ (to v w) log
-        by (num n) e = no-way (sym n ∙ pointers v o e)
-        by (stay k) e =
-            let s = c .staying k in
-            let s3 = s .3 in
-            let t : s .1 ≡ o = cc in
-            absurd (ne (ap (λ (x : Obj). x .home) (sym t) ∙ s .6))
-        by (went m) e = m
+  -- a value in a region that a root reaches is one that moved
+  pub reached-moved : {v : ℕ} → Reached X rx v → X .home v ≢ 0 → (w : ℕ) × List·Memᴰ (to v w) log
+  reached-moved {v} r ne = let p = reached-like X Y R copied-same rx ry (c .count) (c .roots) r in (p .0, by (p .1))
+    where
+      by : {w : ℕ} → R v w → List·Memᴰ (to v w) log
+      by (num n) = absurd (ne (c .plain .no-home v n))
+      by (stay k) = absurd (ne (c .staying k .1))
+      by (went m) = m

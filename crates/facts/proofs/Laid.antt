@@ -1,25 +1,22 @@
 -- How a heap under collection is laid out: whose each page is, and what stands in it. Every fact is about single words.
-use Prim.Native.Nat.{ℕ, zero, suc, pred, _+_, _-_, _*_, _/_, _%_, _^_, _≤_, _<_, zero-le, suc-le-suc}
-use native.Mathlib.Nat.{le-trans, le-refl, add-zero, mul-le-mul-right}
+use Prim.Native.Nat.{ℕ, zero, suc, _+_, _*_, _^_, _≤_, _<_}
 use native.Mathlib.Omega.{arith}
-use native.Mathlib.Decide.{ℕ-discrete}
-use mathlib.Core.Path.{_≡_, refl, sym, ap, _∙_, subst}
-use mathlib.Core.Logic.{_≢_, _↔_, _⊎_, inl, inr}
+use mathlib.Core.Path.{_≡_, refl, sym, _∙_}
+use mathlib.Core.Logic.{_≢_, _⊎_, inl, inr}
 use mathlib.Core.Bool.{Bool, true, false}
-use mathlib.Core.Option.{Option, none, some}
-use mathlib.Core.List.{List, [], _∷_, _++_, List·Memᴰ, List·Memᴰ·head, List·Memᴰ·tail}
-use lib.ListN.{length, getD, set, length-set}
-use lib.Seq.{getD-set-same, getD-set-other}
+use mathlib.Core.Option.{some}
+use mathlib.Core.List.{List, List·Memᴰ}
+use lib.ListN.{length}
 use lib.Dec.{eqb}
 use borrow.Author.Tests.{eqb-true, eqb-false}
-use Rattle.rules.specs.Words.{Head, headOf, lengthBy}
-use Rattle.rules.specs.declared.Control.{Control}
-use Rattle.rules.specs.Memory.{Store, link, origin, endOf, firstOf, topOf, statusOf}
+use Rattle.rules.specs.Words.{headOf, lengthBy}
+use Rattle.rules.specs.Memory.{link, endOf, firstOf, topOf}
 use Rattle.laws.specs.Lists.{at, put}
 use Rattle.rules.specs.Audit.{lastLink}
-use Rattle.rules.specs.Pages.{Run, store}
-use Rattle.laws.proofs.Lists.{apart, length-put, at-put-below, at-put-in, at-put-above}
-use Rattle.facts.proofs.Steps.{Stands, Steps, here, over, steps-le, steps-then, steps-same, stands-same}
+use Rattle.rules.specs.Pages.{Run}
+use Rattle.laws.proofs.Lists.{apart, at-put-below, at-put-above}
+pub use Rattle.laws.proofs.Once.{Once, once-none, once-more, Last, only, later, last-in, Linked, stop, goes, linked-same}
+use Rattle.facts.proofs.Steps.{Steps, steps-le, steps-same}
 
 -- ---- a function changed at one place
 module _ {A : Type 0} where
@@ -42,32 +39,32 @@ module _ {A : Type 0} where
       go true q = absurd (ne (eqb-true x k q))
       go false q = rw (q, upd)
 
--- ---- lists
-pub data Once : List ℕ → Type 0 where
-  once-none : Once []
-  once-more : {k : ℕ} {ks : List ℕ} → (List·Memᴰ k ks → ⊥) → Once ks → Once (k ∷ ks)
-
-pub data Last : List ℕ → ℕ → Type 0 where
-  only : {k : ℕ} → Last (k ∷ []) k
-  later : {k l : ℕ} {ks : List ℕ} → Last ks l → Last (k ∷ ks) l
-
-pub last-in : {ks : List ℕ} {k : ℕ} → Last ks k → List·Memᴰ k ks
-last-in only = List·Memᴰ·head refl
-last-in (later t) = List·Memᴰ·tail (last-in t)
-
--- the pages ks follow one another by their links, from x on
-pub data Linked (l : ℕ → ℕ) : ℕ → List ℕ → Type 0 where
-  stop : Linked l 0 []
-  goes : {k : ℕ} {ks : List ℕ} → Linked l (l k) ks → Linked l (suc k) (k ∷ ks)
-
-pub linked-same : {l m : ℕ → ℕ} {x : ℕ} {ks : List ℕ} → ((k : ℕ) → List·Memᴰ k ks → l k ≡ m k) → Linked l x ks → Linked m x ks
-linked-same e stop = stop
-linked-same e (goes {k} t) = goes (rw (e k (List·Memᴰ·head refl)) at (linked-same (λ x p. e x (List·Memᴰ·tail p)) t))
-
 -- ---- pages
 pub data Owner : Type 0 where
   old spare beyond : Owner
   mine : ℕ → Owner
+
+pub mine-inj : {i j : ℕ} → mine i ≡ mine j → i ≡ j
+mine-inj e = cc
+
+-- two owners
+pub old≢spare : {A : Type 0} {o : Owner} → o ≡ old → o ≡ spare → A
+old≢spare p q = let z : _≡_ {A = ℕ} 0 1 = cc in absurd (omega arith)
+
+pub old≢mine : {A : Type 0} {o : Owner} {j : ℕ} → o ≡ old → o ≡ mine j → A
+old≢mine p q = let z : _≡_ {A = ℕ} 0 1 = cc in absurd (omega arith)
+
+pub old≢beyond : {A : Type 0} {o : Owner} → o ≡ old → o ≡ beyond → A
+old≢beyond p q = let z : _≡_ {A = ℕ} 0 1 = cc in absurd (omega arith)
+
+pub spare≢mine : {A : Type 0} {o : Owner} {j : ℕ} → o ≡ spare → o ≡ mine j → A
+spare≢mine p q = let z : _≡_ {A = ℕ} 0 1 = cc in absurd (omega arith)
+
+pub spare≢beyond : {A : Type 0} {o : Owner} → o ≡ spare → o ≡ beyond → A
+spare≢beyond p q = let z : _≡_ {A = ℕ} 0 1 = cc in absurd (omega arith)
+
+pub mine≢beyond : {A : Type 0} {o : Owner} {j : ℕ} → o ≡ mine j → o ≡ beyond → A
+mine≢beyond p q = let z : _≡_ {A = ℕ} 0 1 = cc in absurd (omega arith)
 
 -- page k of region j: its values end at f, and then zeros
 pub record Body (n : ℕ) (h : List ℕ) (k j f : ℕ) : Type 0 where

@@ -4,3 +4,11 @@ pub mod Looked
 pub mod Alike
 pub mod Copied
 pub mod Audited
+pub mod Sound
+pub mod Filled
+pub mod Goods
+pub mod Means
+pub mod Passing
+pub mod Given
+pub mod Observing
+pub mod Framed

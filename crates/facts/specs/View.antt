@@ -1,93 +1,65 @@
--- What a store holds, seen by its pointers alone: paths, readings, meetings, reach. Nothing here knows of pages.
-use Prim.Native.Nat.{ℕ, zero, suc, _+_, _/_, _^_, _<_}
+-- What a store holds, seen by its pointers alone: readings and reach. Walks are those of the walk call; nothing here knows of pages but
+-- that each value has a home.
+use Prim.Native.Nat.{ℕ, suc, _<_}
 use mathlib.Core.Path.{_≡_}
-use mathlib.Core.Bool.{Bool, true, false}
+use mathlib.Core.Bool.{true}
 use mathlib.Core.Option.{Option, none, some}
 use mathlib.Core.List.{List, [], _∷_}
-use lib.ListN.{length}
-use lib.Dec.{eqb, ltb}
-use Rattle.rules.specs.Words.{Word, number, inHeap, inConst, wordOf, Val, vals, pageVals, goodOn}
-use Rattle.rules.specs.Memory.{Store, origin}
+use lib.ListN.{length, drop}
+use lib.Dec.{leb}
+use Rattle.laws.specs.Choice.{_⇒_∣_}
 use Rattle.laws.specs.Lists.{at}
+use Rattle.rules.specs.declared.Refusal.{Refusal}
+use Rattle.rules.specs.Memory.{Store, addressPage, origin}
+use Rattle.rules.specs.Words.{Word, number, inHeap, inConst, wordOf, isRecord}
+use Rattle.rules.specs.Calls.{lookIn, headerIn, fieldsIn, isNumber, Walked, ends, stops, walkFrom}
 
--- a value: its home is a region's number plus 1, or 0 for what no region holds (a constant)
-pub record Obj : Type 0 where
-  pub isRec : Bool
-  pub words : List ℕ
-  pub home : ℕ
+-- the value that a word points to, header and words, empty where there is none; and its home, a region's number plus 1, 0 for what no
+-- region holds
+pub record View : Type 0 where
+  pub value : ℕ → List ℕ
+  pub home : ℕ → ℕ
 
--- the value that a word points to, if it points to one
-abbrev pub View : Type 0
-View = ℕ → Option Obj
+abbrev pub homeBy : Store → Word → ℕ
+homeBy s number = 0
+homeBy s (inHeap a) = origin (s .ctl .n) (s .heap) (addressPage (s .ctl .n) a)
+homeBy s (inConst a) = 0
 
-unfoldable pub find : ℕ → ℕ → List Val → Option Obj
-find home a [] = none
-find home a (v ∷ vs) = elim (eqb a (v .at)) [ true ↦ some record { isRec = v .isRec; words = v .words; home = home } | false ↦ find home a vs ]
+unfoldable pub homeIn : Store → ℕ → ℕ
+homeIn s w = homeBy s (wordOf w)
 
--- in page k
-unfoldable pub lookOn : Store → ℕ → ℕ → Option Obj
-lookOn s k a = elim (goodOn (s .ctl .n) (s .ctl .regions) (s .heap) k a) [ true ↦ find (origin (s .ctl .n) (s .heap) k) a (pageVals (s .ctl .n) (s .heap) k) | false ↦ none ]
+abbrev pub seen : Store → View
+seen s = record { value = lookIn s; home = homeIn s }
 
-abbrev pub lookBy : Store → Word → Option Obj
-lookBy s number = none
-lookBy s (inHeap a) = lookOn s (a / 2 ^ s .ctl .n) a
-lookBy s (inConst a) = find 0 a (vals 0 0 (s .consts))
-
-unfoldable pub look : Store → View
-look s w = lookBy s (wordOf w)
-
-abbrev pub numberBy : Word → Bool
-numberBy number = true
-numberBy (inHeap a) = false
-numberBy (inConst a) = false
-
-unfoldable pub isNumber : ℕ → Bool
-isNumber w = numberBy (wordOf w)
-
--- ---- paths
-
--- the word that a walk ends on, or its refusal
-pub data Walked : Type 0 where
-  ends stops : ℕ → Walked
-
-unfoldable pub walkFrom : View → ℕ → List ℕ → Walked
-walkFrom X w [] = elim (isNumber w) [ true ↦ ends w | false ↦ elim (X w) [ none ↦ stops 7 | some o ↦ ends w ] ]
-walkFrom X w (f ∷ fs) = elim (isNumber w) [
-  | true ↦ stops 9
-  | false ↦ elim (X w) [
-    | none ↦ stops 7
-    | some o ↦ elim (o .isRec) [
-      | false ↦ stops 9
-      | true ↦ elim (ltb f (length (o .words))) [ true ↦ walkFrom X (at (o .words) f) fs | false ↦ stops 10 ]
-    ]
-  ]
-]
-
-unfoldable pub walk : View → List ℕ → ℕ → List ℕ → Walked
-walk X roots i fs = elim (ltb i (length roots)) [ true ↦ walkFrom X (at roots i) fs | false ↦ stops 10 ]
+-- ---- readings
 
 -- a field as it is read: a number, or that it is a pointer
 unfoldable pub masked : List ℕ → List (Option ℕ)
 masked [] = []
-masked (w ∷ ws) = elim (isNumber w) [ true ↦ some w | false ↦ none ] ∷ masked ws
+masked (w ∷ ws) = (isNumber (wordOf w) ⇒ some w ∣ none) ∷ masked ws
 
--- what a path reads: a refusal, a number, a record's length and numbers, or a raw value's text
+-- what a path reads: a refusal, a number, a record's numbers and where its pointers are, or a raw value's words; of a value also its home
 pub data Reading : Type 0 where
-  refusal whole : ℕ → Reading
-  ofRecord : List (Option ℕ) → Reading
-  ofRaw : List ℕ → Reading
+  refusal : Refusal → Reading
+  whole : ℕ → Reading
+  ofRecord : ℕ → List (Option ℕ) → Reading
+  ofRaw : ℕ → List ℕ → Reading
 
-abbrev pub readObj : Obj → Reading
-readObj o = elim (o .isRec) [ true ↦ ofRecord (masked (o .words)) | false ↦ ofRaw (o .words) ]
+unfoldable pub readValue : ℕ → List ℕ → Reading
+readValue home v = isRecord (headerIn v) ⇒ ofRecord home (masked (drop 1 v)) ∣ ofRaw home (drop 1 v)
 
 abbrev pub readBy : View → Walked → Reading
-readBy X (stops k) = refusal k
-readBy X (ends w) = elim (isNumber w) [ true ↦ whole w | false ↦ elim (X w) [ none ↦ refusal 7 | some o ↦ readObj o ] ]
+readBy X (stops r) = refusal r
+readBy X (ends w) = isNumber (wordOf w) ⇒ whole w ∣ readValue (X .home w) (X .value w)
+
+-- the path from root i by the fields fs
+unfoldable pub path : View → List ℕ → ℕ → List ℕ → Walked
+path X roots i fs = leb (length roots) i ⇒ stops Refusal.NoSuch ∣ walkFrom (X .value) (at roots i) fs
 
 unfoldable pub reading : View → List ℕ → ℕ → List ℕ → Reading
-reading X roots i fs = readBy X (walk X roots i fs)
+reading X roots i fs = readBy X (path X roots i fs)
 
 -- ---- reach: the words that a root reaches
 pub data Reached (X : View) (roots : List ℕ) : ℕ → Type 0 where
   root : (i : ℕ) → i < length roots → Reached X roots (at roots i)
-  field : {w : ℕ} (o : Obj) (f : ℕ) → Reached X roots w → X w ≡ some o → o .isRec ≡ true → f < length (o .words) → Reached X roots (at (o .words) f)
+  field : {w : ℕ} (f : ℕ) → Reached X roots w → isRecord (headerIn (X .value w)) ≡ true → f < fieldsIn (X .value w) → Reached X roots (at (X .value w) (suc f))

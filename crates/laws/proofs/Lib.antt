@@ -1,6 +1,12 @@
 pub mod Loops
 pub mod Lists
 pub mod Tests
-pub mod Each
+pub mod Tallies
+pub mod Sums
+pub mod Once
+pub mod Facts
 pub mod Parts
+pub mod Each
 pub mod Copies
+pub mod Writes
+pub mod Padded

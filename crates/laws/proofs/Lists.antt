@@ -3,11 +3,11 @@ use Prim.Native.Nat.{ℕ, zero, suc, _+_, _-_, _*_, _≤_, _<_}
 use native.Mathlib.Nat.{zero-add, mul-le-mul-right}
 use native.Mathlib.Omega.{arith}
 use native.Mathlib.Decide.{decLe}
-use mathlib.Core.Path.{_≡_, refl, sym, ap, _∙_}
+use mathlib.Core.Path.{_≡_, sym, ap, _∙_}
 use mathlib.Core.Logic.{_≢_, _⊎_, inl, inr}
 use mathlib.Core.List.{List, [], _∷_, _++_}
-use lib.ListN.{length, take, drop, getD, length-append, length-take, length-drop, drop-of-length-le, List·getD-append}
-use lib.Seq.{slice, take-nil, length-take-le, getD-append-add, getD-take, getD-drop}
+use lib.ListN.{length, take, drop, length-append, length-take, length-drop, drop-of-length-le, List·getD-append}
+use lib.Seq.{ext-getD, slice, take-nil, length-take-le, getD-append-add, getD-take, getD-drop}
 use Rattle.laws.specs.Lists.{at, put}
 
 pub drop-take : (m n : ℕ) (l : List ℕ) → drop m (take (m + n) l) ≡ take n (drop m l)
@@ -17,6 +17,24 @@ drop-take (suc m) n (x ∷ xs) = let q : suc m + n ≡ suc (m + n) = omega arith
 
 pub slice-none : (f t : ℕ) (l : List ℕ) → t ≤ f → slice f t l ≡ []
 slice-none f t l b = let q : length (take t l) ≤ f = simp length-take (omega arith) in drop-of-length-le (take t l) q
+
+-- ---- words by their places
+
+-- the same words, taken from two memories that agree on them
+pub part-same : (g h : List ℕ) (a m : ℕ) → length g ≡ length h → ((x : ℕ) → a ≤ x → x < a + m → at g x ≡ at h x) → a + m ≤ length g → take m (drop a g) ≡ take m (drop a h)
+part-same g h a m e agree inside =
+    let lg = length-drop a g in
+    let lh = length-drop a h in
+    let tg : length (take m (drop a g)) ≡ m = length-take-le m (drop a g) (omega arith) in
+    let th : length (take m (drop a h)) ≡ m = length-take-le m (drop a h) (omega arith) in
+    ext-getD 0 _ _ (tg ∙ sym th)
+    (λ i b.
+    getD-take m (drop a g) i 0 (omega arith) ∙ getD-drop a g i 0 ∙ agree (a + i) (omega arith) (omega arith)
+    ∙ sym (getD-drop a h i 0) ∙ sym (getD-take m (drop a h) i 0 (omega arith)))
+
+-- a word of a value
+pub word-in : (h : List ℕ) (a m i : ℕ) → i < m → at (take m (drop a h)) i ≡ at h (a + i)
+word-in h a m i b = getD-take m (drop a h) i 0 b ∙ getD-drop a h i 0
 
 -- ---- writing words into a list
 

@@ -1,14 +1,15 @@
 -- Tests to facts: what a test over a list or over the numbers below a bound says of each; and one turn of such a test.
 use Prim.Native.Nat.{ℕ, zero, suc, _+_, _-_, _≤_, _<_, zero-le}
 use native.Mathlib.Numerals.{sub-one, add-one}
+use native.Mathlib.Nat.{zero-add, add-zero}
 use native.Mathlib.Omega.{arith}
 use native.Mathlib.Decide.{ℕ-discrete}
 use mathlib.Core.Path.{_≡_, refl, sym, ap, _∙_}
 use mathlib.Core.Logic.{_⊎_, inl, inr}
-use mathlib.Core.Bool.{Bool, true, false, _&&_}
+use mathlib.Core.Bool.{Bool, true, false, _&&_, and-true}
 use mathlib.Core.List.{List, [], _∷_, List·Memᴰ, List·Memᴰ·cases-cons}
-use lib.ListN.{length, getD}
-use lib.Seq.{slice, slice-cons}
+use lib.ListN.{length, getD, drop, drop-of-length-le}
+use lib.Seq.{slice, slice-cons, drop-cons, take-length}
 use lib.Dec.{leb, ltb, eqb}
 use borrow.Author.Tests.{lt-ltb, le-ltb, le-leb, lt-leb, eq-eqb, ne-eqb}
 use Rattle.laws.specs.Lists.{all, allFrom, allBelow, zeros}
@@ -16,6 +17,17 @@ use Rattle.laws.proofs.Lists.{slice-none}
 
 -- what turns the tests of a definition into the tests that the code made
 pub ruleset tests = (lt-ltb, le-ltb, le-leb, lt-leb, eq-eqb, ne-eqb)
+
+-- a word x that was read, and what it is: the test of a definition is the test that the code made
+pub is-eqb : (x w y : ℕ) → x ≡ w → x ≡ y → eqb w y ≡ true
+is-eqb x w y e q = eq-eqb w y (sym e ∙ q)
+
+pub not-eqb : (x w y : ℕ) → x ≡ w → (x ≡ y → ⊥) → eqb w y ≡ false
+not-eqb x w y e ne = ne-eqb w y (λ q. ne (e ∙ q))
+
+-- x is not y, and y is w
+pub not-that : (x y w : ℕ) → y ≡ w → (x ≡ y → ⊥) → x ≡ w → ⊥
+not-that x y w e ne q = ne (q ∙ sym e)
 
 pub and-left : (a b : Bool) → (a && b) ≡ true → a ≡ true
 and-left true b e = refl
@@ -27,6 +39,14 @@ and-right false b e = let z : _≡_ {A = ℕ} 0 1 = cc in absurd (omega arith)
 
 pub both : {a b : Bool} → (a && b) ≡ true → (a ≡ true) × (b ≡ true)
 both {a} {b} e = (and-left a b e, and-right a b e)
+
+pub and-yes : (a : Bool) → (a && true) ≡ a
+and-yes true = refl
+and-yes false = refl
+
+pub and-assoc : (a b c : Bool) → (a && b && c) ≡ (a && (b && c))
+and-assoc true b c = refl
+and-assoc false b c = refl
 
 module _ {A : Type 0} (p : A → Bool) where
   pub all-in : (xs : List A) → all p xs ≡ true → (x : A) → List·Memᴰ x xs → p x ≡ true
@@ -72,10 +92,29 @@ from-go p (suc m) j l = rw (sub-one (suc m), add-one j) (go (p j) refl)
     go true e = rw (e, allFrom)
     go false e = rw (e, allFrom)
 
+pub from-next : (p : ℕ → Bool) (m j : ℕ) → 0 < m → p j ≡ true → allFrom p m j ≡ allFrom p (m - 1) (j + 1)
+from-next p m j l e = from-go p m j l ∙ ap (λ b. b && allFrom p (m - 1) (j + 1)) e
+
+pub from-stop : (p : ℕ → Bool) (m j : ℕ) → 0 < m → p j ≡ false → allFrom p m j ≡ false
+from-stop p m j l e = from-go p m j l ∙ ap (λ b. b && allFrom p (m - 1) (j + 1)) e
+
 pub from-end : (p : ℕ → Bool) (m j : ℕ) → m ≤ 0 → allFrom p m j ≡ true
 unfolding allFrom
 from-end p zero j l = refl
 from-end p (suc m) j l = absurd (omega arith)
+
+-- a run of tests, cut in two
+pub from-add : (p : ℕ → Bool) (a b j : ℕ) → allFrom p (a + b) j ≡ (allFrom p a j && allFrom p b (j + a))
+unfolding allFrom
+from-add p zero b j = rw (zero-add, add-zero)
+from-add p (suc a) b j = go (p j) refl (from-add p a b (suc j))
+  where
+    go : (t : Bool) → p j ≡ t → allFrom p (a + b) (suc j) ≡ (allFrom p a (suc j) && allFrom p b (suc j + a)) → allFrom p (suc a + b) j ≡ (allFrom p (suc a) j && allFrom p b (j + suc a))
+    go true e r =
+        let q : suc a + b ≡ suc (a + b) = omega arith in
+        let k : j + suc a ≡ suc j + a = omega arith in
+        rw (q, k, allFrom, e) r
+    go false e r = let q : suc a + b ≡ suc (a + b) = omega arith in rw (q, allFrom, e)
 
 -- fields, from address f up to address e
 module _ (p : ℕ → Bool) (h : List ℕ) (f e : ℕ) (r : Bool) where
@@ -88,6 +127,10 @@ module _ (p : ℕ → Bool) (h : List ℕ) (f e : ℕ) (r : Bool) where
 
   pub fields-stop : f < e → e ≤ length h → p (getD h f 0) ≡ false → (all p (slice f e h) && r) ≡ false
   fields-stop b c t = rw (slice-cons f e h 0 b c, all-turn p, t)
+
+-- all of a list's words
+pub fields-all : (p : ℕ → Bool) (h : List ℕ) → (all p (slice 0 (length h) h) && true) ≡ all p h
+fields-all p h = rw (take-length h, and-true)
 
 -- zeros, from address z up to address e
 module _ (h : List ℕ) (z e : ℕ) (r : Bool) where
@@ -102,3 +145,17 @@ module _ (h : List ℕ) (z e : ℕ) (r : Bool) where
   pub zeros-stop : z < e → e ≤ length h → (getD h z 0 ≡ 0 → ⊥) → (zeros (slice z e h) && r) ≡ false
   unfolding zeros
   zeros-stop b c t = rw (slice-cons z e h 0 b c, zeros, ne-eqb _ _ t)
+
+-- zeros, from place i to the end
+module _ (ws : List ℕ) (i : ℕ) where
+  pub zeros-none : length ws ≤ i → zeros (drop i ws) ≡ true
+  unfolding zeros
+  zeros-none b = rw (drop-of-length-le ws b)
+
+  pub zeros-next : i < length ws → getD ws i 0 ≡ 0 → zeros (drop i ws) ≡ zeros (drop (i + 1) ws)
+  unfolding zeros
+  zeros-next b z = rw (drop-cons ws i 0 b, zeros, eq-eqb _ _ z, add-one i)
+
+  pub zeros-found : i < length ws → (getD ws i 0 ≡ 0 → ⊥) → zeros (drop i ws) ≡ false
+  unfolding zeros
+  zeros-found b ne = rw (drop-cons ws i 0 b, zeros, ne-eqb _ _ ne)

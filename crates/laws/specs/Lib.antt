@@ -1,4 +1,5 @@
 pub mod Choice
 pub mod Lists
 pub mod Loop
+pub mod Sums
 pub mod Each

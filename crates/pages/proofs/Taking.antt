@@ -8,16 +8,24 @@ use lib.ListN.{set}
 use Rattle.laws.specs.Lists.{at}
 use Rattle.rules.specs.declared.Control.{Control}
 use Rattle.rules.specs.Memory.{link}
+use Rattle.rules.specs.Refusals.{Admitted}
 use Rattle.rules.specs.Pages.{lastIf, takePage}
 use Rattle.rules.proofs.Limits.{Inside, page-inside}
 use Rattle.rules.proofs.Pages.{take-some}
 use Rattle.pages.specs.Taking.{PageFree, runOf}
 
-pub free-page : (h : ℕ) (c : Control) → PageFree h c → c .first - 1 < h / 2 ^ c .n
-free-page h c f = omega arith
+-- k is the first free page
+pub free-page : (h k : ℕ) (c : Control) → PageFree h c → k ≡ c .first - 1 → k < h / 2 ^ c .n
+free-page h k c f q = omega arith
 
-pub free-inside : (h : ℕ) (c : Control) → PageFree h c → Inside (2 ^ c .n) ((c .first - 1) * 2 ^ c .n) h
-free-inside h c f = page-inside _ _ _ _ refl (f .paged) (free-page h c f)
+pub free-inside : (h k : ℕ) (c : Control) → PageFree h c → k ≡ c .first - 1 → Inside (2 ^ c .n) (k * 2 ^ c .n) h
+free-inside h k c f q = page-inside _ _ _ _ refl (f .paged) (free-page h k c f q)
+
+-- after the first tests, where the count is not 0
+pub page-free : (h t r k : ℕ) (c : Control) → Admitted h t r k c → (c .count ≡ 0 → ⊥) → PageFree h c
+page-free h t r k c a ne =
+    let b : 0 < c .count = omega arith in
+    record { paged = a .paged; some-first = a .some-page b; first = a .first; some-count = b }
 
 -- page k, at address a, gets link 0 and then the origin o; l and m are free last and count after that
 pub took : (h t : List ℕ) (c : Control) (j k a o l m : ℕ) → 0 < c .first → k ≡ c .first - 1 → a ≡ k * 2 ^ c .n → o ≡ suc j

@@ -18,6 +18,6 @@ pub record PageFree (h : ℕ) (c : Control) : Type 0 where
 abbrev pub runOf : List ℕ → List ℕ → Control → Run
 runOf heap table c = record { heap = heap; table = table; first = c .first; last = c .last; count = c .count; stack = [] }
 
--- what is taken, with the run after it
-abbrev pub takenAs : Taken → List ℕ → List ℕ → Option (ℕ × Run)
-takenAs t heap table = some (t .page .0, record { heap = heap; table = table; first = t .first; last = t .last; count = t .count; stack = [] })
+-- page k taken, with the run after that
+abbrev pub takenAs : ℕ → Taken → List ℕ → List ℕ → Option (ℕ × Run)
+takenAs k t heap table = some (k, record { heap = heap; table = table; first = t .first; last = t .last; count = t .count; stack = [] })

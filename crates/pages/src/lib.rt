@@ -4,18 +4,18 @@ ghost use Prim.Native.Nat.{_+_, _-_, _*_, _/_, _^_, _≤_, _<_};
 ghost use Prim.Native.Nat.{ℕ};
 ghost use mathlib.Core.List.{List};
 ghost use lib.ListN.{length, replicate};
-ghost use Rattle.rules.specs.Memory.{limits, lent, pageCount};
+ghost use Rattle.rules.specs.Memory.{limits, lent, pageCount, linkPage, bodyAddress, pageEnd};
 ghost use Rattle.rules.specs.Refusals.{common, Paged};
 ghost use Rattle.rules.specs.Pages.{linkFits, takePage, clearPage};
 ghost use Rattle.rules.specs.Calls.{pageByNumber, pageRefusal};
 ghost use Rattle.pages.specs.First.{firstTests};
 ghost use Rattle.pages.specs.Taking.{PageFree, runOf, takenAs};
+use rules::Address;
 use rules::Control;
 use rules::Page;
 use rules::Plain;
 use rules::Refusal;
 use rules::Region;
-use rules::link_page;
 use rules::page_address;
 use rules::region_origin;
 
@@ -101,6 +101,24 @@ pub fn first_tests(heap: usize, table: usize, roots: usize, consts: usize, c: Co
     Tested::Fine
 }
 
+// The address just past a page.
+pub fn page_end(k: Page, n: u32) -> Address
+    requires { ⌜ (k .0 ≤ 65536) × (4 ≤ n) × (n ≤ 8) ⌝ }
+    ensures { λ r. ⌜ r .0 ≡ pageEnd n (k .0) ⌝ }
+{
+    let start = page_address(k, n);
+    Address(start.0 + page_words(n))
+}
+
+// The address of a page's third word.
+pub fn body_address(k: Page, n: u32) -> Address
+    requires { ⌜ (k .0 ≤ 65536) × (n ≤ 8) ⌝ }
+    ensures { λ r. ⌜ r .0 ≡ bodyAddress n (k .0) ⌝ }
+{
+    let start = page_address(k, n);
+    Address(start.0 + 2)
+}
+
 // Each word becomes w.
 pub fn fill(part: &mut [u32], w: u32)
     ensures { λ _. ⌜ now (part .exit) ≡ replicate (length (now (part .entry))) w ⌝ }
@@ -144,20 +162,18 @@ pub fn link_fits(heap: &[u32], k: Page, n: u32, count: u32) -> bool
     (link == 0) == (count == 1)
 }
 
-// A page that was taken, and the free list after that.
+// The free list after a page is taken.
 pub struct Taken {
-    pub page: Page,
     pub first: u32,
     pub last: u32,
     pub count: u32,
 }
 
-// The first free page becomes one of region j: link 0, then its origin.
-pub fn take_page(heap: &mut [u32], j: Region, c: Control) -> Taken
-    requires { ⌜ (PageFree (length (now heap)) c) × (j .0 ≤ 64) ⌝ }
-    ensures { λ r. ⌜ ((t : List ℕ) → takenAs r (now (heap .exit)) t ≡ takePage (c .n) (j .0) (runOf (now (heap .entry)) t c)) ⌝ }
+// Page k, the first free one, becomes one of region j: link 0, then its origin.
+pub fn take_page(heap: &mut [u32], k: Page, j: Region, c: Control) -> Taken
+    requires { ⌜ (PageFree (length (now heap)) c) × (k .0 ≡ linkPage (c .first)) × (j .0 ≤ 64) ⌝ }
+    ensures { λ r. ⌜ ((t : List ℕ) → takenAs (k .0) r (now (heap .exit)) t ≡ takePage (c .n) (j .0) (runOf (now (heap .entry)) t c)) ⌝ }
 {
-    let k = link_page(c.first);
     let start = page_address(k, c.n);
     let a = start.0;
     let link = heap[a];
@@ -165,14 +181,12 @@ pub fn take_page(heap: &mut [u32], j: Region, c: Control) -> Taken
     heap[a + 1] = region_origin(j);
     if c.count == 1 {
         return Taken {
-            page: k,
             first: link,
             last: 0,
             count: 0,
         };
     }
     Taken {
-        page: k,
         first: link,
         last: c.last,
         count: c.count - 1,
@@ -194,7 +208,8 @@ pub fn page_by_number<'a>(
     if let Tested::Refused(_) = tested {
         return &heap[0..0];
     }
-    if page_count(heap.len(), c.n) <= k.0 {
+    let pages = page_count(heap.len(), c.n);
+    if pages <= k.0 {
         return &heap[0..0];
     }
     let start = page_address(k, c.n);

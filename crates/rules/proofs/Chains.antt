@@ -1,5 +1,4 @@
--- The turn laws of chains and pages: a chain at a link is the page and the chain at its link. Each is stated with what the outer levels
--- still have to test, `&& r`, so that one law serves every nest.
+-- Pages as parts of the heap, and the turn laws of chains: a chain at a link is the page and the chain at its link.
 use Prim.Native.Nat.{ℕ, zero, suc, _+_, _-_, _*_, _/_, _^_, _≤_, _<_}
 use mathlib.Core.Path.{_≡_, refl, sym, ap, _∙_}
 use mathlib.Core.Bool.{Bool, true, false, _&&_}
@@ -10,13 +9,14 @@ use native.Mathlib.Numerals.{sub-one, add-one}
 use borrow.Author.Tests.{lt-ltb, le-ltb}
 use lib.Arith.{digits-div}
 use lib.Dec.{ltb}
-use lib.ListN.{length, take, drop, getD, length-drop}
+use lib.ListN.{length, take, drop, getD, length-take, length-drop}
 use lib.Seq.{slice, drop-drop, length-take-le, getD-take, getD-drop, ext-getD}
-use Rattle.laws.specs.Lists.{at, put, all, allFrom}
+use Rattle.laws.specs.Lists.{at, put}
 use Rattle.laws.proofs.Lists.{drop-take, apart, length-put, at-put-below, at-put-above}
-use Rattle.laws.proofs.Tests.{all-turn, from-go}
-use Rattle.rules.specs.Memory.{pageWords, link, chain, regionPages}
+use Rattle.rules.specs.Memory.{pageWords, link, chain, chainEnd}
 use Rattle.rules.specs.Words.{vals, valsIn, pageVals}
+use Rattle.rules.specs.Refusals.{Paged}
+use Rattle.rules.proofs.Limits.{page-span}
 
 -- ---- pages as parts of the heap
 
@@ -31,6 +31,17 @@ length-page n h k inside = length-take-le (2 ^ n) (drop (k * 2 ^ n) h) (simp len
 pub at-page : (n : ℕ) (h : List ℕ) (k i : ℕ) → i < 2 ^ n → at (pageWords n h k) i ≡ at h (k * 2 ^ n + i)
 unfolding pageWords
 at-page n h k i b = getD-take (2 ^ n) (drop (k * 2 ^ n) h) i 0 b ∙ getD-drop (k * 2 ^ n) h i 0
+
+-- a page as code lends it, from one page's address to the next one's
+pub page-slice : (n : ℕ) (h : List ℕ) (k from end : ℕ) → Paged n (length h) → k < length h / 2 ^ n → from ≡ k * 2 ^ n → end ≡ (k + 1) * 2 ^ n
+    → (take (end - from) (drop from h) ≡ pageWords n h k) × (length (take (end - from) (drop from h)) ≤ 256)
+unfolding pageWords
+page-slice n h k from end g b p q =
+    let s = page-span n (length h) k from end g b p q in
+    let s0 = s .0 in
+    let s2 = s .2 in
+    let w : end - from ≡ 2 ^ n = omega arith in
+    (rw (w, p), rw w (simp length-take (omega arith)))
 
 -- two heaps of one length that agree on page l have the same words there
 pub same-page : (n : ℕ) (g h : List ℕ) (l : ℕ) → l * 2 ^ n + 2 ^ n ≤ length g → length g ≡ length h
@@ -56,9 +67,13 @@ other-page n h k o ws l inside fits ne inside′ =
     let e : length (put h (k * 2 ^ n + o) ws) ≡ length h = length-put h (k * 2 ^ n + o) ws (omega arith) in
     same-page n _ h l (omega arith) e (λ x lo hi. at-other-page n h k o ws l x inside fits ne lo hi)
 
-pub page-part : (n : ℕ) (h : List ℕ) (k : ℕ) → drop 2 (pageWords n h k) ≡ slice (k * 2 ^ n + 2) (k * 2 ^ n + 2 ^ n) h
+-- the words of a page from its word i on
+pub page-from : (i n : ℕ) (h : List ℕ) (k : ℕ) → drop i (pageWords n h k) ≡ slice (k * 2 ^ n + i) (k * 2 ^ n + 2 ^ n) h
 unfolding pageWords
-page-part n h k = ap (drop 2) (sym (drop-take (k * 2 ^ n) (2 ^ n) h)) ∙ drop-drop 2 (k * 2 ^ n) (take (k * 2 ^ n + 2 ^ n) h)
+page-from i n h k = ap (drop i) (sym (drop-take (k * 2 ^ n) (2 ^ n) h)) ∙ drop-drop i (k * 2 ^ n) (take (k * 2 ^ n + 2 ^ n) h)
+
+pub page-part : (n : ℕ) (h : List ℕ) (k : ℕ) → drop 2 (pageWords n h k) ≡ slice (k * 2 ^ n + 2) (k * 2 ^ n + 2 ^ n) h
+page-part = page-from 2
 
 pub page-vals : (n : ℕ) (h : List ℕ) (k : ℕ) → pageVals n h k ≡ valsIn h (k * 2 ^ n + 2) (k * 2 ^ n + 2 ^ n)
 unfolding pageVals valsIn
@@ -91,26 +106,25 @@ module _ (n : ℕ) (h : List ℕ) where
   chain-out zero k l = refl
   chain-out (suc f) k l = absurd (omega arith)
 
--- pages of a chain, over code that has p for 2 ^ n
-module _ (q : ℕ → Bool) (n p : ℕ) (e : p ≡ 2 ^ n) (h : List ℕ) (f k : ℕ) (r : Bool) where
-  pub pages-go : 0 < f → (k ≡ 0 → ⊥) → k ≤ length h / p → (all q (chain f n h k) && r) ≡ (q (k - 1) && (all q (chain (f - 1) n h (getD h ((k - 1) * p) 0)) && r))
-  pages-go l z b = rw (chain-go n h f k l z (rw e at b), e) (all-turn q (k - 1) _ r)
+  -- the link that it ends with
+  pub end-go : (f k : ℕ) → 0 < f → (k ≡ 0 → ⊥) → k ≤ length h / 2 ^ n → chainEnd f n h k ≡ chainEnd (f - 1) n h (getD h ((k - 1) * 2 ^ n) 0)
+  unfolding chainEnd link
+  end-go zero k l z b = absurd (omega arith)
+  end-go (suc f) zero l z b = absurd (z refl)
+  end-go (suc f) (suc k) l z b = rw (sub-one (suc f), sub-one (suc k), chainEnd, lt-ltb k (length h / 2 ^ n) b)
 
-  pub pages-none : k ≡ 0 → (all q (chain f n h k) && r) ≡ r
-  unfolding all
-  pages-none z = rw (chain-none n h f k z)
+  pub end-none : (f k : ℕ) → k ≡ 0 → chainEnd f n h k ≡ k
+  unfolding chainEnd
+  end-none zero k z = refl
+  end-none (suc f) k z = rw z
 
-  pub pages-bad : length h / p < k → (all q (chain f n h k) && r) ≡ r
-  unfolding all
-  pages-bad b = rw (chain-bad n h f k (rw e at b))
+  pub end-bad : (f k : ℕ) → length h / 2 ^ n < k → chainEnd f n h k ≡ k
+  unfolding chainEnd
+  end-bad zero k b = refl
+  end-bad (suc f) zero b = refl
+  end-bad (suc f) (suc k) b = rw (chainEnd, le-ltb k (length h / 2 ^ n) (omega arith))
 
-  pub pages-end : f ≤ 0 → (all q (chain f n h k) && r) ≡ r
-  unfolding all
-  pages-end l = rw (chain-out n h f k l)
-
--- regions
-pub regions-go : (q : ℕ → ℕ → Bool) (n p : ℕ) → p ≡ 2 ^ n → (h t : List ℕ) (m j : ℕ) → 0 < m
-    → allFrom (λ j. all (q j) (regionPages n h t j)) m j
-    ≡ (all (q j) (chain (length h / p) n h (getD t (4 * j + 1) 0 / p + 1)) && allFrom (λ j. all (q j) (regionPages n h t j)) (m - 1) (j + 1))
-unfolding regionPages
-regions-go q n p e h t m j l = rw (e, add-one) (from-go (λ j. all (q j) (regionPages n h t j)) m j l)
+  pub end-out : (f k : ℕ) → f ≤ 0 → chainEnd f n h k ≡ k
+  unfolding chainEnd
+  end-out zero k l = refl
+  end-out (suc f) k l = absurd (omega arith)

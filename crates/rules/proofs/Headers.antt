@@ -6,7 +6,7 @@ use mathlib.Core.Option.{Option, none, some}
 use native.Mathlib.Omega.{arith}
 use borrow.Author.Tests.{leb-true, le-leb, ne-eqb}
 use lib.Dec.{leb, eqb}
-use Rattle.rules.specs.Words.{headBy, headOf, lengthBy, recordBy, isRecord, fit, fits}
+use Rattle.rules.specs.Words.{Head, rec, raw, moved, wrong, headBy, headOf, lengthBy, recordBy, wordsBy, isRecord, fit, fits}
 
 pub fit-some : (w m l : ℕ) → fit w m ≡ some l → (lengthBy (headOf w) ≡ some l) × (l ≤ m)
 unfolding fit
@@ -93,3 +93,22 @@ fit-none h m t = go (fit h m) refl
     go : (o : Option ℕ) → fit h m ≡ o → fit h m ≡ none
     go none e = e
     go (some l) e = let q : true ≡ false = sym (rw (e, fits)) ∙ t in let z : _≡_ {A = ℕ} 0 1 = cc in absurd (omega arith)
+
+-- what fits, fits into more words
+pub fits-more : (h m k : ℕ) → fits h m ≡ true → m ≤ k → fits h k ≡ true
+unfolding fits
+fits-more h m k t b =
+    let f = fit-of h m t in
+    let g = fit-some h m (h / 8) (f .0) in
+    let q = g .1 in
+    rw (fit-is h k (h / 8) (g .0) (omega arith), fits)
+
+-- a header that fits says how many words its value takes
+words-by : (e : Head) (l : ℕ) → lengthBy e ≡ some l → wordsBy e ≡ suc l
+words-by (rec k) l e = cc
+words-by (raw k) l e = cc
+words-by (moved b) l e = let z : _≡_ {A = ℕ} 0 1 = cc in absurd (omega arith)
+words-by wrong l e = let z : _≡_ {A = ℕ} 0 1 = cc in absurd (omega arith)
+
+pub fits-words : (h m : ℕ) → fits h m ≡ true → wordsBy (headOf h) ≡ suc (h / 8)
+fits-words h m t = words-by (headOf h) (h / 8) (fit-some h m (h / 8) (fit-of h m t .0) .0)

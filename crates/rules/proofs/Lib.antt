@@ -3,5 +3,14 @@ pub mod Limits
 pub mod Stepping
 pub mod Chains
 pub mod Good
+pub mod Frames
+pub mod Looks
+pub mod Walks
+pub mod Nests
+pub mod Once
 pub mod Pages
+pub mod Whole
 pub mod Soundings
+pub mod Fresh
+pub mod Rows
+pub mod Pointers

@@ -1,13 +1,13 @@
 -- What the limits and the common test say as facts, and that a page of a heap within them lies inside it.
-use Prim.Native.Nat.{ℕ, suc, _+_, _*_, _/_, _%_, _^_, _≤_, _<_}
-use mathlib.Core.Path.{_≡_, refl}
+use Prim.Native.Nat.{ℕ, suc, _+_, _-_, _*_, _/_, _%_, _^_, _≤_, _<_}
+use mathlib.Core.Path.{_≡_, refl, _∙_}
 use mathlib.Core.Bool.{Bool, true, false, _&&_, Bool·beq}
 use borrow.Author.Tests.{leb-true, eqb-true, eqb-false, eq-eqb}
 use lib.Dec.{leb, eqb}
 use Rattle.laws.proofs.Tests.{both}
 use native.Mathlib.Omega.{arith}
-use native.Mathlib.Nat.{mul-le-mul-right, div-add-mod', div-lt-iff-lt-mul}
-use lib.Pow.{pow-mono, shr-le}
+use native.Mathlib.Nat.{le-trans, le-div-iff-mul-le, mul-le-mul-left, mul-le-mul-right, add-mul, one-mul, div-add-mod', div-lt-iff-lt-mul, div-le-self}
+use lib.Pow.{pow-pos, pow-mono, shr-le}
 use Rattle.rules.specs.declared.Control.{Control}
 use Rattle.rules.specs.Memory.{limits}
 use Rattle.rules.specs.Refusals.{common, Paged, Admitted}
@@ -17,6 +17,10 @@ page-size n a b = (pow-mono {i = 4} a, pow-mono {j = 8} b)
 
 pub whole-pages : (n h : ℕ) → Paged n h → h / 2 ^ n * 2 ^ n ≡ h
 whole-pages n h g = let w = g .whole in omega (arith, div-add-mod' h (2 ^ n))
+
+-- a heap of at least two pages has at least two pages
+pub two-pages : (n h : ℕ) → Paged n h → 2 * 2 ^ n ≤ h → 2 ≤ h / 2 ^ n
+two-pages n h g b = le-div-iff-mul-le {k = 2 ^ n} (pow-pos n) .1 b
 
 pub record Inside (p base h : ℕ) : Type 0 where
   pub ends : base + p ≤ h
@@ -40,18 +44,39 @@ page-inside n h p k q g b =
 pub page-number : (n h k : ℕ) → Paged n h → k < h / 2 ^ n → (k ≤ 65536) × (n ≤ 8)
 page-number n h k g b = (omega (arith, shr-le h n, g .size), g .high)
 
+-- so does the page that the link k names, over code that has N for the number of pages and b for the page's address
+pub page-here : (n h N k b : ℕ) → Paged n h → N ≡ h / 2 ^ n → b ≡ (k - 1) * 2 ^ n → (k ≡ 0 → ⊥) → k ≤ N → Inside (2 ^ n) b h
+page-here n h N k b g e q z c = rw q (page-inside n h (2 ^ n) (k - 1) refl g (omega arith))
+
+-- the address of such a page, and what is past it, wrap nothing
+pub address-small : (n k : ℕ) → k ≤ 65536 → n ≤ 8 → (k * 2 ^ n ≤ 65536 * 256) × (2 ^ n ≤ 256)
+address-small n k a b =
+    let p : 2 ^ n ≤ 256 = pow-mono {j = 8} b in
+    (le-trans (mul-le-mul-right (2 ^ n) a) (mul-le-mul-left 65536 p), p)
+
 -- the page of address a lies inside
-pub in-page : (n h p a : ℕ) → p ≡ 2 ^ n → Paged n h → a < h → Inside p (a / p * p) h
-in-page n h p a q g b =
+pub in-page : (n h p base a : ℕ) → p ≡ 2 ^ n → base ≡ a / 2 ^ n * 2 ^ n → Paged n h → a < h → Inside p base h
+in-page n h p base a q e g b =
     let z = page-size n (g .low) (g .high) in
     let d : a / 2 ^ n < h / 2 ^ n = div-lt-iff-lt-mul {k = 2 ^ n} (omega arith) .1 (rw (whole-pages n h g) b) in
-    page-inside n h p (a / p) q g (rw q d)
+    rw (e, q) (page-inside n h (2 ^ n) (a / 2 ^ n) refl g d)
+
+-- there are few pages
+pub pages-few : (n h N : ℕ) → Paged n h → N ≡ h / 2 ^ n → N ≤ 65536
+pages-few n h N g e = let z = g .size in omega (arith, div-le-self h (2 ^ n))
 
 -- ---- the tests of every call, as facts
 
-pub exponent : (n h t r k : ℕ) → limits n h t r k ≡ true → (4 ≤ n) × (n ≤ 8)
+pub record Within (n h t r k : ℕ) : Type 0 where
+  pub paged : Paged n h
+  pub two : 2 * 2 ^ n ≤ h
+  pub table : t ≡ 256
+  pub roots : r ≤ 1024
+  pub consts : k ≤ 65535
+
+pub within : (n h t r k : ℕ) → limits n h t r k ≡ true → Within n h t r k
 unfolding limits
-exponent n h t r k l =
+within n h t r k l =
     let (l7, k1) = both l in
     let (l6, r1) = both l7 in
     let (l5, t1) = both l6 in
@@ -59,7 +84,13 @@ exponent n h t r k l =
     let (l3, w2) = both l4 in
     let (l2, w1) = both l3 in
     let (n4, n8) = both l2 in
-    (leb-true _ _ n4, leb-true _ _ n8)
+    record {
+      paged = record { low = leb-true _ _ n4; high = leb-true _ _ n8; size = leb-true _ _ h1; whole = eqb-true _ _ w1 };
+      two = leb-true _ _ w2;
+      table = eqb-true _ _ t1;
+      roots = leb-true _ _ r1;
+      consts = leb-true _ _ k1;
+    }
 
 -- first and count are 0 together
 both-some : (f k : ℕ) → Bool·beq (eqb f 0) (eqb k 0) ≡ true → 0 < k → 0 < f
@@ -78,27 +109,28 @@ both-none f k e b = go (eqb f 0) refl
     go false p = let e′ : false ≡ true = rw (p, eq-eqb k 0 b) at e in let z : _≡_ {A = ℕ} 0 1 = cc in absurd (omega arith)
 
 pub admits : (h t r k : ℕ) (c : Control) → limits (c .n) h t r k ≡ true → common (h / 2 ^ c .n) c ≡ true → Admitted h t r k c
-unfolding limits common
+unfolding common
 admits h t r k c l m =
-    let (l7, k1) = both l in
-    let (l6, r1) = both l7 in
-    let (l5, t1) = both l6 in
-    let (l4, h1) = both l5 in
-    let (l3, w2) = both l4 in
-    let (l2, w1) = both l3 in
-    let (n4, n8) = both l2 in
+    let w = within (c .n) h t r k l in
     let (m3, fk) = both m in
     let (m2, c1) = both m3 in
     let (r64, f1) = both m2 in
     record {
-      paged = record { low = leb-true _ _ n4; high = leb-true _ _ n8; size = leb-true _ _ h1; whole = eqb-true _ _ w1 };
-      two = leb-true _ _ w2;
-      table = eqb-true _ _ t1;
-      roots = leb-true _ _ r1;
-      consts = leb-true _ _ k1;
+      paged = w .paged;
+      two = w .two;
+      table = w .table;
+      roots = w .roots;
+      consts = w .consts;
       regions = leb-true _ _ r64;
       first = leb-true _ _ f1;
       count = leb-true _ _ c1;
       some-page = both-some (c .first) (c .count) fk;
       no-page = both-none (c .first) (c .count) fk;
     }
+
+-- page k, from one page's address to the next one's
+pub page-span : (n h k from end : ℕ) → Paged n h → k < h / 2 ^ n → from ≡ k * 2 ^ n → end ≡ (k + 1) * 2 ^ n → (end ≡ from + 2 ^ n) × (end ≤ h) × (2 ^ n ≤ 256)
+page-span n h k from end g b p q =
+    let i : Inside (2 ^ n) (k * 2 ^ n) h = page-inside n h (2 ^ n) k refl g b in
+    let s : end ≡ from + 2 ^ n = q ∙ add-mul k 1 (2 ^ n) ∙ (let o = one-mul (2 ^ n) in omega arith) in
+    (s, (let e = i .ends in omega arith), i .high)

@@ -1,16 +1,25 @@
--- Taking and clearing pages, as the code does it: a page that was lent and cleared, and what is taken where a page is there.
+-- Clearing and taking pages and placing values, as the code does it: each law says what a definition comes to once the tests before it are known.
 use Prim.Native.Nat.{ℕ, zero, suc, _+_, _-_, _*_, _^_, _≤_, _<_}
 use mathlib.Core.Path.{_≡_, refl, sym, ap, _∙_}
+use mathlib.Core.Bool.{true, false}
 use mathlib.Core.Option.{some}
-use mathlib.Core.List.{List, _++_}
+use mathlib.Core.List.{List, [], _++_}
 use native.Mathlib.Omega.{arith}
 use native.Mathlib.Numerals.{sub-one}
-use lib.ListN.{length, take, drop, replicate, set, length-drop, length-replicate}
-use lib.Seq.{length-take-le}
+use borrow.Author.Tests.{le-leb, lt-leb, eq-eqb, ne-eqb}
+use lib.Dec.{leb}
+use lib.ListN.{length, take, drop, replicate, set, length-drop, length-set, length-replicate}
+use lib.Seq.{length-take-le, getD-set-same}
 use Rattle.laws.specs.Lists.{put}
 use Rattle.laws.proofs.Parts.{part-put}
-use Rattle.rules.specs.Memory.{pageWords, link}
-use Rattle.rules.specs.Pages.{Run, withFree, lastIf, takePage, clearPage}
+use Rattle.rules.specs.declared.Control.{Control}
+use Rattle.rules.specs.declared.Refusal.{Refusal}
+use Rattle.rules.specs.declared.Valued.{Valued}
+use Rattle.rules.specs.Memory.{Store, control, pageLink, pageEnd, bodyAddress, pageWords, link, row, endOf, topOf, setEnd, setTop}
+use Rattle.rules.specs.Words.{addressPointer}
+use Rattle.rules.specs.Refusals.{outcome, refusedValue}
+use Rattle.rules.specs.Pages.{Run, begun, withFree, lastIf, linkFits, takePage, clearPage, join, room, store, place}
+use Rattle.rules.specs.Calls.{allocateOn, allocateIn}
 
 -- page k, of p words from a on, is handed back
 pub page-handed : (n : ℕ) (h : List ℕ) (k a p : ℕ) → a ≡ k * 2 ^ n → p ≡ 2 ^ n → take (a + p - a) (drop a h) ≡ pageWords n h k
@@ -56,3 +65,59 @@ take-some n j r b = go (r .first) refl
         )
     go zero e = absurd (omega arith)
     go (suc k) e = rw (e, sub-one (suc k))
+
+-- ---- the allocation rule
+
+module _ (n j : ℕ) (r : Run) where
+  -- it fits before e
+  pub place-here : (v : List ℕ) → topOf (r .table) j + length v ≤ endOf (r .table) j → place n j v r ≡ some (topOf (r .table) j, store n j v r)
+  unfolding place room
+  place-here v b = rw (le-leb _ _ b, place, room)
+
+  -- it does not, and a page is taken
+  pub place-grown : (v : List ℕ) (k : ℕ) (r₁ : Run) → endOf (r .table) j < topOf (r .table) j + length v → takePage n j r ≡ some (k, r₁)
+      → place n j v r ≡ some (topOf (join n j k r₁ .table) j, store n j v (join n j k r₁))
+  unfolding place room
+  place-grown v k r₁ b e = rw (lt-leb _ _ b, e, place, room)
+
+-- region j's a after a page has joined it
+pub top-joined : (table : List ℕ) (j e a : ℕ) → length table ≡ 256 → j < 64 → topOf (setTop (setEnd table j e) j a) j ≡ a
+top-joined table j e a q b = getD-set-same (setEnd table j e) (row j + 2) a 0 (simp length-set (omega arith))
+
+module _ (s : Store) (j : ℕ) (v : List ℕ) where
+  pub value-here : topOf (s .table) j + length v ≤ endOf (s .table) j
+      → allocateIn s j v
+      ≡ outcome
+      (Valued.Done (addressPointer (topOf (s .table) j)) (s .ctl))
+      (put (s .heap) (topOf (s .table) j) v)
+      (setTop (s .table) j (topOf (s .table) j + length v))
+      (s .roots)
+      (s .consts)
+  unfolding allocateIn allocateOn store
+  value-here b = rw (le-leb _ _ b, place-here (s .ctl .n) j (begun s) v b)
+
+  -- a page is wanted
+  module _ (b : endOf (s .table) j < topOf (s .table) j + length v) where
+    pub value-no-page : s .ctl .count ≡ 0 → allocateIn s j v ≡ refusedValue s Refusal.NoPage
+    unfolding allocateIn
+    value-no-page z = rw (lt-leb _ _ b, eq-eqb _ _ z)
+
+    pub value-broken : (s .ctl .count ≡ 0 → ⊥) → linkFits (s .ctl .n) (s .heap) (s .ctl .first - 1) (s .ctl .count) ≡ false → allocateIn s j v ≡ refusedValue s (Refusal.Broken 0)
+    unfolding allocateIn
+    value-broken z f = rw (lt-leb _ _ b, ne-eqb _ _ z, f)
+
+    -- page k is taken, h is the heap after that and f, l, m the free list
+    pub value-grown : (k : ℕ) (h : List ℕ) (f l m : ℕ) → (s .ctl .count ≡ 0 → ⊥) → linkFits (s .ctl .n) (s .heap) (s .ctl .first - 1) (s .ctl .count) ≡ true
+        → some (k, record { heap = h; table = s .table; first = f; last = l; count = m; stack = [] }) ≡ takePage (s .ctl .n) j (begun s)
+        → length (s .table) ≡ 256
+        → j < 64
+        → allocateIn s j v
+        ≡ outcome
+        (Valued.Done (addressPointer (bodyAddress (s .ctl .n) k)) (control (s .ctl .n) (s .ctl .regions) f l m))
+        (put (set h (endOf (s .table) j - 2 ^ s .ctl .n) (pageLink k)) (bodyAddress (s .ctl .n) k) v)
+        (setTop (setTop (setEnd (s .table) j (pageEnd (s .ctl .n) k)) j (bodyAddress (s .ctl .n) k)) j (bodyAddress (s .ctl .n) k + length v))
+        (s .roots)
+        (s .consts)
+    unfolding allocateIn allocateOn store join
+    value-grown k h f l m z t e q w =
+        rw (lt-leb _ _ b, ne-eqb _ _ z, t, place-grown (s .ctl .n) j (begun s) v k _ b (sym e), top-joined (s .table) j (pageEnd (s .ctl .n) k) (bodyAddress (s .ctl .n) k) q w)

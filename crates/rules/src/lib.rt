@@ -102,7 +102,7 @@ pub fn address_page(a: Address, n: u32) -> Page
 
 // The link that names a page.
 pub fn page_link(k: Page) -> u32
-    requires { ⌜ k .0 ≤ 65536 ⌝ }
+    requires { ⌜ k .0 < 4294967295 ⌝ }
     ensures { λ r. ⌜ r ≡ pageLink (k .0) ⌝ }
 {
     k.0 as u32 + 1

@@ -1,19 +1,19 @@
--- A word inside a copy is no part of the layout.
-use Prim.Native.Nat.{ℕ, zero, suc, pred, _+_, _-_, _*_, _/_, _%_, _^_, _≤_, _<_, zero-le, suc-le-suc}
-use native.Mathlib.Nat.{le-trans, le-refl, add-zero}
+-- A word inside a value is no part of the layout: stepping reads headers only, and no header stands inside a value.
+use Prim.Native.Nat.{ℕ, suc, _+_, _*_, _^_, _≤_, _<_}
+use native.Mathlib.Nat.{le-refl}
 use native.Mathlib.Omega.{arith}
 use native.Mathlib.Decide.{ℕ-discrete}
-use mathlib.Core.Path.{_≡_, refl, sym, ap, _∙_, subst}
-use mathlib.Core.Logic.{_≢_, _↔_, _⊎_, inl, inr}
-use mathlib.Core.List.{List, [], _∷_, _++_, List·Memᴰ}
-use lib.ListN.{length, set, length-set}
-use lib.Seq.{getD-set-same, getD-set-other}
+use mathlib.Core.Path.{_≡_, sym, ap, _∙_}
+use mathlib.Core.Logic.{_≢_, _⊎_, inl, inr}
+use mathlib.Core.List.{List}
+use lib.ListN.{set, length-set}
+use lib.Seq.{getD-set-other}
 use Rattle.laws.specs.Lists.{at}
 use Rattle.rules.specs.Memory.{link}
-use Rattle.rules.specs.Pages.{Run}
+use Rattle.rules.specs.Pages.{Run, withHeap}
 use Rattle.laws.proofs.Lists.{apart as pages-apart}
-use Rattle.facts.proofs.Steps.{Stands, Steps, here, over, steps-le, steps-inside}
-use Rattle.facts.proofs.Laid.{Linked, linked-same, Owner, old, spare, beyond, mine, Body, Clean, Like, body-like, clean-like, Layout}
+use Rattle.facts.proofs.Steps.{Stands, Steps, here, steps-le, steps-inside}
+use Rattle.facts.proofs.Laid.{mine-inj, spare≢mine, linked-same, Owner, spare, mine, Body, Like, body-like, clean-like, Layout}
 
 module _ (n N R : ℕ) (own : ℕ → Owner) (fin : ℕ → ℕ) (pages : ℕ → List ℕ) (free : List ℕ) (r : Run) (L : Layout n N R own fin pages free r)
     (k j d l i v : ℕ) (own-k : own k ≡ mine j) (at-d : Steps (r .heap) (k * 2 ^ n + 2 ^ n) (k * 2 ^ n + 2) d)
@@ -58,9 +58,6 @@ module _ (n N R : ℕ) (own : ℕ → Owner) (fin : ℕ → ℕ) (pages : ℕ �
         rest = λ y p q. sym (keep y (omega arith)) ∙ body .rest y p q;
       }
 
-  mine-inj : {a b : ℕ} → mine a ≡ mine b → a ≡ b
-  mine-inj e = cc
-
   bodies : (m t : ℕ) → own t ≡ mine m → Body n h′ t m (fin t)
   bodies m t o = go (ℕ-discrete t k)
     where
@@ -69,9 +66,9 @@ module _ (n N R : ℕ) (own : ℕ → Owner) (fin : ℕ → ℕ) (pages : ℕ �
       go (no ne) = let b = L .big in body-like (omega arith) (like t ne) (L .mine-body m t o)
 
   spare-not : (m : ℕ) → own m ≡ spare → m ≢ k
-  spare-not m o e = let q : spare ≡ mine j = sym o ∙ ap own e ∙ own-k in let z : _≡_ {A = ℕ} 0 1 = cc in omega arith
+  spare-not m o e = spare≢mine o (ap own e ∙ own-k)
 
-  pub field-laid : Layout n N R own fin pages free (leave (d + suc i) v r)
+  pub field-laid : Layout n N R own fin pages free (withHeap r (set (r .heap) (d + suc i) v))
   field-laid =
       record {
         size = length-set (r .heap) (d + suc i) v ∙ L .size;

@@ -1,27 +1,43 @@
--- The log of a collection: which value was copied where, and what its copy holds. An evacuation adds one entry.
-use Prim.Native.Nat.{ℕ, zero, suc, pred, _+_, _-_, _*_, _/_, _%_, _^_, _≤_, _<_, zero-le, suc-le-suc}
-use native.Mathlib.Nat.{le-trans, le-refl, add-zero, mul-le-mul-right}
+-- The log of a collection: which value was copied where, and what its copy holds. An evacuation adds one entry; the place of the copy is new,
+-- so what the log says of earlier copies stays.
+use Prim.Native.Nat.{ℕ, suc, _+_, _*_, _^_, _≤_, _<_, zero-le}
+use native.Mathlib.Nat.{add-zero}
 use native.Mathlib.Omega.{arith}
-use native.Mathlib.Decide.{ℕ-discrete, decLe}
-use mathlib.Core.Path.{_≡_, refl, sym, ap, _∙_, subst}
+use native.Mathlib.Decide.{ℕ-discrete}
+use mathlib.Core.Path.{_≡_, refl, sym, ap, _∙_}
 use mathlib.Core.Logic.{_≢_, _↔_, _⊎_, inl, inr}
-use mathlib.Core.Bool.{Bool, true, false}
-use mathlib.Core.Option.{Option, none, some}
-use mathlib.Core.List.{List, [], _∷_, _++_, List·Memᴰ, List·Memᴰ·head, List·Memᴰ·tail, List·Memᴰ·cases-cons}
-use lib.ListN.{length}
-use Rattle.rules.specs.Words.{isRecord}
+use mathlib.Core.Option.{none}
+use mathlib.Core.List.{List, [], _∷_, List·Memᴰ, List·Memᴰ·head, List·Memᴰ·tail, List·Memᴰ·cases-cons}
 use Rattle.rules.specs.Memory.{Store}
 use Rattle.laws.specs.Lists.{at}
-use Rattle.facts.specs.View.{isNumber, look, Reached}
+use Rattle.facts.specs.View.{seen, Reached}
 use Rattle.laws.proofs.Lists.{apart as pages-apart}
-use Rattle.facts.proofs.Steps.{Stands, Steps, here, over, steps-le, steps-then, steps-same, stands-same, apart}
-use Rattle.facts.proofs.Laid.{upd, upd-same, upd-other, Owner, old, spare, beyond, mine}
+use Rattle.facts.proofs.Steps.{Stands, Steps, steps-le, steps-same, stands-same, apart}
+use Rattle.laws.proofs.Once.{Once, once-more}
+use Rattle.facts.proofs.Laid.{upd, upd-same, upd-other, Owner, old, mine}
 use Rattle.facts.proofs.Copied.{Moved, to, Rel, num, stay, went}
 
 -- The log's entries are addresses, `to old new`; its words are the pointers to them.
 abbrev pub pointers : List Moved → List Moved
 pointers [] = []
 pointers (m ∷ ms) = to (4 * m .old) (4 * m .new) ∷ pointers ms
+
+-- what was moved
+abbrev pub olds : List Moved → List ℕ
+olds [] = []
+olds (m ∷ ms) = m .old ∷ olds ms
+
+pub in-olds : {a : ℕ} (log : List Moved) → List·Memᴰ a (olds log) → (b : ℕ) × List·Memᴰ (to a b) log
+in-olds [] m = elim m [ ]
+in-olds {a} (x ∷ xs) m = go (List·Memᴰ·cases-cons m) (λ p. in-olds xs p)
+  where
+    go : (a ≡ x .old) ⊎ List·Memᴰ a (olds xs) → (List·Memᴰ a (olds xs) → (b : ℕ) × List·Memᴰ (to a b) xs) → (b : ℕ) × List·Memᴰ (to a b) (x ∷ xs)
+    go (inl e) rest = (x .new, List·Memᴰ·head (ap (λ y. to y (x .new)) e))
+    go (inr p) rest = let t = rest p in (t .0, List·Memᴰ·tail (t .1))
+
+pub olds-in : {a b : ℕ} {log : List Moved} → List·Memᴰ (to a b) log → List·Memᴰ a (olds log)
+olds-in (List·Memᴰ·head e) = List·Memᴰ·head (ap (λ (x : Moved). x .old) e)
+olds-in (List·Memᴰ·tail m) = List·Memᴰ·tail (olds-in m)
 
 -- the entry m: where the value stood, where its copy stands, and what the copy holds. (kept: the pointers that stay.)
 pub record Copy (n : ℕ) (s : Store) (kept : ℕ → Type 0) (own : ℕ → Owner) (fin : ℕ → ℕ) (h : List ℕ) (log : List Moved) (done : ℕ → ℕ) (a b : ℕ) : Type 0 where
@@ -48,9 +64,10 @@ pub record Log (n : ℕ) (s : Store) (kept : ℕ → Type 0) (own : ℕ → Owne
       → ((b : ℕ) → List·Memᴰ (to x b) log → ⊥) → at h x ≡ at (s .heap) x
   pub one-new : {a b b′ : ℕ} → List·Memᴰ (to a b) log → List·Memᴰ (to a b′) log → b ≡ b′
   pub one-old : {a a′ b : ℕ} → List·Memᴰ (to a b) log → List·Memᴰ (to a′ b) log → a ≡ a′
-  pub live : {a b : ℕ} → List·Memᴰ (to a b) log → Reached (look s) (s .roots) (4 * a)
+  pub live : {a b : ℕ} → List·Memᴰ (to a b) log → Reached (seen s) (s .roots) (4 * a)
   pub every : (k j b : ℕ) → own k ≡ mine j → Steps h (k * 2 ^ n + 2 ^ n) (k * 2 ^ n + 2) b → b < fin k
       → (a : ℕ) × List·Memᴰ (to a b) log
+  pub once : Once (olds log)
 
 -- what one evacuation of the value of l words at a, in page f of region j, to b, in page p, does to the heap
 pub record Evacuated (n : ℕ) (s : Store) (own own′ : ℕ → Owner) (fin fin′ : ℕ → ℕ) (h h′ : List ℕ) (j l a b f p : ℕ) : Type 0 where
@@ -80,7 +97,7 @@ rel-more log m (went q) = went (List·Memᴰ·tail q)
 
 module _ (n : ℕ) (s : Store) (kept : ℕ → Type 0) (own own′ : ℕ → Owner) (fin fin′ : ℕ → ℕ) (h h′ : List ℕ) (log : List Moved) (done : ℕ → ℕ)
     (j l a b f p : ℕ) (L : Log n s kept own fin h log done) (E : Evacuated n s own own′ fin fin′ h h′ j l a b f p)
-    (new : (c : ℕ) → List·Memᴰ (to a c) log → ⊥) (reached : Reached (look s) (s .roots) (4 * a)) where
+    (new : (c : ℕ) → List·Memᴰ (to a c) log → ⊥) (reached : Reached (seen s) (s .roots) (4 * a)) where
   -- a copy of before lies below b, or in another page
   old-copy : {c d : ℕ} → Copy n s kept own fin h log done c d → c ≢ a → d ≢ b → Copy n s kept own′ fin′ h′ (to a b ∷ log) (upd done b 0) c d
   old-copy {c} {d} C nc nd =
@@ -181,7 +198,7 @@ module _ (n : ℕ) (s : Store) (kept : ℕ → Type 0) (own own′ : ℕ → Own
   one-old-by (inr m) (inl e) = absurd (other-place (L .copies m) (is-new e))
   one-old-by (inr m) (inr m′) = L .one-old m m′
 
-  live-by : {c d : ℕ} → (to c d ≡ to a b) ⊎ List·Memᴰ (to c d) log → Reached (look s) (s .roots) (4 * c)
+  live-by : {c d : ℕ} → (to c d ≡ to a b) ⊎ List·Memᴰ (to c d) log → Reached (seen s) (s .roots) (4 * c)
   live-by (inl e) = rw (is-old e) reached
   live-by (inr m) = L .live m
 
@@ -224,4 +241,5 @@ module _ (n : ℕ) (s : Store) (kept : ℕ → Type 0) (own own′ : ℕ → Own
         one-old = λ m m′. one-old-by (List·Memᴰ·cases-cons m) (List·Memᴰ·cases-cons m′);
         live = λ m. live-by (List·Memᴰ·cases-cons m);
         every = every-by;
+        once = once-more (λ m. let t = in-olds log m in new (t .0) (t .1)) (L .once);
       }

@@ -1,110 +1,24 @@
--- A value moved: placed in its region, its region woken, its forward left.
-use Prim.Native.Nat.{ℕ, zero, suc, pred, _+_, _-_, _*_, _/_, _%_, _^_, _≤_, _<_, zero-le, suc-le-suc}
-use native.Mathlib.Nat.{le-trans, le-refl, add-zero, mul-le-mul-right}
+-- A value moved: its words, still as they were, stand at the end of its region, and its old header is the forward. No other word of an old
+-- page changes, and no word of a region's values does.
+use Prim.Native.Nat.{ℕ, suc, _+_, _*_, _^_, _≤_, _<_, zero-le}
+use native.Mathlib.Nat.{add-zero, mul-le-mul-right}
 use native.Mathlib.Omega.{arith}
 use native.Mathlib.Decide.{ℕ-discrete}
 use mathlib.Core.Path.{_≡_, refl, sym, ap, _∙_, subst}
-use mathlib.Core.Logic.{_≢_, _↔_, _⊎_, inl, inr}
-use mathlib.Core.Bool.{Bool, true, false}
-use mathlib.Core.Option.{Option, none, some}
-use mathlib.Core.List.{List, [], _∷_, _++_, List·Memᴰ, List·Memᴰ·head, List·Memᴰ·tail}
-use lib.ListN.{length, getD, set, take, drop, length-set, length-drop}
+use mathlib.Core.Logic.{_≢_, _⊎_, inl, inr}
+use mathlib.Core.List.{List, List·Memᴰ}
+use lib.ListN.{length, set, take, drop, length-drop}
 use lib.Seq.{getD-set-same, getD-set-other, length-take-le, getD-take, getD-drop}
-use lib.Arith.{digits-div}
-use Rattle.heap.proofs.Stored as S
-use Rattle.rules.specs.Words.{Head, headOf, lengthBy}
-use Rattle.rules.specs.declared.Control.{Control}
-use Rattle.rules.specs.Memory.{Store, link, origin, endOf, firstOf, topOf, statusOf}
+use Rattle.rules.specs.Words.{headOf, lengthBy}
+use Rattle.rules.specs.Memory.{Store, endOf, topOf}
 use Rattle.laws.specs.Lists.{at, put}
-use Rattle.rules.specs.Pages.{Run, withHeap, withTable, withStack, room, store}
-use Rattle.rules.specs.Refusals.{place}
-use Rattle.rules.specs.Collection.{wake}
+use Rattle.rules.specs.Pages.{Run}
 use Rattle.laws.proofs.Lists.{apart as pages-apart, length-put, at-put-below, at-put-in, at-put-above}
-use Rattle.facts.proofs.Steps.{Stands, Steps, here, over, steps-le, steps-then, steps-same, apart}
-use Rattle.facts.proofs.Laid.{upd, upd-same, upd-other, Once, Last, last-in, Linked, linked-same, Owner, old, spare, beyond, mine, Body, Clean, Like, body-like, clean-like, Layout, Value}
+use Rattle.facts.proofs.Steps.{Stands, Steps, steps-le, steps-same, apart}
+use Rattle.facts.proofs.Laid.{old≢spare, old≢mine, old≢beyond, spare≢mine, mine≢beyond, upd, upd-same, upd-other, last-in, Owner, old, spare, mine, Body, Layout, Value}
 use Rattle.facts.proofs.Copied.{Moved, to}
-use Rattle.working.proofs.Log.{Copy, Log, Evacuated, evacuated-log}
+use Rattle.working.proofs.Log.{Log, Evacuated}
 use Rattle.working.proofs.Placed.{Roomed}
--- the page of an address
-use Rattle.rules.proofs.Chains.{page-of}
-
-module _ (n N R : ℕ) (own : ℕ → Owner) (fin : ℕ → ℕ) (pages : ℕ → List ℕ) (free : List ℕ) (r : Run) (L : Layout n N R own fin pages free r) where
-  -- a region's status, or the scan stack, is no part of the layout
-  pub wake-laid : (j b : ℕ) → Layout n N R own fin pages free (wake n j b r)
-  unfolding wake
-  wake-laid j b = go (statusOf (r .table) j) refl
-    where
-      table′ : List ℕ
-      table′ = set (r .table) (4 * j + 3) 1
-
-      row : (y : ℕ) → y ≢ 4 * j + 3 → at table′ y ≡ at (r .table) y
-      row y ne = getD-set-other (r .table) (4 * j + 3) y 1 0 ne
-
-      woken : Layout n N R own fin pages free (withStack (withTable r table′) (b ∷ r .stack))
-      woken =
-          record {
-            size = L .size;
-            big = L .big;
-            rows = rw length-set (L .rows);
-            known = L .known;
-            free-own = L .free-own;
-            free-once = L .free-once;
-            free-links = L .free-links;
-            free-last = L .free-last;
-            free-count = L .free-count;
-            free-clean = L .free-clean;
-            mine-own = L .mine-own;
-            mine-once = L .mine-once;
-            mine-links = λ i p. let t = L .mine-links i p in (t .0, row (4 * i + 1) (omega arith) ∙ t .1, t .2);
-            mine-body = L .mine-body;
-            mine-top = λ i p. let t = L .mine-top i p in (t .0, t .1, row (4 * i) (omega arith) ∙ t .2, row (4 * i + 2) (omega arith) ∙ t .3);
-          }
-
-      go : (c : ℕ) → statusOf (r .table) j ≡ c → Layout n N R own fin pages free (wake n j b r)
-      go zero e = rw (e, wake) woken
-      go (suc c) e = rw (e, wake) L
-
-  -- a word of an old page is no part of the layout
-  module _ (f a v : ℕ) (o : own f ≡ old) (lo : f * 2 ^ n ≤ a) (hi : a < f * 2 ^ n + 2 ^ n) where
-    keep : (k x : ℕ) → own k ≢ old → k * 2 ^ n ≤ x → x < k * 2 ^ n + 2 ^ n → at (set (r .heap) a v) x ≡ at (r .heap) x
-    keep k x ne p q = getD-set-other (r .heap) a x v 0 (λ e. go (pages-apart (2 ^ n) k f (λ t. ne (ap own t ∙ o))) e)
-      where
-        go : (k * 2 ^ n + 2 ^ n ≤ f * 2 ^ n) ⊎ (f * 2 ^ n + 2 ^ n ≤ k * 2 ^ n) → x ≡ a → ⊥
-        go (inl t) e = omega arith
-        go (inr t) e = omega arith
-
-    like : (k : ℕ) → own k ≢ old → Like n (r .heap) (set (r .heap) a v) k
-    like k ne = record { word = λ x p q. sym (keep k x ne (omega arith) q) }
-
-    links : (k : ℕ) → own k ≢ old → link n (r .heap) k ≡ link n (set (r .heap) a v) k
-    unfolding link
-    links k ne = let b = L .big in sym (keep k (k * 2 ^ n) ne (le-refl _) (omega arith))
-
-    spare-not : {k : ℕ} → own k ≡ spare → own k ≢ old
-    spare-not p q = let t : spare ≡ old = sym p ∙ q in let z : _≡_ {A = ℕ} 0 1 = cc in omega arith
-
-    mine-not : {k i : ℕ} → own k ≡ mine i → own k ≢ old
-    mine-not {k} {i} p q = let t : mine i ≡ old = sym p ∙ q in let z : _≡_ {A = ℕ} 0 1 = cc in omega arith
-
-    pub forward-laid : Layout n N R own fin pages free (withHeap r (set (r .heap) a v))
-    forward-laid =
-        record {
-          size = length-set (r .heap) a v ∙ L .size;
-          big = L .big;
-          rows = L .rows;
-          known = L .known;
-          free-own = L .free-own;
-          free-once = L .free-once;
-          free-links = linked-same (λ k m. links k (spare-not (L .free-own k m))) (L .free-links);
-          free-last = L .free-last;
-          free-count = L .free-count;
-          free-clean = λ k p. clean-like (like k (spare-not p)) (L .free-clean k p);
-          mine-own = L .mine-own;
-          mine-once = L .mine-once;
-          mine-links = λ i p. let t = L .mine-links i p in (t .0, t .1, linked-same (λ k m. links k (mine-not (L .mine-own i k p m))) (t .2));
-          mine-body = λ i k p. let b = L .big in body-like (omega arith) (like k (mine-not p)) (L .mine-body i k p);
-          mine-top = L .mine-top;
-        }
 
 -- ---- the value's words are still as they were
 module _ (n : ℕ) (s : Store) (kept : ℕ → Type 0) (own : ℕ → Owner) (fin : ℕ → ℕ) (h : List ℕ) (log : List Moved) (done : ℕ → ℕ) (G : Log n s kept own fin h log done)
@@ -143,7 +57,7 @@ module _ (n N R : ℕ) (s : Store) (kept : ℕ → Type 0) (own : ℕ → Owner)
     (L : Layout n N R own fin pages free r) (G : Log n s kept own fin (r .heap) log done)
     (j f a l : ℕ) (jR : j < R) (o : own f ≡ old) (whose : at (s .heap) (f * 2 ^ n + 1) ≡ suc j)
     (at-a : Steps (s .heap) (f * 2 ^ n + 2 ^ n) (f * 2 ^ n + 2) a) (st : Stands (s .heap) (f * 2 ^ n + 2 ^ n) a l)
-    (new : (b : ℕ) → List·Memᴰ (to a b) log → ⊥) (r₁ : Run) (M : Roomed n N R own fin (r .heap) j (suc l) r₁) where
+    (new : (b : ℕ) → List·Memᴰ (to a b) log → ⊥) (r₁ : Run) (M : Roomed n N R own fin pages free r j (suc l) r₁) where
   abbrev ws : List ℕ
   ws = take (suc l) (drop a (r .heap))
 
@@ -156,7 +70,7 @@ module _ (n N R : ℕ) (s : Store) (kept : ℕ → Type 0) (own : ℕ → Owner)
   f-in : f * 2 ^ n + 2 ^ n ≤ length (r .heap)
   f-in =
       let z = L .size in
-      let p = mul-le-mul-right (2 ^ n) (L .known f (λ q. let t : old ≡ beyond = sym o ∙ q in let w : _≡_ {A = ℕ} 0 1 = cc in omega arith)) in
+      let p = mul-le-mul-right (2 ^ n) (L .known f (λ q. old≢beyond o q)) in
       omega arith
 
   pub len : length ws ≡ suc l
@@ -195,16 +109,10 @@ module _ (n N R : ℕ) (s : Store) (kept : ℕ → Type 0) (own : ℕ → Owner)
   b-hi : b + suc l ≤ p * 2 ^ n + 2 ^ n
   b-hi = let x = fits in let y = len in let z = e-is in omega arith
 
-  old≢mine : {i : ℕ} → old ≢ mine i
-  old≢mine e = let z : _≡_ {A = ℕ} 0 1 = cc in omega arith
-
-  spare≢mine : {i : ℕ} → spare ≢ mine i
-  spare≢mine e = let z : _≡_ {A = ℕ} 0 1 = cc in omega arith
-
   p-in : p * 2 ^ n + 2 ^ n ≤ length (r₁ .heap)
   p-in =
       let z = M .laid .size in
-      let q = mul-le-mul-right (2 ^ n) (M .laid .known p (λ q. let t : mine j ≡ beyond = sym own-p ∙ q in let w : _≡_ {A = ℕ} 0 1 = cc in omega arith)) in
+      let q = mul-le-mul-right (2 ^ n) (M .laid .known p (λ q. mine≢beyond own-p q)) in
       omega arith
 
   b-in : b + length ws ≤ length (r₁ .heap)
@@ -222,7 +130,7 @@ module _ (n N R : ℕ) (s : Store) (kept : ℕ → Type 0) (own : ℕ → Owner)
       go (inr u) = let x = a-lo in let y = a-hi in omega arith
 
   f≢p : f ≢ p
-  f≢p e = old≢mine (sym (M .old-kept f .0 o) ∙ ap (M .own₁) e ∙ own-p)
+  f≢p e = old≢mine (M .old-kept f .0 o) (ap (M .own₁) e ∙ own-p)
 
   elsewhere : (k x : ℕ) → k ≢ p → k * 2 ^ n ≤ x → x < k * 2 ^ n + 2 ^ n → at (put (r₁ .heap) b ws) x ≡ at (r₁ .heap) x
   elsewhere k x ne q t = go (pages-apart (2 ^ n) k p ne)
@@ -237,8 +145,8 @@ module _ (n N R : ℕ) (s : Store) (kept : ℕ → Type 0) (own : ℕ → Owner)
   own-words : (k x : ℕ) → own k ≡ old → k * 2 ^ n ≤ x → x < k * 2 ^ n + 2 ^ n → Dec (x ≡ k * 2 ^ n) → at (r₁ .heap) x ≡ at (r .heap) x
   own-words k x q t u (yes e) = rw e (M .old-links k q)
   own-words k x q t u (no ne) =
-      M .words k x (λ z. let t : old ≡ spare = sym q ∙ z in let w : _≡_ {A = ℕ} 0 1 = cc in omega arith)
-      (λ z. let t : old ≡ beyond = sym q ∙ z in let w : _≡_ {A = ℕ} 0 1 = cc in omega arith) (omega arith) u
+      M .words k x (λ z. old≢spare q z)
+      (λ z. old≢beyond q z) (omega arith) u
 
   abbrev pub fin′ : ℕ → ℕ
   fin′ = upd (M .fin₁) p (M .fin₁ p + length ws)
@@ -260,9 +168,9 @@ module _ (n N R : ℕ) (s : Store) (kept : ℕ → Type 0) (own : ℕ → Owner)
   mine-words : (k i x : ℕ) → own k ≡ mine i → k * 2 ^ n + 2 ≤ x → x < fin k → at h′ x ≡ at (r .heap) x
   mine-words k i x q t u =
       let top = L .mine-body i k q .inside in
-      let k≢f : k ≢ f = λ e. old≢mine (sym o ∙ ap own (sym e) ∙ q) in
+      let k≢f : k ≢ f = λ e. old≢mine o (ap own (sym e) ∙ q) in
       unset x (far k x k≢f (omega arith) (omega arith)) ∙ go (ℕ-discrete k p)
-      ∙ M .words k x (λ z. spare≢mine (sym z ∙ q)) (λ z. let t : mine i ≡ beyond = sym q ∙ z in let w : _≡_ {A = ℕ} 0 1 = cc in omega arith) (omega arith) (omega arith)
+      ∙ M .words k x (λ z. spare≢mine z q) (λ z. mine≢beyond q z) (omega arith) (omega arith)
     where
       go : Dec (k ≡ p) → at (put (r₁ .heap) b ws) x ≡ at (r₁ .heap) x
       go (yes e) =
@@ -287,7 +195,7 @@ module _ (n N R : ℕ) (s : Store) (kept : ℕ → Type 0) (own : ℕ → Owner)
       go : (own p ≡ mine j) ⊎ ((own p ≡ spare) × (j ≡ j) × (M .fin₁ p ≡ p * 2 ^ n + 2) × (endOf (r₁ .table) j ≡ p * 2 ^ n + 2 ^ n))
           → ((own p ≡ mine j) × (fin p ≡ b)) ⊎ ((b ≡ p * 2 ^ n + 2) × ((i : ℕ) → own p ≢ mine i))
       go (inl t) = inl (t, sym (M .mine-kept p j t .1) ∙ sym b-is)
-      go (inr t) = inr (b-is ∙ t .2, λ i q. spare≢mine (sym (t .0) ∙ q))
+      go (inr t) = inr (b-is ∙ t .2, λ i q. spare≢mine (t .0) q)
 
   a-in : a < length (put (r₁ .heap) b ws)
   a-in =
@@ -311,7 +219,7 @@ module _ (n N R : ℕ) (s : Store) (kept : ℕ → Type 0) (own : ℕ → Owner)
         mine-kept = λ k i q. M .mine-kept k i q .0;
         mine-from = froms;
         old-words = λ k x q t u ne.
-            unset x ne ∙ elsewhere k x (λ e. old≢mine (sym (M .old-kept k .0 q) ∙ ap (M .own₁) e ∙ own-p)) t u ∙ own-words k x q t u (ℕ-discrete x (k * 2 ^ n));
+            unset x ne ∙ elsewhere k x (λ e. old≢mine (M .old-kept k .0 q) (ap (M .own₁) e ∙ own-p)) t u ∙ own-words k x q t u (ℕ-discrete x (k * 2 ^ n));
         mine-words = mine-words;
         grows = grown;
         a-old = o;

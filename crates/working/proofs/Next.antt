@@ -1,24 +1,28 @@
--- Where the scan of a region goes on: the values of a region in their order, and the address after each.
-use Prim.Native.Nat.{ℕ, zero, suc, pred, _+_, _-_, _*_, _/_, _%_, _^_, _≤_, _<_, zero-le, suc-le-suc}
-use native.Mathlib.Nat.{le-trans, le-refl, add-zero, mul-le-mul-right, mul-mod-left}
+-- Where the scan of a region goes on: the values of a region in their order, and the address after each. Behind a value stands the next of
+-- its page; behind a page's last value a 0 or the page's end, and no page but the first is empty.
+use Prim.Native.Nat.{ℕ, suc, _+_, _-_, _*_, _%_, _^_, _≤_, _<_}
+use native.Mathlib.Nat.{le-refl, mul-mod-left}
+use native.Mathlib.Numerals.{sub-one}
 use native.Mathlib.Omega.{arith}
-use native.Mathlib.Decide.{ℕ-discrete, decLe}
-use mathlib.Core.Path.{_≡_, refl, sym, ap, _∙_, subst}
-use mathlib.Core.Logic.{_≢_, _↔_, _⊎_, inl, inr}
+use native.Mathlib.Decide.{ℕ-discrete}
+use mathlib.Core.Path.{_≡_, refl, sym, ap, _∙_}
+use mathlib.Core.Logic.{_≢_, _⊎_, inl, inr}
 use mathlib.Core.Bool.{Bool, true, false, _||_}
-use mathlib.Core.Option.{Option, none, some}
 use mathlib.Core.List.{List, [], _∷_, _++_, append-nil, List·Memᴰ, List·Memᴰ·head, List·Memᴰ·tail}
 use lib.Arith.{digits-mod}
 use lib.Dec.{eqb}
-use borrow.Author.Tests.{eqb-true, eqb-false, eq-eqb, ne-eqb}
-use Rattle.rules.specs.Words.{Head, rec, raw, moved, wrong, headOf, lengthBy, wordsBy}
+use borrow.Author.Tests.{eq-eqb, ne-eqb}
+use Rattle.rules.specs.Words.{headOf, wordsBy}
 use Rattle.laws.specs.Lists.{at}
 use Rattle.rules.specs.Memory.{link, topOf}
 use Rattle.rules.specs.Pages.{Run}
 use Rattle.rules.specs.Collection.{nextFrom, nextScan}
 use Rattle.laws.proofs.Lists.{apart as pages-apart}
-use Rattle.facts.proofs.Steps.{Stands, Steps, here, over, steps-le, steps-then}
-use Rattle.facts.proofs.Laid.{Once, once-more, Last, only, later, last-in, Linked, Owner, mine, Body, Layout}
+use Rattle.facts.proofs.Steps.{Stands, steps-le}
+use Rattle.laws.proofs.Once.{once-tail, once-head}
+use Rattle.facts.proofs.Laid.{Once, Last, only, later, last-in, Linked, Owner, mine, Body, Layout}
+use Rattle.rules.proofs.Pointers.{words-of}
+use Rattle.facts.proofs.Framed.{no-zero}
 use Rattle.rules.proofs.Chains.{page-of}
 use Rattle.working.proofs.Taken.{linked-first, last-one}
 
@@ -36,20 +40,6 @@ pub data Row (n : ℕ) (h : List ℕ) (fin : ℕ → ℕ) : List ℕ → List �
 abbrev pub headOr : ℕ → List ℕ → ℕ
 headOr t [] = t
 headOr t (x ∷ xs) = x
-
-words-of : (x : Head) (l : ℕ) → lengthBy x ≡ some l → wordsBy x ≡ suc l
-words-of (rec m) l e = let q : m ≡ l = cc in ap suc q
-words-of (raw m) l e = let q : m ≡ l = cc in ap suc q
-words-of (moved b) l e = let z : _≡_ {A = ℕ} 0 1 = cc in absurd (omega arith)
-words-of wrong l e = let z : _≡_ {A = ℕ} 0 1 = cc in absurd (omega arith)
-
--- a header is not 0
-pub head-not-0 : {h : List ℕ} {hi a l : ℕ} → Stands h hi a l → at h a ≢ 0
-unfolding headOf
-head-not-0 {h} {hi} {a} {l} st e =
-    let q : lengthBy (headOf 0) ≡ some l = ap (λ w. lengthBy (headOf w)) (sym e) ∙ st .head in
-    let z : _≡_ {A = ℕ} 0 1 = cc in
-    omega arith
 
 module _ (n N R : ℕ) (own : ℕ → Owner) (fin : ℕ → ℕ) (pages : ℕ → List ℕ) (free : List ℕ) (r : Run) (L : Layout n N R own fin pages free r)
     (j : ℕ) (jR : j < R) (k s l : ℕ) (own-k : own k ≡ mine j) (lo : k * 2 ^ n + 2 ≤ s) (st : Stands (r .heap) (k * 2 ^ n + 2 ^ n) s l) where
@@ -79,7 +69,7 @@ module _ (n N R : ℕ) (own : ℕ → Owner) (fin : ℕ → ℕ) (pages : ℕ �
   next-here m st′ below =
       let e₁ : eqb (s + suc l) (topOf (r .table) j) ≡ false = ne-eqb _ _ (not-it (ℕ-discrete k z)) in
       let e₂ : eqb ((s + suc l) % 2 ^ n) 0 ≡ false = ne-eqb _ _ not-end in
-      let e₃ : eqb (at (r .heap) (s + suc l)) 0 ≡ false = ne-eqb _ _ (head-not-0 st′) in
+      let e₃ : eqb (at (r .heap) (s + suc l)) 0 ≡ false = ne-eqb _ _ (no-zero st′) in
       ap (λ t. nextFrom n j s t r) t-is ∙ rw (e₁, nextFrom, e₂, e₃)
     where
       not-it : Dec (k ≡ z) → s + suc l ≢ topOf (r .table) j
@@ -107,7 +97,7 @@ module _ (n N R : ℕ) (own : ℕ → Owner) (fin : ℕ → ℕ) (pages : ℕ �
       let hi = st .ends in
       let e₁ : eqb (s + suc l) (topOf (r .table) j) ≡ false = ne-eqb _ _ (not-top (s + suc l) (omega arith) (omega arith) ne) in
       let e₂ : (eqb ((s + suc l) % 2 ^ n) 0 || eqb (at (r .heap) (s + suc l)) 0) ≡ true = ended (ℕ-discrete (fin k) (k * 2 ^ n + 2 ^ n)) in
-      ap (λ t. nextFrom n j s t r) t-is ∙ rw (e₁, nextFrom, e₂, page-of n k s (omega arith) (omega arith), lk)
+      ap (λ t. nextFrom n j s t r) t-is ∙ rw (e₁, nextFrom, e₂, page-of n k s (omega arith) (omega arith), lk, sub-one (suc k′))
     where
       or-right : (a : Bool) {b : Bool} → b ≡ true → (a || b) ≡ true
       or-right true q = refl
@@ -179,12 +169,6 @@ vals-head (vals-more {vs = us} st t) q = (us, refl)
 pub row-head : {n : ℕ} {h : List ℕ} {fin : ℕ → ℕ} {k : ℕ} {ks bs : List ℕ} → Row n h fin (k ∷ ks) bs → k * 2 ^ n + 2 < fin k → (us : List ℕ) × (bs ≡ (k * 2 ^ n + 2) ∷ us)
 row-head (row-last v) q = vals-head v q
 row-head (row-more {bs = bs} v ne t) q = let u = vals-head v q in (u .0 ++ bs, ap (λ xs. xs ++ bs) (u .1))
-
-once-tail : {k : ℕ} {ks : List ℕ} → Once (k ∷ ks) → Once ks
-once-tail (once-more f o) = o
-
-once-head : {k : ℕ} {ks : List ℕ} → Once (k ∷ ks) → List·Memᴰ k ks → ⊥
-once-head (once-more f o) = f
 
 last-tail : {k k′ z : ℕ} {ks : List ℕ} → Last (k ∷ k′ ∷ ks) z → Last (k′ ∷ ks) z
 last-tail (later u) = u

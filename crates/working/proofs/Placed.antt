@@ -1,31 +1,29 @@
--- The allocation rule on a laid out heap: room, then the words; and a forward left behind.
-use Prim.Native.Nat.{ℕ, zero, suc, pred, _+_, _-_, _*_, _/_, _%_, _^_, _≤_, _<_, zero-le, suc-le-suc}
-use native.Mathlib.Nat.{le-trans, le-refl, add-zero, mul-le-mul-right}
+-- Room for a region: it has it, or takes a page. Either way the heap stays laid out, and no word behind a link changes in a page that was
+-- not free.
+use Prim.Native.Nat.{ℕ, suc, _+_, _-_, _*_, _^_, _≤_, _<_}
+use native.Mathlib.Nat.{le-refl}
 use native.Mathlib.Omega.{arith}
 use native.Mathlib.Decide.{ℕ-discrete}
-use mathlib.Core.Path.{_≡_, refl, sym, ap, _∙_, subst}
+use mathlib.Core.Path.{_≡_, refl, sym, ap, _∙_}
 use mathlib.Core.Logic.{_≢_, _↔_, _⊎_, inl, inr}
-use mathlib.Core.Bool.{Bool, true, false}
-use mathlib.Core.Option.{Option, none, some}
-use mathlib.Core.List.{List, [], _∷_, _++_, List·Memᴰ, List·Memᴰ·head, List·Memᴰ·tail}
-use lib.ListN.{length, getD, set, length-set}
-use lib.Seq.{getD-set-same, getD-set-other}
+use mathlib.Core.Bool.{true, false}
+use mathlib.Core.Option.{some}
+use mathlib.Core.List.{List, [], _∷_, _++_, List·Memᴰ, List·Memᴰ·head}
+use lib.ListN.{length, set, length-set}
+use lib.Seq.{getD-set-other}
 use lib.Dec.{leb}
-use borrow.Author.Tests.{leb-true, leb-false}
-use Rattle.heap.proofs.Taken as T
-use Rattle.heap.proofs.Roomy as Q
-use Rattle.rules.specs.declared.Control.{Control}
-use Rattle.rules.specs.Memory.{Store, link, origin, endOf, firstOf, topOf, statusOf}
-use Rattle.laws.specs.Lists.{at, put}
-use Rattle.rules.specs.Pages.{Run, withHeap, takePage, join, room, store}
-use Rattle.rules.specs.Refusals.{place}
-use Rattle.laws.proofs.Lists.{apart, at-put-below, at-put-above}
-use Rattle.facts.proofs.Steps.{Stands, Steps, here, over, steps-le}
-use Rattle.facts.proofs.Laid.{upd, upd-same, upd-other, Once, Last, last-in, Linked, linked-same, Owner, old, spare, beyond, mine, Body, Clean, Like, body-like, clean-like, Layout}
+use borrow.Author.Tests.{leb-true}
+use Rattle.working.proofs.Taken as T
+use Rattle.working.proofs.Roomy as Q
+use Rattle.rules.specs.Memory.{link, endOf, topOf}
+use Rattle.laws.specs.Lists.{at}
+use Rattle.rules.specs.Pages.{Run, join, room}
+use Rattle.facts.proofs.Laid.{upd, upd-same, upd-other, Owner, old, spare, beyond, mine, Like, Layout}
 use Rattle.working.proofs.Taken.{taken, last-is}
+use Rattle.working.proofs.Owned.{mine-inj, old≢spare, old≢mine, spare≢mine, Owned, total, total-snoc, taken-owned}
 
 -- what giving region j room for m words does
-pub record Roomed (n N R : ℕ) (own : ℕ → Owner) (fin : ℕ → ℕ) (h : List ℕ) (j m : ℕ) (r : Run) : Type 0 where
+pub record Roomed (n N R : ℕ) (own : ℕ → Owner) (fin : ℕ → ℕ) (pages : ℕ → List ℕ) (free : List ℕ) (r₀ : Run) (j m : ℕ) (r : Run) : Type 0 where
   pub own₁ : ℕ → Owner
   pub fin₁ : ℕ → ℕ
   pub pages₁ : ℕ → List ℕ
@@ -35,13 +33,24 @@ pub record Roomed (n N R : ℕ) (own : ℕ → Owner) (fin : ℕ → ℕ) (h : L
   pub old-kept : (k : ℕ) → (own k ≡ old) ↔ (own₁ k ≡ old)
   pub mine-kept : (k i : ℕ) → own k ≡ mine i → (own₁ k ≡ mine i) × (fin₁ k ≡ fin k)
   pub mine-from : (k i : ℕ) → own₁ k ≡ mine i → (own k ≡ mine i) ⊎ ((own k ≡ spare) × (i ≡ j) × (fin₁ k ≡ k * 2 ^ n + 2) × (endOf (r .table) j ≡ k * 2 ^ n + 2 ^ n))
-  pub words : (k x : ℕ) → own k ≢ spare → own k ≢ beyond → k * 2 ^ n < x → x < k * 2 ^ n + 2 ^ n → at (r .heap) x ≡ at h x
-  pub old-links : (k : ℕ) → own k ≡ old → at (r .heap) (k * 2 ^ n) ≡ at h (k * 2 ^ n)
+  pub words : (k x : ℕ) → own k ≢ spare → own k ≢ beyond → k * 2 ^ n < x → x < k * 2 ^ n + 2 ^ n → at (r .heap) x ≡ at (r₀ .heap) x
+  pub old-links : (k : ℕ) → own k ≡ old → at (r .heap) (k * 2 ^ n) ≡ at (r₀ .heap) (k * 2 ^ n)
+  pub owned : Owned N R own pages free → Owned N R own₁ pages₁ free₁
+  pub pages-other : (i : ℕ) → i ≢ j → pages₁ i ≡ pages i
+  pub pages-own : (pages₁ j ≡ pages j) ⊎ ((k : ℕ) × (pages₁ j ≡ pages j ++ k ∷ []) × (own k ≡ spare) × (fin₁ k ≡ k * 2 ^ n + 2))
+  pub spent : length free₁ + total pages₁ R ≡ length free + total pages R
+  -- of the table only the region's e and a change
+  pub width : length (r .table) ≡ length (r₀ .table)
+  pub row-kept : (x : ℕ) → x ≢ 4 * j → x ≢ 4 * j + 2 → at (r .table) x ≡ at (r₀ .table) x
+  pub stack-kept : r .stack ≡ r₀ .stack
+  -- there was room, or a page was taken
+  pub how : ((leb (topOf (r₀ .table) j + m) (endOf (r₀ .table) j) ≡ true) × (r₀ ≡ r) × (own ≡ own₁) × (free ≡ free₁))
+      ⊎ ((leb (topOf (r₀ .table) j + m) (endOf (r₀ .table) j) ≡ false) × ((k : ℕ) × (free ≡ k ∷ free₁) × (join n j k (taken n j k r₀) ≡ r) × (upd own k (mine j) ≡ own₁)))
 
 module _ (n N R : ℕ) (own : ℕ → Owner) (fin : ℕ → ℕ) (pages : ℕ → List ℕ) (r : Run) (j m : ℕ) (jR : j < R) (small : m + 2 ≤ 2 ^ n) where
   -- there was room
   pub room-was : (free : List ℕ) → Layout n N R own fin pages free r → leb (topOf (r .table) j + m) (endOf (r .table) j) ≡ true
-      → (room n j m r ≡ some r) × Roomed n N R own fin (r .heap) j m r
+      → (room n j m r ≡ some r) × Roomed n N R own fin pages free r j m r
   unfolding room
   room-was free L e = (
     rw (e, room),
@@ -57,6 +66,14 @@ module _ (n N R : ℕ) (own : ℕ → Owner) (fin : ℕ → ℕ) (pages : ℕ �
       mine-from = λ k i q. inl q;
       words = λ k x a b p q. refl;
       old-links = λ k o. refl;
+      owned = λ W. W;
+      pages-other = λ i ne. refl;
+      pages-own = inl refl;
+      spent = refl;
+      width = refl;
+      row-kept = λ x p q. refl;
+      stack-kept = refl;
+      how = inl (e, refl, refl, refl);
     },
   )
 
@@ -72,7 +89,7 @@ module _ (n N R : ℕ) (own : ℕ → Owner) (fin : ℕ → ℕ) (pages : ℕ �
     spare-k = L .free-own k (List·Memᴰ·head refl)
 
     k-new : List·Memᴰ k (pages j) → ⊥
-    k-new p = let q : mine j ≡ spare = sym (L .mine-own j k jR p) ∙ spare-k in let z : _≡_ {A = ℕ} 0 1 = cc in omega arith
+    k-new p = spare≢mine spare-k (L .mine-own j k jR p)
 
     taken-link : link n (r₀ .heap) k ≡ 0
     unfolding taken
@@ -98,18 +115,6 @@ module _ (n N R : ℕ) (own : ℕ → Owner) (fin : ℕ → ℕ) (pages : ℕ �
 
     not-k : (l : ℕ) → own l ≢ spare → l ≢ k
     not-k l ne e = ne (ap own e ∙ spare-k)
-
-    apart-owners : {A : Type 0} {o : Owner} → mine j ≡ o → o ≡ old → A
-    apart-owners p q = let z : _≡_ {A = ℕ} 0 1 = cc in absurd (omega arith)
-
-    old≢spare : old ≢ spare
-    old≢spare e = let z : _≡_ {A = ℕ} 0 1 = cc in omega arith
-
-    mine≢spare : {i : ℕ} → mine i ≢ spare
-    mine≢spare e = let z : _≡_ {A = ℕ} 0 1 = cc in omega arith
-
-    mine-inj : {i l : ℕ} → mine i ≡ mine l → i ≡ l
-    mine-inj e = cc
 
     back : (l : ℕ) (o : Owner) → o ≢ mine j → upd own k (mine j) l ≡ o → own l ≡ o
     back l o ne e = go (ℕ-discrete l k)
@@ -142,13 +147,27 @@ module _ (n N R : ℕ) (own : ℕ → Owner) (fin : ℕ → ℕ) (pages : ℕ �
     same-links : (l : ℕ) → own l ≡ old → at (join n j k r₀ .heap) (l * 2 ^ n) ≡ at (r .heap) (l * 2 ^ n)
     unfolding taken join link
     same-links l o =
-        let ne : l ≢ k = not-k l (λ q. old≢spare (sym o ∙ q)) in
+        let ne : l ≢ k = not-k l (λ q. old≢spare o q) in
         let b = L .big in
         sym (Q.links n N R (upd own k (mine j)) (upd fin k (k * 2 ^ n + 2)) pages ks r₀ L₀ j k jR own-new k-new taken-link fin-new l
-        (λ q. apart-owners (sym (Q.own-z n N R (upd own k (mine j)) (upd fin k (k * 2 ^ n + 2)) pages ks r₀ L₀ j k jR own-new k-new taken-link fin-new) ∙ ap (upd own k (mine j)) (sym q) ∙ upd-other own k (mine j) l ne) o))
+        (λ q. old≢mine o (sym (upd-other own k (mine j) l ne) ∙ ap (upd own k (mine j)) q ∙ Q.own-z n N R (upd own k (mine j)) (upd fin k (k * 2 ^ n + 2)) pages ks r₀ L₀ j k jR own-new k-new taken-link fin-new)))
         ∙ T.others n N R own fin pages k ks r L j l (l * 2 ^ n) ne (le-refl _) (omega arith)
 
-    pub room-made : leb (topOf (r .table) j + m) (endOf (r .table) j) ≡ false → (room n j m r ≡ some (join n j k r₀)) × Roomed n N R own fin (r .heap) j m (join n j k r₀)
+    same-width : length (join n j k r₀ .table) ≡ length (r .table)
+    unfolding taken join
+    same-width = length-set (set (r .table) (4 * j) (k * 2 ^ n + 2 ^ n)) (4 * j + 2) (k * 2 ^ n + 2) ∙ length-set (r .table) (4 * j) (k * 2 ^ n + 2 ^ n)
+
+    same-row : (x : ℕ) → x ≢ 4 * j → x ≢ 4 * j + 2 → at (join n j k r₀ .table) x ≡ at (r .table) x
+    unfolding taken join
+    same-row x p q =
+        getD-set-other (set (r .table) (4 * j) (k * 2 ^ n + 2 ^ n)) (4 * j + 2) x (k * 2 ^ n + 2) 0 q
+        ∙ getD-set-other (r .table) (4 * j) x (k * 2 ^ n + 2 ^ n) 0 p
+
+    same-stack : join n j k r₀ .stack ≡ r .stack
+    unfolding taken join
+    same-stack = refl
+
+    pub room-made : leb (topOf (r .table) j + m) (endOf (r .table) j) ≡ false → (room n j m r ≡ some (join n j k r₀)) × Roomed n N R own fin pages (k ∷ ks) r j m (join n j k r₀)
     unfolding room
     room-made e = (
       rw (e, room, T.takes n j k r (T.linked-first (L .free-links) .0)),
@@ -159,12 +178,20 @@ module _ (n N R : ℕ) (own : ℕ → Owner) (fin : ℕ → ℕ) (pages : ℕ �
         free₁ = ks;
         laid = L₁;
         fits = let a = end-is in let b = top-is in omega arith;
-        old-kept = λ l. (λ o. upd-other own k (mine j) l (not-k l (λ q. old≢spare (sym o ∙ q))) ∙ o, λ o. back l old (λ q. apart-owners (sym q) refl) o);
+        old-kept = λ l. (λ o. upd-other own k (mine j) l (not-k l (λ q. old≢spare o q)) ∙ o, λ o. back l old (λ q. old≢mine refl q) o);
         mine-kept = λ l i o.
-            let ne : l ≢ k = not-k l (λ q. mine≢spare (sym o ∙ q)) in
+            let ne : l ≢ k = not-k l (λ q. spare≢mine q o) in
             (upd-other own k (mine j) l ne ∙ o, upd-other fin k (k * 2 ^ n + 2) l ne);
         mine-from = from;
         words = same-words;
         old-links = same-links;
+        owned = taken-owned N R own pages k ks j jR spare-k;
+        pages-other = λ i ne. upd-other pages j (pages j ++ k ∷ []) i ne;
+        pages-own = inr (k, upd-same pages j (pages j ++ k ∷ []) j refl, spare-k, fin-new);
+        spent = let t = total-snoc pages j k R jR in omega arith;
+        width = same-width;
+        row-kept = same-row;
+        stack-kept = same-stack;
+        how = inr (e, (k, refl, refl, refl));
       },
     )

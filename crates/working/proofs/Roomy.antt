@@ -1,27 +1,23 @@
--- A region that was given room by a new page.
-use Prim.Native.Nat.{ℕ, zero, suc, pred, _+_, _-_, _*_, _/_, _%_, _^_, _≤_, _<_, zero-le, suc-le-suc}
-use native.Mathlib.Nat.{le-trans, le-refl, add-zero, mul-le-mul-right}
+-- An empty page of region j becomes its last: the only words that change are the link of the page that was last, and the region's e and a.
+use Prim.Native.Nat.{ℕ, suc, _+_, _-_, _*_, _^_, _≤_, _<_}
+use native.Mathlib.Nat.{mul-le-mul-right}
 use native.Mathlib.Omega.{arith}
 use native.Mathlib.Decide.{ℕ-discrete}
-use mathlib.Core.Path.{_≡_, refl, sym, ap, _∙_, subst}
-use mathlib.Core.Logic.{_≢_, _↔_, _⊎_, inl, inr}
-use mathlib.Core.Bool.{Bool, true, false}
-use mathlib.Core.Option.{Option, none, some}
-use mathlib.Core.List.{List, [], _∷_, _++_, List·Memᴰ, List·Memᴰ·head, List·Memᴰ·tail}
-use lib.ListN.{length, getD, set, length-set}
+use mathlib.Core.Path.{_≡_, sym, ap, _∙_}
+use mathlib.Core.Logic.{_≢_, _⊎_, inl, inr}
+use mathlib.Core.List.{List, [], _∷_, _++_, List·Memᴰ}
+use lib.ListN.{length, set, length-set}
 use lib.Seq.{getD-set-same, getD-set-other}
-use Rattle.rules.specs.declared.Control.{Control}
-use Rattle.rules.specs.Memory.{Store, link, origin, endOf, firstOf, topOf, statusOf}
-use Rattle.laws.specs.Lists.{at, put}
+use Rattle.rules.specs.Memory.{link, endOf, firstOf, topOf}
+use Rattle.laws.specs.Lists.{at}
 use Rattle.rules.specs.Pages.{Run, join}
 use Rattle.laws.proofs.Lists.{apart}
-use Rattle.facts.proofs.Steps.{Stands, Steps, here, over, steps-le}
-use Rattle.facts.proofs.Laid.{upd, upd-same, upd-other, Once, once-none, once-more, Last, only, later, last-in, Linked, stop, goes, linked-same, Owner, old, spare, beyond, mine, Body, Clean, Like, body-like, clean-like, Layout}
+use Rattle.facts.proofs.Laid.{mine-inj, spare≢mine, mine≢beyond, upd, upd-same, upd-other, Once, Last, last-in, Linked, linked-same, Owner, spare, mine, Like, body-like, clean-like, Layout}
 use Rattle.working.proofs.Taken.{linked-snoc, last-snoc, in-snoc, once-snoc}
 
 -- page k, which belongs to region j and holds nothing yet, becomes the region's last page
 module _ (n N R : ℕ) (own : ℕ → Owner) (fin : ℕ → ℕ) (pages : ℕ → List ℕ) (free : List ℕ) (r : Run) (L : Layout n N R own fin pages free r)
-    (j k : ℕ) (jR : j < R) (own-k : own k ≡ mine j) (k-new : List·Memᴰ k (pages j) → ⊥) (k-link : link (n) (r .heap) k ≡ 0)
+    (j k : ℕ) (jR : j < R) (own-k : own k ≡ mine j) (k-new : List·Memᴰ k (pages j) → ⊥) (k-link : link n (r .heap) k ≡ 0)
     (k-fin : fin k ≡ k * 2 ^ n + 2) where
   abbrev pub P : ℕ
   P = 2 ^ n
@@ -39,10 +35,7 @@ module _ (n N R : ℕ) (own : ℕ → Owner) (fin : ℕ → ℕ) (pages : ℕ �
   x-is = let e = L .mine-top j jR .2 in omega arith
 
   z-in : z * P + P ≤ length (r .heap)
-  z-in = let s = L .size in let p = mul-le-mul-right P (L .known z (λ q. mine≢beyond (sym own-z ∙ q))) in omega arith
-    where
-      mine≢beyond : mine j ≢ beyond
-      mine≢beyond e = let z : _≡_ {A = ℕ} 0 1 = cc in omega arith
+  z-in = let s = L .size in let p = mul-le-mul-right P (L .known z (λ q. mine≢beyond own-z q)) in omega arith
 
   abbrev pub h′ : List ℕ
   h′ = set (r .heap) x (suc k)
@@ -51,7 +44,7 @@ module _ (n N R : ℕ) (own : ℕ → Owner) (fin : ℕ → ℕ) (pages : ℕ �
   keep y ne = getD-set-other (r .heap) x y (suc k) 0 (λ q. ne (q ∙ x-is))
 
   -- the only word that changes is a link
-  pub like : (l : ℕ) → Like (n) (r .heap) h′ l
+  pub like : (l : ℕ) → Like n (r .heap) h′ l
   like l = record { word = λ y p q. sym (keep y (λ e. go (ℕ-discrete l z) y p q e)) }
     where
       by : (l * P + P ≤ z * P) ⊎ (z * P + P ≤ l * P) → (y : ℕ) → l * P < y → y < l * P + P → y ≡ z * P → ⊥
@@ -62,7 +55,7 @@ module _ (n N R : ℕ) (own : ℕ → Owner) (fin : ℕ → ℕ) (pages : ℕ �
       go (yes e′) y p q e = let w : l * P ≡ z * P = ap (λ t. t * P) e′ in omega arith
       go (no ne) y p q e = by (apart P l z ne) y p q e
 
-  pub links : (l : ℕ) → l ≢ z → link (n) (r .heap) l ≡ link (n) h′ l
+  pub links : (l : ℕ) → l ≢ z → link n (r .heap) l ≡ link n h′ l
   unfolding link
   links l ne = sym (keep (l * P) (λ e. go (apart P l z ne) e))
     where
@@ -70,7 +63,7 @@ module _ (n N R : ℕ) (own : ℕ → Owner) (fin : ℕ → ℕ) (pages : ℕ �
       go (inl t) e = let b = L .big in omega arith
       go (inr t) e = let b = L .big in omega arith
 
-  z-link : link (n) h′ z ≡ suc k
+  z-link : link n h′ z ≡ suc k
   unfolding link
   z-link = ap (at h′) (sym x-is) ∙ getD-set-same (r .heap) x (suc k) 0 (let b = L .big in let a = z-in in let c = x-is in omega arith)
 
@@ -85,10 +78,7 @@ module _ (n N R : ℕ) (own : ℕ → Owner) (fin : ℕ → ℕ) (pages : ℕ �
       getD-set-other (set (r .table) (4 * j) (k * P + P)) (4 * j + 2) y (k * P + 2) 0 q ∙ getD-set-other (r .table) (4 * j) y (k * P + P) 0 p
 
   spare-not-z : (l : ℕ) → own l ≡ spare → l ≢ z
-  spare-not-z l o e = let q : spare ≡ mine j = sym o ∙ ap own e ∙ own-z in let w : _≡_ {A = ℕ} 0 1 = cc in omega arith
-
-  mine-inj : {i j : ℕ} → mine i ≡ mine j → i ≡ j
-  mine-inj e = cc
+  spare-not-z l o e = spare≢mine o (ap own e ∙ own-z)
 
   other-not-z : (i l : ℕ) → i ≢ j → own l ≡ mine i → l ≢ z
   other-not-z i l ne o e = ne (mine-inj (sym o ∙ ap own e ∙ own-z))
@@ -114,10 +104,10 @@ module _ (n N R : ℕ) (own : ℕ → Owner) (fin : ℕ → ℕ) (pages : ℕ �
   k-not-z : k ≢ z
   k-not-z e = k-new (rw (← e) at (last-in (L .mine-top j jR .1)))
 
-  chained : (i : ℕ) → i < R → (l : ℕ) × (firstOf table′ i ≡ l * P) × Linked (link (n) h′) (suc l) (pages′ i)
+  chained : (i : ℕ) → i < R → (l : ℕ) × (firstOf table′ i ≡ l * P) × Linked (link n h′) (suc l) (pages′ i)
   chained i b = go (ℕ-discrete i j)
     where
-      go : Dec (i ≡ j) → (l : ℕ) × (firstOf table′ i ≡ l * P) × Linked (link (n) h′) (suc l) (pages′ i)
+      go : Dec (i ≡ j) → (l : ℕ) × (firstOf table′ i ≡ l * P) × Linked (link n h′) (suc l) (pages′ i)
       go (yes e) =
           let t = L .mine-links j jR in (
             t .0,

@@ -1,13 +1,15 @@
 -- A region's values in order, when a value is added or a word inside one changes.
-use Prim.Native.Nat.{ℕ, zero, suc, _+_, _*_, _^_, _≤_, _<_}
-use native.Mathlib.Nat.{le-trans, le-refl}
+use Prim.Native.Nat.{ℕ, suc, _+_, _*_, _^_, _≤_, _<_}
+use native.Mathlib.Nat.{le-refl}
 use native.Mathlib.Omega.{arith}
 use native.Mathlib.Decide.{ℕ-discrete}
-use mathlib.Core.Path.{_≡_, refl, sym, ap, _∙_, subst}
+use mathlib.Core.Path.{_≡_, refl, sym, ap, subst}
 use mathlib.Core.Logic.{_≢_, _⊎_, inl, inr}
-use mathlib.Core.List.{List, [], _∷_, _++_, append-assoc, List·Memᴰ, List·Memᴰ·head, List·Memᴰ·tail}
+use mathlib.Core.List.{List, [], _∷_, _++_, append-assoc, List·Memᴰ, List·Memᴰ·head, List·Memᴰ·tail, List·Memᴰ·append-cases, Memᴰ·append-left, Memᴰ·append-right, List·Memᴰ·eq-of-singleton}
 use Rattle.laws.specs.Lists.{at}
-use Rattle.facts.proofs.Steps.{Stands, Steps, here, over, steps-then, stands-same}
+use Rattle.laws.proofs.Lists.{apart as pages-apart}
+use Rattle.laws.proofs.Once.{once-none, once-append}
+use Rattle.facts.proofs.Steps.{Stands, Steps, here, over, steps-le, stands-same}
 use Rattle.facts.proofs.Laid.{Once, once-more, Last, only, later, last-in}
 use Rattle.working.proofs.Next.{Vals, vals-none, vals-more, vals-le, Row, row-last, row-more}
 
@@ -37,6 +39,16 @@ row-same {n} {g} {h} {fin} {fin′} agree ends (row-more {k} {k′} v ne t) =
     row-more (vals-to (ends k (List·Memᴰ·head refl)) (vals-same (λ x p q. agree k x (List·Memᴰ·head refl) p q) v))
     (subst (λ b. k′ * 2 ^ n + 2 < b) (ends k′ (List·Memᴰ·tail (List·Memᴰ·head refl))) ne) (row-same (λ m x p. agree m x (List·Memᴰ·tail p)) (λ m p. ends m (List·Memᴰ·tail p)) t)
 
+-- only the headers matter
+vals-headers : {g h : List ℕ} {hi a b : ℕ} {vs : List ℕ} → ((x : ℕ) → List·Memᴰ x vs → at g x ≡ at h x) → Vals g hi a b vs → Vals h hi a b vs
+vals-headers agree vals-none = vals-none
+vals-headers agree (vals-more {a} st t) = vals-more (stands-same (agree a (List·Memᴰ·head refl)) st) (vals-headers (λ x m. agree x (List·Memᴰ·tail m)) t)
+
+pub row-headers : {n : ℕ} {g h : List ℕ} {fin : ℕ → ℕ} {ks vs : List ℕ} → ((x : ℕ) → List·Memᴰ x vs → at g x ≡ at h x) → Row n g fin ks vs → Row n h fin ks vs
+row-headers agree (row-last v) = row-last (vals-headers agree v)
+row-headers agree (row-more {vs = vs} {bs = bs} v ne t) =
+    row-more (vals-headers (λ x m. agree x (Memᴰ·append-left bs m)) v) ne (row-headers (λ x m. agree x (Memᴰ·append-right vs m)) t)
+
 -- one value more in the last page z
 pub row-snoc : {n : ℕ} {h : List ℕ} {fin fin′ : ℕ → ℕ} {ks vs : List ℕ} {z l : ℕ} → Row n h fin ks vs → Last ks z → Once ks → Stands h (z * 2 ^ n + 2 ^ n) (fin z) l
     → fin z + suc l ≡ fin′ z → ((k : ℕ) → List·Memᴰ k ks → k ≢ z → fin k ≡ fin′ k) → Row n h fin′ ks (vs ++ fin z ∷ [])
@@ -61,3 +73,52 @@ row-page {n} {h} {fin} {k = k} {l} (row-last v) st e =
     row-more v more (row-last one)
 row-page {n} {h} {fin} {k = k} (row-more {vs = vs} {bs = bs} v ne t) st e =
     row-as (sym (append-assoc vs bs ((k * 2 ^ n + 2) ∷ []))) (row-more v ne (row-page t st e))
+
+-- ---- what stands in a row
+
+-- b is a value of page k, one of the pages ks
+pub record InRow (n : ℕ) (h : List ℕ) (fin : ℕ → ℕ) (ks : List ℕ) (b : ℕ) : Type 0 where
+  pub page : ℕ
+  pub here : List·Memᴰ page ks
+  pub len : ℕ
+  pub steps : Steps h (page * 2 ^ n + 2 ^ n) (page * 2 ^ n + 2) b
+  pub stands : Stands h (page * 2 ^ n + 2 ^ n) b len
+  pub below : b + suc len ≤ fin page
+
+vals-in : {h : List ℕ} {hi a e : ℕ} {vs : List ℕ} {b : ℕ} → Vals h hi a e vs → List·Memᴰ b vs → (l : ℕ) × Steps h hi a b × Stands h hi b l × (b + suc l ≤ e)
+vals-in {h} {hi} {b = b} (vals-more {a} {l = l} st t) (List·Memᴰ·head q) = let k = vals-le t in (l, rw q here, rw q st, omega arith)
+vals-in (vals-more st t) (List·Memᴰ·tail m) = let r = vals-in t m in (r .0, over st (r .1), r .2, r .3)
+
+pub row-in : {n : ℕ} {h : List ℕ} {fin : ℕ → ℕ} {ks vs : List ℕ} {b : ℕ} → Row n h fin ks vs → List·Memᴰ b vs → InRow n h fin ks b
+row-in (row-last {k} v) m =
+    let r = vals-in v m in
+    record { page = k; here = List·Memᴰ·head refl; len = r .0; steps = r .1; stands = r .2; below = r .3 }
+row-in {n} {h} {fin} {b = b} (row-more {k} {k′} {ks} {vs} {bs} v ne t) m = go (List·Memᴰ·append-cases vs m) (λ q. row-in t q)
+  where
+    go : List·Memᴰ b vs ⊎ List·Memᴰ b bs → (List·Memᴰ b bs → InRow n h fin (k′ ∷ ks) b) → InRow n h fin (k ∷ k′ ∷ ks) b
+    go (inl q) rest = let r = vals-in v q in record { page = k; here = List·Memᴰ·head refl; len = r .0; steps = r .1; stands = r .2; below = r .3 }
+    go (inr q) rest =
+        let r = rest q in
+        record { page = r .page; here = List·Memᴰ·tail (r .here); len = r .len; steps = r .steps; stands = r .stands; below = r .below }
+
+vals-once : {h : List ℕ} {hi a e : ℕ} {vs : List ℕ} → Vals h hi a e vs → Once vs
+vals-once vals-none = once-none
+vals-once {h} {hi} (vals-more {a} {l = l} {vs = vs} st t) = once-more (λ (m : List·Memᴰ a vs). let r = vals-in t m in let k = steps-le (r .1) in omega arith) (vals-once t)
+
+-- values of different pages differ
+pub pages-differ : {n : ℕ} {h : List ℕ} {fin : ℕ → ℕ} {ks ms : List ℕ} {b c : ℕ} (x : InRow n h fin ks b) (y : InRow n h fin ms c) → x .page ≢ y .page → b ≢ c
+pages-differ {n} {b = b} {c} x y ne e = go (pages-apart (2 ^ n) (x .page) (y .page) ne)
+  where
+    go : (x .page * 2 ^ n + 2 ^ n ≤ y .page * 2 ^ n) ⊎ (y .page * 2 ^ n + 2 ^ n ≤ x .page * 2 ^ n) → ⊥
+    go (inl t) = let p = steps-le (x .steps) in let q = steps-le (y .steps) in let u = x .stands .ends in omega arith
+    go (inr t) = let p = steps-le (x .steps) in let q = steps-le (y .steps) in let u = y .stands .ends in omega arith
+
+-- no value stands twice in a row
+pub row-once : {n : ℕ} {h : List ℕ} {fin : ℕ → ℕ} {ks vs : List ℕ} → Row n h fin ks vs → Once ks → Once vs
+row-once (row-last v) o = vals-once v
+row-once {n} {h} {fin} (row-more {k} {k′} {ks} {vs} {bs} v ne t) (once-more f o) =
+    once-append bs (vals-once v) (row-once t o)
+    (λ b p q. let w : Row n h fin (k ∷ []) vs = row-last v in let x = row-in w p in let y = row-in t q in pages-differ x y (λ e. f (rw (← e, one (x .here)) at (y .here))) refl)
+  where
+    one : {a b : ℕ} → List·Memᴰ a (b ∷ []) → a ≡ b
+    one m = List·Memᴰ·eq-of-singleton m

@@ -1,18 +1,18 @@
--- One field of a copy scanned: its word is set, and nothing else of the log changes.
-use Prim.Native.Nat.{ℕ, zero, suc, pred, _+_, _-_, _*_, _/_, _%_, _^_, _≤_, _<_, zero-le, suc-le-suc}
-use native.Mathlib.Nat.{le-trans, le-refl, add-zero, mul-le-mul-right}
+-- One field of a copy scanned: its word is set, and nothing else of the log changes, because no two values overlap.
+use Prim.Native.Nat.{ℕ, suc, _+_, _*_, _^_, _≤_, _<_}
+use native.Mathlib.Nat.{le-refl}
 use native.Mathlib.Omega.{arith}
-use native.Mathlib.Decide.{ℕ-discrete, decLe}
-use mathlib.Core.Path.{_≡_, refl, sym, ap, _∙_, subst}
-use mathlib.Core.Logic.{_≢_, _↔_, _⊎_, inl, inr}
-use mathlib.Core.List.{List, [], _∷_, _++_, List·Memᴰ}
+use native.Mathlib.Decide.{ℕ-discrete}
+use mathlib.Core.Path.{_≡_, refl, sym, ap, _∙_}
+use mathlib.Core.Logic.{_≢_, _⊎_, inl, inr}
+use mathlib.Core.List.{List, List·Memᴰ}
 use lib.ListN.{length, set}
 use lib.Seq.{getD-set-same, getD-set-other}
 use Rattle.rules.specs.Memory.{Store}
 use Rattle.laws.specs.Lists.{at}
 use Rattle.laws.proofs.Lists.{apart as pages-apart}
-use Rattle.facts.proofs.Steps.{Stands, Steps, here, over, steps-le, steps-then, steps-same, stands-same, apart, steps-inside}
-use Rattle.facts.proofs.Laid.{upd, upd-same, upd-other, Owner, old, spare, beyond, mine}
+use Rattle.facts.proofs.Steps.{Stands, Steps, here, steps-le, steps-same, stands-same, apart, steps-inside}
+use Rattle.facts.proofs.Laid.{old≢mine, upd, upd-same, upd-other, Owner, old, mine}
 use Rattle.facts.proofs.Copied.{Moved, to, Rel}
 use Rattle.working.proofs.Log.{pointers, Copy, Log}
 
@@ -43,7 +43,7 @@ module _ (n : ℕ) (s : Store) (kept : ℕ → Type 0) (own : ℕ → Owner) (fi
       go (inr t) = let a = lo in let b = hi in omega arith
 
   old-page : (k y : ℕ) → own k ≡ old → k * 2 ^ n ≤ y → y < k * 2 ^ n + 2 ^ n → y ≢ d + suc i
-  old-page k y o = other-page k y (λ e. let z : old ≡ mine (C .region) = sym o ∙ ap own e ∙ C .into-mine in let z′ : _≡_ {A = ℕ} 0 1 = cc in omega arith)
+  old-page k y o = other-page k y (λ e. old≢mine o (ap own e ∙ C .into-mine))
 
   -- stepping through any page goes as before
   steps-any : (k e : ℕ) → Steps h (k * 2 ^ n + 2 ^ n) (k * 2 ^ n + 2) e → e ≤ k * 2 ^ n + 2 ^ n
@@ -157,5 +157,6 @@ module _ (n : ℕ) (s : Store) (kept : ℕ → Type 0) (own : ℕ → Owner) (fi
         one-new = L .one-new;
         one-old = L .one-old;
         live = L .live;
+        once = L .once;
         every = λ k j b o t u. let q = inside k j o in L .every k j b o (steps-back k b t (omega arith)) u;
       }

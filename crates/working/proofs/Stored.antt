@@ -1,35 +1,21 @@
--- A value stored at a region's a: the heap stays laid out, and only its own words change.
-use Prim.Native.Nat.{ℕ, zero, suc, pred, _+_, _-_, _*_, _/_, _%_, _^_, _≤_, _<_, zero-le, suc-le-suc}
-use native.Mathlib.Nat.{le-trans, le-refl, add-zero, mul-le-mul-right}
+-- A value stored at a region's a: the heap stays laid out, because only words behind the last page's values change, and the value ends before
+-- that page does.
+use Prim.Native.Nat.{ℕ, suc, _+_, _*_, _^_, _≤_, _<_}
+use native.Mathlib.Nat.{le-refl, add-zero, mul-le-mul-right}
 use native.Mathlib.Omega.{arith}
 use native.Mathlib.Decide.{ℕ-discrete}
-use mathlib.Core.Path.{_≡_, refl, sym, ap, _∙_, subst}
-use mathlib.Core.Logic.{_≢_, _↔_, _⊎_, inl, inr}
-use mathlib.Core.Bool.{Bool, true, false}
-use mathlib.Core.Option.{Option, none, some}
-use mathlib.Core.List.{List, [], _∷_, _++_, List·Memᴰ, List·Memᴰ·head, List·Memᴰ·tail}
-use lib.ListN.{length, getD, set, length-set}
+use mathlib.Core.Path.{_≡_, refl, sym, ap, _∙_}
+use mathlib.Core.Logic.{_≢_}
+use mathlib.Core.List.{List}
+use lib.ListN.{length, set, length-set}
 use lib.Seq.{getD-set-same, getD-set-other}
-use Rattle.rules.specs.Words.{Head, headOf, lengthBy}
-use Rattle.rules.specs.declared.Control.{Control}
-use Rattle.rules.specs.Memory.{Store, link, origin, endOf, firstOf, topOf, statusOf}
+use Rattle.rules.specs.Words.{headOf, lengthBy}
+use Rattle.rules.specs.Memory.{link, endOf, firstOf, topOf}
 use Rattle.laws.specs.Lists.{at, put}
 use Rattle.rules.specs.Pages.{Run, store}
-use Rattle.laws.proofs.Lists.{apart, length-put, at-put-below, at-put-in, at-put-above}
-use Rattle.facts.proofs.Steps.{Stands, Steps, here, over, steps-le, steps-then, steps-same, stands-same}
-use Rattle.facts.proofs.Laid.{upd, upd-same, upd-other, Once, Last, last-in, Linked, linked-same, Owner, old, spare, beyond, mine, Body, Clean, Like, body-like, clean-like, put-elsewhere, Layout, Value}
-
-mine-inj : {i j : ℕ} → mine i ≡ mine j → i ≡ j
-mine-inj e = cc
-
-mine-known : {j : ℕ} → mine j ≢ beyond
-mine-known e = let z : _≡_ {A = ℕ} 0 1 = cc in omega arith
-
-mine-spare : {j : ℕ} → mine j ≢ spare
-mine-spare e = let z : _≡_ {A = ℕ} 0 1 = cc in omega arith
-
-spare-known : spare ≢ beyond
-spare-known e = let z : _≡_ {A = ℕ} 0 1 = cc in omega arith
+use Rattle.laws.proofs.Lists.{length-put, at-put-below, at-put-in, at-put-above}
+use Rattle.facts.proofs.Steps.{Stands, here, over, steps-le, steps-then, steps-same}
+use Rattle.facts.proofs.Laid.{mine-inj, spare≢mine, spare≢beyond, mine≢beyond, upd, upd-same, upd-other, Last, last-in, Linked, linked-same, Owner, beyond, mine, Body, Like, body-like, clean-like, put-elsewhere, Layout, Value}
 
 module _ (n N R : ℕ) (own : ℕ → Owner) (fin : ℕ → ℕ) (pages : ℕ → List ℕ) (free : List ℕ) (r : Run) (L : Layout n N R own fin pages free r)
     (j l : ℕ) (ws : List ℕ) (jR : j < R) (val : Value ws l) (fits : topOf (r .table) j + length ws ≤ endOf (r .table) j) where
@@ -46,7 +32,7 @@ module _ (n N R : ℕ) (own : ℕ → Owner) (fin : ℕ → ℕ) (pages : ℕ �
   a-is : topOf (r .table) j ≡ fin lastPage
   a-is = L .mine-top j jR .3
 
-  body : Body (n) (r .heap) lastPage j (fin lastPage)
+  body : Body n (r .heap) lastPage j (fin lastPage)
   body = L .mine-body j lastPage own-k
 
   low : lastPage * 2 ^ n + 2 ≤ topOf (r .table) j
@@ -56,7 +42,7 @@ module _ (n N R : ℕ) (own : ℕ → Owner) (fin : ℕ → ℕ) (pages : ℕ �
   page-in k ne = let s = L .size in let p = mul-le-mul-right (2 ^ n) (L .known k ne) in omega arith
 
   k-known : own lastPage ≢ beyond
-  k-known q = mine-known (sym own-k ∙ q)
+  k-known q = mine≢beyond own-k q
 
   top-in : topOf (r .table) j + length ws ≤ length (r .heap)
   top-in = let p = page-in lastPage k-known in let e = e-is in omega arith
@@ -64,15 +50,15 @@ module _ (n N R : ℕ) (own : ℕ → Owner) (fin : ℕ → ℕ) (pages : ℕ �
   heap′ : List ℕ
   heap′ = put (r .heap) (topOf (r .table) j) ws
 
-  like : (k : ℕ) → k ≢ lastPage → Like (n) (r .heap) heap′ k
+  like : (k : ℕ) → k ≢ lastPage → Like n (r .heap) heap′ k
   unfolding heap′
   like k ne =
       let e = e-is in
       let lo = low in
-      record { word = λ x p q. sym (put-elsewhere (n) (r .heap) lastPage (topOf (r .table) j) ws k x top-in (omega arith) (omega arith) ne (omega arith) q) }
+      record { word = λ x p q. sym (put-elsewhere n (r .heap) lastPage (topOf (r .table) j) ws k x top-in (omega arith) (omega arith) ne (omega arith) q) }
 
   -- no link changes
-  links : (k : ℕ) → own k ≢ beyond → link (n) (r .heap) k ≡ link (n) heap′ k
+  links : (k : ℕ) → own k ≢ beyond → link n (r .heap) k ≡ link n heap′ k
   unfolding heap′ link
   links k ne = go (ℕ-discrete k lastPage)
     where
@@ -85,7 +71,7 @@ module _ (n N R : ℕ) (own : ℕ → Owner) (fin : ℕ → ℕ) (pages : ℕ �
           let b = L .big in
           let lo = low in
           let e = e-is in
-          sym (put-elsewhere (n) (r .heap) lastPage (topOf (r .table) j) ws k (k * 2 ^ n) top-in (omega arith) (omega arith) f (le-refl _) (omega arith))
+          sym (put-elsewhere n (r .heap) lastPage (topOf (r .table) j) ws k (k * 2 ^ n) top-in (omega arith) (omega arith) f (le-refl _) (omega arith))
 
   -- the value stands where it was stored
   stands : Stands heap′ (lastPage * 2 ^ n + 2 ^ n) (fin lastPage) l
@@ -98,7 +84,7 @@ module _ (n N R : ℕ) (own : ℕ → Owner) (fin : ℕ → ℕ) (pages : ℕ �
       = ap (at heap′) (sym a-is ∙ sym (add-zero _)) ∙ at-put-in (r .heap) (topOf (r .table) j) ws 0 top-in (omega arith) in
       record { head = ap (λ x. lengthBy (headOf x)) w ∙ val .head; ends = omega arith }
 
-  body′ : Body (n) heap′ lastPage j (fin lastPage + length ws)
+  body′ : Body n heap′ lastPage j (fin lastPage + length ws)
   unfolding heap′
   body′ =
       let s = val .size in
@@ -119,11 +105,11 @@ module _ (n N R : ℕ) (own : ℕ → Owner) (fin : ℕ → ℕ) (pages : ℕ �
   fin′ : ℕ → ℕ
   fin′ = upd fin lastPage (fin lastPage + length ws)
 
-  bodies : (i k : ℕ) → own k ≡ mine i → Body (n) heap′ k i (fin′ k)
+  bodies : (i k : ℕ) → own k ≡ mine i → Body n heap′ k i (fin′ k)
   unfolding fin′
   bodies i k o = go (ℕ-discrete k lastPage)
     where
-      go : Dec (k ≡ lastPage) → Body (n) heap′ k i (fin′ k)
+      go : Dec (k ≡ lastPage) → Body n heap′ k i (fin′ k)
       go (yes e) =
           let ij : i ≡ j = mine-inj (sym o ∙ ap own e ∙ own-k) in
           rw (upd-same fin lastPage (fin lastPage + length ws) k e, e, ij) body′
@@ -138,12 +124,12 @@ module _ (n N R : ℕ) (own : ℕ → Owner) (fin : ℕ → ℕ) (pages : ℕ �
   unfolding table′
   row x ne = getD-set-other (r .table) (4 * j + 2) x (topOf (r .table) j + length ws) 0 ne
 
-  linked : (i : ℕ) → i < R → (k : ℕ) × (firstOf table′ i ≡ k * 2 ^ n) × Linked (link (n) heap′) (suc k) (pages i)
+  linked : (i : ℕ) → i < R → (k : ℕ) × (firstOf table′ i ≡ k * 2 ^ n) × Linked (link n heap′) (suc k) (pages i)
   linked i b =
       let t = L .mine-links i b in (
         t .0,
         row (4 * i + 1) (omega arith) ∙ t .1,
-        linked-same (λ k m. links k (λ q. mine-known (sym (L .mine-own i k b m) ∙ q))) (t .2),
+        linked-same (λ k m. links k (λ q. mine≢beyond (L .mine-own i k b m) q)) (t .2),
       )
 
   tops : (i : ℕ) → i < R → (k : ℕ) × Last (pages i) k × (endOf table′ i ≡ k * 2 ^ n + 2 ^ n) × (topOf table′ i ≡ fin′ k)
@@ -176,10 +162,10 @@ module _ (n N R : ℕ) (own : ℕ → Owner) (fin : ℕ → ℕ) (pages : ℕ �
         known = L .known;
         free-own = L .free-own;
         free-once = L .free-once;
-        free-links = linked-same (λ k m. links k (λ q. spare-known (sym (L .free-own k m) ∙ q))) (L .free-links);
+        free-links = linked-same (λ k m. links k (λ q. spare≢beyond (L .free-own k m) q)) (L .free-links);
         free-last = L .free-last;
         free-count = L .free-count;
-        free-clean = λ k o. clean-like (like k (λ q. mine-spare (sym own-k ∙ ap own (sym q) ∙ o))) (L .free-clean k o);
+        free-clean = λ k o. clean-like (like k (λ q. spare≢mine o (ap own q ∙ own-k))) (L .free-clean k o);
         mine-own = L .mine-own;
         mine-once = L .mine-once;
         mine-links = linked;

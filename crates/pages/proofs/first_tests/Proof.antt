@@ -3,7 +3,7 @@ use borrow.Author.Needs.{needs}
 use mathlib.Core.Path.{sym, _∙_}
 use borrow.Author.Tests.{not-false}
 use Rattle.laws.proofs.Tests.{tests}
-use Rattle.rules.proofs.Limits.{exponent}
+use Rattle.rules.proofs.Limits.{within}
 use Rattle.pages.specs.First.{firstTests}
 use Rattle.pages.proofs.first_tests.Statement.{statement}
 use Rattle.pages.proofs.first_tests.Tie as tie
@@ -16,7 +16,7 @@ unfolding firstTests
 returns c = rw (← (c .before .within-limits .ensures), c .if1 .taken)
 
 common-test-requires : tie.Need-common-test-requires
-common-test-requires c κs = exponent _ _ _ _ _ (sym (c .before .within-limits .ensures) ∙ not-false _ (c .if1 .left)) .1
+common-test-requires c κs = within _ _ _ _ _ (sym (c .before .within-limits .ensures) ∙ not-false _ (c .if1 .left)) .paged .high
 
 returns-2 : tie.Need-returns-2
 unfolding firstTests

@@ -1,0 +1,121 @@
+-- Steps 1 to 3, at work and in the plain run: both lack a page, or both have all scanned, and then the desk matches the run and the roots' new words
+-- are those that the plain run has.
+use Prim.Native.Nat.{ℕ, _*_}
+use native.Mathlib.Omega.{arith}
+use mathlib.Core.Path.{_≡_, sym, ap, _∙_, subst}
+use mathlib.Core.Logic.{inl, inr}
+use mathlib.Core.Bool.{Bool, true, false}
+use mathlib.Core.Option.{some}
+use mathlib.Core.List.{List}
+use lib.ListN.{length}
+use Rattle.laws.specs.Each.{After, after, each}
+use Rattle.rules.specs.declared.Refusal.{Refusal}
+use Rattle.rules.specs.Memory.{Store}
+use Rattle.rules.specs.Pages.{Run, begun}
+use Rattle.rules.specs.Collection.{finished, freshen, evacuateAll, workStack, ending, collected}
+use Rattle.rules.specs.Refusals.{refused}
+use Rattle.facts.specs.View.{root}
+use Rattle.facts.proofs.Sound.{Sound}
+use Rattle.working.specs.Unbounded.{freshenFor, unbounded}
+use Rattle.working.proofs.Wanting.{follows-some, ends-finished, fresh-follows, roots-follow, stack-ends}
+use Rattle.working.proofs.Fresh.{Fresh, fresh-start}
+use Rattle.working.proofs.Roots.{rel-grows, AllBecame}
+use Rattle.working.proofs.Running.{none-total, first, first-inv, Ran}
+use Rattle.working.proofs.Work.{Finished}
+use Rattle.motion.specs.declared.Step.{Step}
+use Rattle.motion.specs.Leaves.{Desk, desk, begunNotes}
+use Rattle.motion.specs.Whole as Y
+use Rattle.motion.specs.Whole.{fresh, moveRoots, workDone, rootsDone, freshDone, writtenRoots}
+use Rattle.agreement.proofs.Matching.{Matching}
+use Rattle.agreement.proofs.Stuck.{Stuck}
+use Rattle.agreement.proofs.Freshens.{starts, Freshens, freshens}
+use Rattle.agreement.proofs.Rooted.{roots-written, Rooted, moves-all}
+use Rattle.agreement.proofs.Works.{WorksStack, works-stack}
+use Rattle.agreement.proofs.Ended.{tried, Attempted, lacks, scanned}
+
+module _ (s : Store) (S : Sound s) where
+  abbrev n : ℕ
+  n = s .ctl .n
+
+  abbrev R : ℕ
+  R = s .ctl .regions
+
+  abbrev f : ℕ
+  f = 2 * length (s .heap)
+
+  abbrev d₀ : Desk
+  d₀ = desk (s .heap) (begunNotes (s .ctl .first) (s .ctl .last))
+
+  -- ---- the parts of the attempt, in their order
+
+  fresh-lacks : (d : Desk) → each R (fresh n) 0 d₀ ≡ after false d → tried s ≡ after false d
+  unfolding freshDone
+  fresh-lacks d e = rw e
+
+  roots-lack : (d₁ d : Desk) → each R (fresh n) 0 d₀ ≡ after true d₁ → moveRoots n (s .roots) d₁ ≡ after false d → tried s ≡ after false d
+  unfolding freshDone rootsDone
+  roots-lack d₁ d e q = rw (e, q)
+
+  work-lacks : (d₁ d₂ d : Desk) → each R (fresh n) 0 d₀ ≡ after true d₁ → moveRoots n (s .roots) d₁ ≡ after true d₂ → Y.workStack n f d₂ ≡ after Step.NoPage d → tried s ≡ after false d
+  unfolding freshDone rootsDone workDone
+  work-lacks d₁ d₂ d e q t = rw (e, q, t)
+
+  work-ends : (d₁ d₂ d : Desk) → each R (fresh n) 0 d₀ ≡ after true d₁ → moveRoots n (s .roots) d₁ ≡ after true d₂ → Y.workStack n f d₂ ≡ after Step.Finished d → tried s ≡ after true d
+  unfolding freshDone rootsDone workDone
+  work-ends d₁ d₂ d e q t = rw (e, q, t)
+
+  -- ---- how it goes
+
+  lacking : (d : Desk) → tried s ≡ after false d → collected s ≡ refused s Refusal.NoPage → Stuck s S d → Attempted s S
+  lacking d e q K =
+      lacks q (ap (λ (o : After Bool Desk). o .answer) e) (subst (Stuck s S) (sym (ap (λ (o : After Bool Desk). o .state) e)) K)
+
+  ending-with : (d : Desk) → tried s ≡ after true d → (roots : List ℕ) (r : Run) → collected s ≡ ending s roots (finished r) → (A : Ran s S roots r) → Matching s S (A .end .ghost) r d → Attempted s S
+  ending-with d e roots r q A M =
+      let t : tried s .state ≡ d = ap (λ (o : After Bool Desk). o .state) e in
+      scanned roots r q A (ap (λ (o : After Bool Desk). o .answer) e) (subst (Matching s S (A .end .ghost) r) (sym t) M)
+      (ap (λ y. writtenRoots (y .heap) (s .roots)) t ∙ roots-written s S (A .end .ghost) r (A .end .inv) d M (s .roots) roots (A .count) (A .rels))
+
+  pub attempts : Attempted s S
+  unfolding collected ending unbounded
+  attempts = freshened (freshens s S R 0 (begun s) (omega arith) (fresh-start s S) d₀ (starts s S))
+    where
+      fresh-is : (r : Run) → freshen n R 0 (begun s) ≡ some r → freshenFor n R 0 (begun s) ≡ r
+      fresh-is r e = follows-some r (fresh-follows n R 0 (begun s)) e
+
+      worked : (r : Run) (F : Fresh s S R r) (d₁ : Desk) → freshen n R 0 (begun s) ≡ some r → each R (fresh n) 0 d₀ ≡ after true d₁
+          → (roots : List ℕ) (r₁ : Run) → evacuateAll n (s .roots) r ≡ some (roots, r₁) → (A : AllBecame s S (first s S r F) r (s .roots) roots r₁)
+          → (d₂ : Desk) → moveRoots n (s .roots) d₁ ≡ after true d₂ → WorksStack s S (A .ghost) r₁ d₂ → Attempted s S
+      worked r F d₁ e w roots r₁ e₁ A d₂ w₁ (inl u) =
+          let l : length (r₁ .heap) ≡ length (s .heap) = A .inv .laid .size ∙ sym (S .laid .size) in
+          let t : Y.workStack n f d₂ ≡ after Step.NoPage (u .1) = ap (λ x. Y.workStack n (2 * x) d₂) (sym l) ∙ u .2 in
+          lacking (u .1) (work-lacks d₁ d₂ (u .1) w w₁ t) (rw (e, collected, e₁, u .0)) (u .3)
+      worked r F d₁ e w roots r₁ e₁ A d₂ w₁ (inr u) =
+          let l : length (r₁ .heap) ≡ length (s .heap) = A .inv .laid .size ∙ sym (S .laid .size) in
+          let G : Finished s S (A .ghost) (u .0) = u .2 in
+          let t : Y.workStack n f d₂ ≡ after Step.Finished (u .3) = ap (λ x. Y.workStack n (2 * x) d₂) (sym l) ∙ u .4 in
+          ending-with (u .3) (work-ends d₁ d₂ (u .3) w w₁ t) roots (u .0) (rw (e, collected, e₁, u .1))
+          (record {
+            start = A .ghost;
+            end = G;
+            count = A .count;
+            unbound = rw (fresh-is r e, roots-follow n (s .roots) roots r r₁ e₁) (ends-finished (u .0) (stack-ends n r₁) (u .1));
+            rels = λ i b. rel-grows (A .ghost .log) (G .ghost .log) (G .log) (A .rels i b);
+          })
+          (u .5)
+
+      rooted : (r : Run) (F : Fresh s S R r) (d₁ : Desk) → freshen n R 0 (begun s) ≡ some r → each R (fresh n) 0 d₀ ≡ after true d₁ → Rooted s S (first s S r F) r d₁ (s .roots) → Attempted s S
+      rooted r F d₁ e w (inl u) = lacking (u .1) (roots-lack d₁ (u .1) w (u .2)) (rw (e, collected, u .0)) (u .3)
+      rooted r F d₁ e w (inr u) =
+          let A : AllBecame s S (first s S r F) r (s .roots) (u .0) (u .1) = u .3 in
+          let cost = A .later .cost in
+          let z = none-total R in
+          let y : length (r .stack) ≡ 0 = ap length (F .stack) in
+          worked r F d₁ e w (u .0) (u .1) (u .2) A (u .4) (u .5) (works-stack s S (A .ghost) (u .1) (A .inv) (A .later .cur) (A .later .half) (omega arith) (u .4) (u .6))
+
+      freshened : Freshens s S R 0 (begun s) d₀ → Attempted s S
+      freshened (inl u) = lacking (u .1) (fresh-lacks (u .1) (u .2)) (rw (u .0, collected)) (u .3)
+      freshened (inr u) =
+          let r : Run = u .0 in
+          let F : Fresh s S R r = u .2 in
+          rooted r F (u .3) (u .1) (u .4) (moves-all s S (s .roots) (first s S r F) r (first-inv s S r F) (S .roots) (λ i b. root i b) (u .3) (u .5))

@@ -1,0 +1,166 @@
+-- What keeps the matching: words of both heaps, or of table and notes, changed alike. A word that changes in both is the same in both after it,
+-- and the rest of the matching does not speak of it.
+use Prim.Native.Nat.{ℕ, _+_, _-_, _*_, _^_, _≤_, _<_}
+use native.Mathlib.Nat.{add-zero}
+use native.Mathlib.Omega.{arith}
+use native.Mathlib.Decide.{ℕ-discrete}
+use mathlib.Core.Path.{_≡_, refl, sym, ap, _∙_}
+use mathlib.Core.Logic.{_≢_}
+use mathlib.Core.List.{List, List·Memᴰ}
+use lib.ListN.{length, set, length-set}
+use lib.Seq.{getD-set-same, getD-set-other}
+use Rattle.laws.specs.Lists.{at}
+use Rattle.rules.specs.Memory.{Store, endOf, topOf, statusOf}
+use Rattle.rules.specs.Pages.{Scan, Run, withHeap, withTable}
+use Rattle.facts.proofs.Laid.{Owner, mine}
+use Rattle.facts.proofs.Sound.{Sound}
+use Rattle.working.proofs.Invariant.{Ghost}
+use Rattle.motion.specs.Leaves.{Desk, desk, entry}
+use Rattle.agreement.proofs.Matching.{Noted, bare, above, Matching}
+
+-- ---- the scan stack
+
+pub noted-below : {t t′ : List ℕ} {ts : List Scan} → Noted t ts → ((x : ℕ) → 256 ≤ x → x < entry (length ts) → at t′ x ≡ at t x) → Noted t′ ts
+noted-below bare same = bare
+noted-below (above {ts = ts} e f rest) same =
+    above (same (entry (length ts)) (omega arith) (omega arith) ∙ e) (same (entry (length ts) + 1) (omega arith) (omega arith) ∙ f)
+    (noted-below rest (λ x p q. same x p (omega arith)))
+
+pub noted-same : {t t′ : List ℕ} {ts : List Scan} → Noted t ts → length ts ≤ 64 → ((x : ℕ) → 256 ≤ x → x < 384 → at t′ x ≡ at t x) → Noted t′ ts
+noted-same m few same = noted-below m (λ x p q. same x p (omega arith))
+
+-- ---- a word set in two lists
+
+pub set-alike : (g h : List ℕ) (x v y : ℕ) → x < length g → x < length h → (y ≢ x → at g y ≡ at h y) → at (set g x v) y ≡ at (set h x v) y
+set-alike g h x v y a b same = go (ℕ-discrete y x)
+  where
+    go : Dec (y ≡ x) → at (set g x v) y ≡ at (set h x v) y
+    go (yes e) = ap (at (set g x v)) e ∙ getD-set-same g x v 0 a ∙ sym (getD-set-same h x v 0 b) ∙ ap (at (set h x v)) (sym e)
+    go (no ne) = getD-set-other g x y v 0 ne ∙ same ne ∙ sym (getD-set-other h x y v 0 ne)
+
+-- x is the origin of no page that is taken
+abbrev pub Plain : Store → Ghost → ℕ → Type 0
+Plain s g x = (k j : ℕ) → g .own k ≡ mine j → x ≢ k * 2 ^ s .ctl .n + 1
+
+-- the same ghost, but for whose each page is and the free list
+abbrev pub owning : Ghost → (ℕ → Owner) → List ℕ → Ghost
+owning g own free =
+    record {
+      own = own;
+      fin = g .fin;
+      pages = g .pages;
+      free = free;
+      log = g .log;
+      count = g .count;
+      past = g .past;
+      todo = g .todo;
+      cur = g .cur;
+      half = g .half;
+    }
+
+module _ (s : Store) (S : Sound s) (g : Ghost) (r : Run) (d : Desk) (M : Matching s S g r d) where
+  -- of the ghost only the owners and the free list count
+  pub by-owners : (g′ : Ghost) → g .own ≡ g′ .own → g .free ≡ g′ .free → Matching s S g′ r d
+  by-owners g′ e f =
+      record {
+        heap-length = M .heap-length;
+        notes-length = M .notes-length;
+        words = rw e at (M .words);
+        took = M .took;
+        front = rw f at (M .front);
+        owned = rw e at (M .owned);
+        kept-link = M .kept-link;
+        rows = M .rows;
+        free-first = M .free-first;
+        taken-count = M .taken-count;
+        free-last = M .free-last;
+        given-none = M .given-none;
+        shallow = M .shallow;
+        deep = M .deep;
+        noted = M .noted;
+      }
+
+  pub heap-on : (h h′ : List ℕ) → length h′ ≡ length h → ((x : ℕ) → Plain s g x → at h′ x ≡ at h x)
+      → ((k : ℕ) → List·Memᴰ k (M .took) → at h′ (k * 2 ^ s .ctl .n + 1) ≡ at (d .heap) (k * 2 ^ s .ctl .n + 1)) → Matching s S g (withHeap r h) (desk h′ (d .notes))
+  heap-on h h′ len words kept =
+      record {
+        heap-length = len;
+        notes-length = M .notes-length;
+        words = words;
+        took = M .took;
+        front = M .front;
+        owned = M .owned;
+        kept-link = λ k m. kept k m ∙ M .kept-link k m;
+        rows = M .rows;
+        free-first = M .free-first;
+        taken-count = M .taken-count;
+        free-last = M .free-last;
+        given-none = M .given-none;
+        shallow = M .shallow;
+        deep = M .deep;
+        noted = M .noted;
+      }
+
+  not-origin : (x : ℕ) → Plain s g x → (k : ℕ) → List·Memᴰ k (M .took) → k * 2 ^ s .ctl .n + 1 ≢ x
+  not-origin x plain k m e = let t = M .owned k .0 m in plain k (t .0) (t .1) (sym e)
+
+  -- one word of both
+  pub word-on : (x v : ℕ) → x < length (r .heap) → Plain s g x → Matching s S g (withHeap r (set (r .heap) x v)) (desk (set (d .heap) x v) (d .notes))
+  word-on x v inside plain =
+      let len = M .heap-length in
+      heap-on (set (r .heap) x v) (set (d .heap) x v) (length-set (d .heap) x v ∙ len ∙ sym (length-set (r .heap) x v))
+      (λ y p. set-alike (d .heap) (r .heap) x v y (omega arith) inside (λ ne. M .words y p))
+      (λ k m. getD-set-other (d .heap) x (k * 2 ^ s .ctl .n + 1) v 0 (not-origin x plain k m))
+
+  -- one word of the plain heap, which the other has already
+  pub word-has : (x v : ℕ) → x < length (r .heap) → at (d .heap) x ≡ v → Matching s S g (withHeap r (set (r .heap) x v)) d
+  word-has x v inside is = heap-on (set (r .heap) x v) (d .heap) (M .heap-length ∙ sym (length-set (r .heap) x v)) same (λ k m. refl)
+    where
+      same : (y : ℕ) → Plain s g y → at (d .heap) y ≡ at (set (r .heap) x v) y
+      same y p = go (ℕ-discrete y x)
+        where
+          go : Dec (y ≡ x) → at (d .heap) y ≡ at (set (r .heap) x v) y
+          go (yes e) = ap (at (d .heap)) e ∙ is ∙ sym (getD-set-same (r .heap) x v 0 inside) ∙ ap (at (set (r .heap) x v)) (sym e)
+          go (no ne) = M .words y p ∙ sym (getD-set-other (r .heap) x y v 0 ne)
+
+  -- ---- the rows
+
+  pub rows-on : (t t′ : List ℕ) → length t′ ≡ length (d .notes) → ((j c : ℕ) → j < s .ctl .regions → c < 4 → at t′ (4 * j + c) ≡ at t (4 * j + c))
+      → ((x : ℕ) → 256 ≤ x → at t′ x ≡ at (d .notes) x) → Matching s S g (withTable r t) (desk (d .heap) t′)
+  rows-on t t′ len rows else =
+      record {
+        heap-length = M .heap-length;
+        notes-length = len ∙ M .notes-length;
+        words = M .words;
+        took = M .took;
+        front = M .front;
+        owned = M .owned;
+        kept-link = M .kept-link;
+        rows = rows;
+        free-first = else _ (omega arith) ∙ M .free-first;
+        taken-count = else _ (omega arith) ∙ M .taken-count;
+        free-last = else _ (omega arith) ∙ M .free-last;
+        given-none = else _ (omega arith) ∙ M .given-none;
+        shallow = M .shallow;
+        deep = else _ (omega arith) ∙ M .deep;
+        noted = noted-same (M .noted) (M .shallow) (λ x p q. else x p);
+      }
+
+  -- one word of both
+  pub row-on : (y v : ℕ) → y < 4 * s .ctl .regions → y < length (r .table) → Matching s S g (withTable r (set (r .table) y v)) (desk (d .heap) (set (d .notes) y v))
+  row-on y v inside wide =
+      let R = S .regions in
+      let len = M .notes-length in
+      rows-on (set (r .table) y v) (set (d .notes) y v) (length-set (d .notes) y v)
+      (λ j c jR c4. set-alike (d .notes) (r .table) y v (4 * j + c) (omega arith) wide (λ ne. M .rows j c jR c4))
+      (λ x p. getD-set-other (d .notes) y x v 0 (omega arith))
+
+  module _ (j : ℕ) (jR : j < s .ctl .regions) where
+    pub end-same : endOf (d .notes) j ≡ endOf (r .table) j
+    end-same = ap (at (d .notes)) (sym (add-zero (4 * j))) ∙ M .rows j 0 jR (omega arith) ∙ ap (at (r .table)) (add-zero (4 * j))
+
+    pub top-same : topOf (d .notes) j ≡ topOf (r .table) j
+    top-same = M .rows j 2 jR (omega arith)
+
+    pub status-same : statusOf (d .notes) j ≡ statusOf (r .table) j
+    status-same = M .rows j 3 jR (omega arith)

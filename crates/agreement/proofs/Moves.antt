@@ -1,0 +1,438 @@
+-- A value moved at work and in the plain run: a forward is met by both, or both lack a page, or both copy the same words to the same place and leave
+-- the forward. The value stands in an old page and its copy in a new one, so the two ranges lie apart, and no origin of a taken page is in either.
+use Prim.Native.Nat.{ℕ, suc, _+_, _-_, _*_, _/_, _%_, _^_, _≤_, _<_}
+use native.Mathlib.Nat.{mul-le-mul-right}
+use native.Mathlib.Omega.{arith}
+use native.Mathlib.Decide.{ℕ-discrete, decLt}
+use mathlib.Core.Path.{_≡_, refl, sym, ap, _∙_}
+use mathlib.Core.Logic.{_≢_, _⊎_, inl, inr}
+use mathlib.Core.Bool.{Bool, true, false, _||_}
+use mathlib.Core.Option.{none, some}
+use mathlib.Core.List.{List, [], _∷_, List·Memᴰ, List·Memᴰ·head}
+use lib.ListN.{length, take, drop, set, length-set, length-drop}
+use lib.Seq.{getD-set-same, getD-set-other, length-take-le}
+use lib.Dec.{leb}
+use borrow.Author.Tests.{le-leb, eq-eqb, ne-eqb}
+use Rattle.laws.specs.Lists.{at, put}
+use Rattle.laws.specs.Each.{after}
+use Rattle.laws.proofs.Facts.{and-of}
+use Rattle.laws.proofs.Lists.{apart as pages-apart, part-same, length-put, at-put-below, at-put-in, at-put-above}
+use Rattle.rules.specs.Memory.{Store, pageCount, origin, endOf, topOf, statusOf, setTop}
+use Rattle.rules.specs.Words.{headOf}
+use Rattle.rules.specs.Pages.{Run, withHeap, store}
+use Rattle.rules.specs.Pages as Q
+use Rattle.rules.specs.Collection.{regionAt, evacuateAt, moveTo, wake}
+use Rattle.rules.proofs.Chains.{page-of}
+use Rattle.facts.specs.View.{seen, Reached}
+use Rattle.facts.proofs.Steps.{steps-le}
+use Rattle.facts.proofs.Laid.{old, mine, old≢spare, old≢mine, old≢beyond, mine≢beyond}
+use Rattle.facts.proofs.Copied.{to, went}
+use Rattle.facts.proofs.Sound.{InHeap, Sound}
+use Rattle.working.proofs.Placed.{Roomed}
+use Rattle.working.proofs.Invariant.{Ghost, Inv, later-refl, Became}
+use Rattle.working.proofs.Evacuating.{in-log, in-pointers, room-or}
+use Rattle.working.proofs.Evacuation as E
+use Rattle.working.proofs.Evacuation.{value}
+use Rattle.working.proofs.Copying.{Uncopied, Made, fin₂, made, made-moves}
+use Rattle.working.proofs.Copying as C
+use Rattle.working.proofs.CopyPending.{copied-later, copied-count}
+use Rattle.working.proofs.CopyPending as G
+use Rattle.working.proofs.CopyInv.{copied-inv}
+use Rattle.working.proofs.Waking.{entry}
+use Rattle.motion.specs.Leaves as W
+use Rattle.motion.specs.Leaves.{Desk, desk, low, regionOn, apart, copied, forwarded}
+use Rattle.motion.specs.Run as X
+use Rattle.motion.specs.Run.{room, move, moveOf, moveOn}
+use Rattle.agreement.proofs.Matching.{Matching}
+use Rattle.agreement.proofs.Frames.{Plain, owning, by-owners, heap-on, word-on, row-on, top-same}
+use Rattle.agreement.proofs.Heads.{header-odd}
+use Rattle.agreement.proofs.Took.{low-is, start-is}
+use Rattle.agreement.proofs.Rooms.{no-room, Room, rooms}
+use Rattle.agreement.proofs.Wakes.{stack-few, wakes}
+
+-- ---- words that are no origins of taken pages
+
+module _ (s : Store) (S : Sound s) (g : Ghost) where
+  abbrev P : ℕ
+  P = 2 ^ s .ctl .n
+
+  -- behind a page's descriptor
+  pub body-plain : (k x : ℕ) → k * P + 2 ≤ x → x < k * P + P → Plain s g x
+  body-plain k x lo hi l j o e = go (ℕ-discrete l k)
+    where
+      by : (l * P + P ≤ k * P) ⊎ (k * P + P ≤ l * P) → ⊥
+      by (inl t) = let b = S .laid .big in omega arith
+      by (inr t) = omega arith
+
+      go : Dec (l ≡ k) → ⊥
+      go (yes q) = let w : l * P ≡ k * P = ap (λ y. y * P) q in omega arith
+      go (no ne) = by (pages-apart P l k ne)
+
+  -- in an old page
+  pub old-plain : (k x : ℕ) → g .own k ≡ old → k * P ≤ x → x < k * P + P → Plain s g x
+  old-plain k x own lo hi l j o e = go (pages-apart P l k (λ q. old≢mine own (ap (g .own) (sym q) ∙ o)))
+    where
+      go : (l * P + P ≤ k * P) ⊎ (k * P + P ≤ l * P) → ⊥
+      go (inl t) = let b = S .laid .big in omega arith
+      go (inr t) = omega arith
+
+-- the same words put into two lists
+put-alike : (g h : List ℕ) (b : ℕ) (ws : List ℕ) (x : ℕ) → b + length ws ≤ length g → b + length ws ≤ length h → at g x ≡ at h x → at (put g b ws) x ≡ at (put h b ws) x
+put-alike g h b ws x p q e = go (decLt x b) (decLt x (b + length ws))
+  where
+    go : Dec (x < b) → Dec (x < b + length ws) → at (put g b ws) x ≡ at (put h b ws) x
+    go (yes t) u = at-put-below g b ws x p t ∙ e ∙ sym (at-put-below h b ws x q t)
+    go (no t) (yes u) =
+        let i : ℕ = x - b in
+        let z : b + i ≡ x = omega arith in
+        let c : i < length ws = omega arith in
+        ap (at (put g b ws)) (sym z) ∙ at-put-in g b ws i p c ∙ sym (at-put-in h b ws i q c) ∙ ap (at (put h b ws)) z
+    go (no t) (no u) = at-put-above g b ws x p (omega arith) ∙ e ∙ sym (at-put-above h b ws x q (omega arith))
+
+or-left : (a b : Bool) → a ≡ true → (a || b) ≡ true
+or-left a b e = rw e
+
+or-right : (a b : Bool) → b ≡ true → (a || b) ≡ true
+or-right true b e = refl
+or-right false b e = e
+
+module _ (s : Store) (S : Sound s) (g : Ghost) (r : Run) (I : Inv s S g r) (d : Desk) (M : Matching s S g r d) where
+  abbrev n : ℕ
+  n = s .ctl .n
+
+  abbrev N : ℕ
+  N = pageCount n (s .heap)
+
+  abbrev R : ℕ
+  R = s .ctl .regions
+
+  -- how a value's moving ends
+  abbrev pub Moves : ℕ → Type 0
+  Moves a =
+      ((evacuateAt n a r ≡ none) × (move n a d ≡ after false d) × (g .free ≡ []))
+      ⊎ ((v : ℕ) × (r′ : Run) × (evacuateAt n a r ≡ some (v, r′)) × (B : Became s S g r (4 * a) v r′) × (d′ : Desk) × (move n a d ≡ after true d′)
+      × Matching s S (B .ghost) r′ d′ × (at (d′ .heap) a ≡ v))
+
+  module _ (a : ℕ) (x : InHeap n R (s .heap) a) (reached : Reached (seen s) (s .roots) (4 * a)) where
+    abbrev f : ℕ
+    f = x .page
+
+    abbrev j : ℕ
+    j = x .region
+
+    abbrev l : ℕ
+    l = x .len
+
+    own-f : g .own f ≡ old
+    own-f = E.old-page s S g r I a x
+
+    a-lo : f * 2 ^ n + 2 ≤ a
+    a-lo = steps-le (x .steps)
+
+    a-hi : a + suc l ≤ f * 2 ^ n + 2 ^ n
+    a-hi = x .stands .ends
+
+    f-in : f * 2 ^ n + 2 ^ n ≤ length (r .heap)
+    f-in =
+        let z = I .laid .size in
+        let p = mul-le-mul-right (2 ^ n) (I .laid .known f (λ q. old≢beyond own-f q)) in
+        omega arith
+
+    f-known : f < N
+    f-known = I .laid .known f (λ q. old≢beyond own-f q)
+
+    in-a : (y : ℕ) → f * 2 ^ n ≤ y → y < f * 2 ^ n + 2 ^ n → at (d .heap) y ≡ at (r .heap) y
+    in-a y p q = M .words y (old-plain s S g f y own-f p q)
+
+    head-here : at (d .heap) a ≡ at (r .heap) a
+    head-here = let p = a-lo in let q = a-hi in in-a a (omega arith) (omega arith)
+
+    region-here : regionOn n a (d .heap) ≡ regionAt n (r .heap) a
+    unfolding regionAt origin
+    region-here =
+        let p = a-lo in
+        let q = a-hi in
+        rw (page-of n f a (omega arith) (omega arith), start-is s S f f-known, in-a (f * 2 ^ n + 1) (omega arith) (omega arith))
+
+    -- it was moved before
+    again : (b : ℕ) → List·Memᴰ (to a b) (g .log) → Moves a
+    unfolding moveOf
+    again b m =
+        let e : at (d .heap) a ≡ 4 * b = head-here ∙ I .logged .copies m .forward in
+        let even : (4 * b) % 2 ≡ 0 = omega arith in
+        inr (
+          4 * b,
+          r,
+          E.again s S g r I a x reached b m .0,
+          record { ghost = g; inv = I; later = later-refl R g r; rel = went (in-pointers (g .log) m); count = λ q. refl },
+          d,
+          rw (e, eq-eqb ((4 * b) % 2) 0 even),
+          M,
+          e,
+        )
+
+    module _ (new : (b : ℕ) → List·Memᴰ (to a b) (g .log) → ⊥) where
+      abbrev u : Uncopied s g
+      u = value s S g r I a x reached new
+
+      head-is : at (d .heap) a ≡ at (s .heap) a
+      head-is = head-here ∙ E.header s S g r I a x reached new
+
+      odd : ((at (d .heap) a) % 2 ≢ 0) × ((at (d .heap) a) / 8 ≡ l)
+      odd = rw head-is (header-odd (at (s .heap) a) l (x .stands .head))
+
+      moves-is : move n a d ≡ moveOn a (suc l) j (room n j (suc l) d)
+      unfolding moveOf
+      moves-is =
+          let w = odd in
+          let e : (at (d .heap) a) / 8 + 1 ≡ suc l = ap (λ y. y + 1) (w .1) ∙ omega arith in
+          let q : regionOn n a (d .heap) ≡ j = region-here ∙ E.region s S g r I a x reached new in
+          rw (ne-eqb ((at (d .heap) a) % 2) 0 (w .0), e, q)
+
+      head : evacuateAt n a r ≡ moveTo n j a l r
+      head = E.by-head s S g r I a x reached new (headOf (at (s .heap) a)) refl (x .stands .head)
+
+      -- ---- there is room
+      module _ (r₁ : Run) (K : Roomed n N R (g .own) (g .fin) (g .pages) (g .free) r j (suc l) r₁) (q : Q.room n j (suc l) r ≡ some r₁) where
+        abbrev Z : Room s S g r d M (g .fin) (g .pages) (I .laid) j (suc l) (x .known) r₁ K
+        Z = rooms s S g r d M (g .fin) (g .pages) (I .laid) j (suc l) (x .known) r₁ K
+
+        abbrev d₁ : Desk
+        d₁ = Z .desk
+
+        abbrev g₁ : Ghost
+        g₁ = owning g (K .own₁) (K .free₁)
+
+        abbrev M₁ : Matching s S g₁ r₁ d₁
+        M₁ = Z .matches
+
+        abbrev b : ℕ
+        b = topOf (r₁ .table) j
+
+        abbrev p : ℕ
+        p = K .laid .mine-top j (x .known) .0
+
+        abbrev ws : List ℕ
+        ws = take (suc l) (drop a (r .heap))
+
+        mk : Made s g r u b p (K .own₁) (fin₂ s S g r I u r₁ K) (K .pages₁) (K .free₁) (C.after s S g r I u r₁ K)
+        mk = made s S g r I u r₁ K
+
+        len : length ws ≡ suc l
+        len = let z = f-in in let w = a-hi in let t = length-drop a (r .heap) in length-take-le (suc l) (drop a (r .heap)) (omega arith)
+
+        b-lo : p * 2 ^ n + 2 ≤ b
+        b-lo = steps-le (mk .moved .b-steps)
+
+        b-hi : b + suc l ≤ p * 2 ^ n + 2 ^ n
+        b-hi = mk .moved .b-stands .ends
+
+        own-p : K .own₁ p ≡ mine j
+        own-p = mk .moved .b-mine
+
+        p-in : p * 2 ^ n + 2 ^ n ≤ length (r₁ .heap)
+        p-in =
+            let z = K .laid .size in
+            let w = mul-le-mul-right (2 ^ n) (K .laid .known p (λ q. mine≢beyond own-p q)) in
+            omega arith
+
+        same-size : length (r₁ .heap) ≡ length (r .heap)
+        same-size = K .laid .size ∙ sym (I .laid .size)
+
+        own₁-f : K .own₁ f ≡ old
+        own₁-f = K .old-kept f .0 own-f
+
+        f≢p : f ≢ p
+        f≢p e = old≢mine own₁-f (ap (K .own₁) e ∙ own-p)
+
+        clear : (a + suc l ≤ b) ⊎ (b + suc l ≤ a)
+        clear = go (pages-apart (2 ^ n) f p f≢p)
+          where
+            go : (f * 2 ^ n + 2 ^ n ≤ p * 2 ^ n) ⊎ (p * 2 ^ n + 2 ^ n ≤ f * 2 ^ n) → (a + suc l ≤ b) ⊎ (b + suc l ≤ a)
+            go (inl t) = let y = a-hi in let z = b-lo in inl (omega arith)
+            go (inr t) = let y = a-lo in let z = b-hi in inr (omega arith)
+
+        small : length (r .heap) ≤ 65536
+        small = let z = I .laid .size in let y = S .laid .size in let w = S .within .paged .size in omega arith
+
+        apart-is : apart (suc l) a b (length (d₁ .heap)) ≡ true
+        apart-is =
+            let z = M₁ .heap-length in
+            let y = same-size in
+            let t = f-in in
+            let v = a-hi in
+            let w = p-in in
+            let o = b-hi in
+            and-of (and-of (le-leb (a + suc l) (length (d₁ .heap)) (omega arith)) (le-leb (b + suc l) (length (d₁ .heap)) (omega arith))) (go clear)
+          where
+            go : (a + suc l ≤ b) ⊎ (b + suc l ≤ a) → (leb (a + suc l) b || leb (b + suc l) a) ≡ true
+            go (inl t) = or-left _ _ (le-leb (a + suc l) b t)
+            go (inr t) = or-right (leb (a + suc l) b) _ (le-leb (b + suc l) a t)
+
+        -- the words to copy are the same
+        part : take (suc l) (drop a (d₁ .heap)) ≡ ws
+        part =
+            let z = M₁ .heap-length in
+            let y = same-size in
+            let t = f-in in
+            let v = a-hi in
+            let w = a-lo in
+            part-same (d₁ .heap) (r .heap) a (suc l) (omega arith)
+            (λ i lo hi.
+            M₁ .words i (old-plain s S g₁ f i own₁-f (omega arith) (omega arith))
+            ∙ K .words f i (λ c. old≢spare own-f c) (λ c. old≢beyond own-f c) (omega arith) (omega arith))
+            (omega arith)
+
+        copied-is : copied (suc l) a b (d₁ .heap) ≡ put (d₁ .heap) b ws
+        unfolding copied
+        copied-is = rw (apart-is, part)
+
+        abbrev r₂ : Run
+        r₂ = withHeap r₁ (put (r₁ .heap) b ws)
+
+        abbrev d₂ : Desk
+        d₂ = desk (put (d₁ .heap) b ws) (d₁ .notes)
+
+        M₂ : Matching s S g₁ r₂ d₂
+        M₂ =
+            let z = M₁ .heap-length in
+            let y = len in
+            let w = p-in in
+            let o = b-hi in
+            heap-on s S g₁ r₁ d₁ M₁ (put (r₁ .heap) b ws) (put (d₁ .heap) b ws)
+            (length-put (d₁ .heap) b ws (omega arith) ∙ z ∙ sym (length-put (r₁ .heap) b ws (omega arith)))
+            (λ i pl. put-alike (d₁ .heap) (r₁ .heap) b ws i (omega arith) (omega arith) (M₁ .words i pl))
+            (λ k m. kept k)
+          where
+            kept : (k : ℕ) → at (put (d₁ .heap) b ws) (k * 2 ^ n + 1) ≡ at (d₁ .heap) (k * 2 ^ n + 1)
+            kept k = go (ℕ-discrete k p)
+              where
+                fits : b + length ws ≤ length (d₁ .heap)
+                fits = let z = M₁ .heap-length in let y = len in let w = p-in in let o = b-hi in omega arith
+
+                by : (k * 2 ^ n + 2 ^ n ≤ p * 2 ^ n) ⊎ (p * 2 ^ n + 2 ^ n ≤ k * 2 ^ n) → at (put (d₁ .heap) b ws) (k * 2 ^ n + 1) ≡ at (d₁ .heap) (k * 2 ^ n + 1)
+                by (inl t) = let c = b-lo in let g = I .laid .big in at-put-below (d₁ .heap) b ws (k * 2 ^ n + 1) fits (omega arith)
+                by (inr t) = let c = b-hi in let y = len in at-put-above (d₁ .heap) b ws (k * 2 ^ n + 1) fits (omega arith)
+
+                go : Dec (k ≡ p) → at (put (d₁ .heap) b ws) (k * 2 ^ n + 1) ≡ at (d₁ .heap) (k * 2 ^ n + 1)
+                go (yes e) =
+                    let c = b-lo in
+                    let t : k * 2 ^ n ≡ p * 2 ^ n = ap (λ y. y * 2 ^ n) e in
+                    at-put-below (d₁ .heap) b ws (k * 2 ^ n + 1) fits (omega arith)
+                go (no ne) = by (pages-apart (2 ^ n) k p ne)
+
+        wide : 4 * R ≤ length (r₁ .table)
+        wide = K .laid .rows
+
+        abbrev d₃ : Desk
+        d₃ = desk (d₂ .heap) (setTop (d₁ .notes) j (b + length ws))
+
+        M₃ : Matching s S g₁ (store n j ws r₁) d₃
+        unfolding store
+        M₃ = let w = wide in let k = x .known in row-on s S g₁ r₂ d₂ M₂ (4 * j + 2) (b + length ws) (omega arith) (omega arith)
+
+        stored-wide : 4 * R ≤ length (store n j ws r₁ .table)
+        unfolding store
+        stored-wide = rw (length-set (r₁ .table) (4 * j + 2) (b + length ws)) wide
+
+        abbrev end : Ghost
+        end = G.copied g j a b (K .own₁) (fin₂ s S g r I u r₁ K) (K .pages₁) (K .free₁)
+
+        abbrev r′ : Run
+        r′ = C.after s S g r I u r₁ K
+
+        B : Became s S g r (4 * a) (4 * b) r′
+        B =
+            record {
+              ghost = end;
+              inv = copied-inv s S g r I u _ _ _ _ _ _ _ mk;
+              later = copied-later s S g r I u _ _ _ _ _ _ _ mk;
+              rel = went (List·Memᴰ·head refl);
+              count = copied-count s S g r I u _ _ _ _ _ _ _ mk;
+            }
+
+        -- the region is woken: there is room on the stack
+        deep : statusOf (store n j ws r₁ .table) j ≡ 0 → length (store n j ws r₁ .stack) < 64
+        unfolding store B
+        deep e = go (mk .how)
+          where
+            same : statusOf (store n j ws r₁ .table) j ≡ statusOf (r .table) j
+            same = getD-set-other (r₁ .table) (4 * j + 2) (4 * j + 3) (b + length ws) 0 (omega arith) ∙ K .row-kept (4 * j + 3) (omega arith) (omega arith)
+
+            go : ((statusOf (r .table) j ≡ 0) × (r′ .stack ≡ entry j b ∷ r .stack)) ⊎ ((statusOf (r .table) j ≢ 0) × (r′ .stack ≡ r .stack)) → length (r₁ .stack) < 64
+            go (inl t) =
+                let c = stack-few s S end r′ (B .inv) in
+                let z : length (r′ .stack) ≡ suc (length (r .stack)) = ap length (t .1) in
+                let y : length (r₁ .stack) ≡ length (r .stack) = ap length (K .stack-kept) in
+                omega arith
+            go (inr t) = absurd (t .0 (sym same ∙ e))
+
+        abbrev d₄ : Desk
+        d₄ = desk (d₂ .heap) (W.wake j b (d₃ .notes))
+
+        abbrev r₄ : Run
+        r₄ = wake n j b (store n j ws r₁)
+
+        M₄ : Matching s S g₁ r₄ d₄
+        M₄ = wakes s S g₁ (store n j ws r₁) d₃ M₃ j b (x .known) stored-wide deep
+
+        a-in : a < length (d₄ .heap)
+        a-in =
+            let z = M₁ .heap-length in
+            let y = same-size in
+            let t = f-in in
+            let v = a-hi in
+            let w = p-in in
+            let o = b-hi in
+            let c = len in
+            rw (length-put (d₁ .heap) b ws (omega arith)) (omega arith)
+
+        abbrev d₅ : Desk
+        d₅ = desk (set (d₄ .heap) a (4 * b)) (d₄ .notes)
+
+        M₅ : Matching s S end r′ d₅
+        M₅ =
+            let z = M₄ .heap-length in
+            let y = a-in in
+            let lo = a-lo in
+            let hi = a-hi in
+            by-owners s S g₁ r′ d₅ (word-on s S g₁ r₄ d₄ M₄ a (4 * b) (omega arith) (old-plain s S g₁ f a own₁-f (omega arith) (omega arith))) end refl refl
+
+        goes : move n a d ≡ after true d₅
+        unfolding moveOn X.moveTo forwarded
+        goes =
+            let w = p-in in
+            let o = b-hi in
+            let y = same-size in
+            let c = small in
+            let t : topOf (d₁ .notes) j ≡ b = top-same s S g₁ r₁ d₁ M₁ j (x .known) in
+            let e : low (b + suc l) ≡ b + length ws = low-is (b + suc l) (omega arith) ∙ ap (λ i. b + i) (sym len) in
+            moves-is ∙ rw (Z .goes, t, copied-is, le-leb b 65536 (omega arith), e)
+
+        copies : Moves a
+        unfolding B
+        copies = inr (4 * b, r′, head ∙ made-moves s S g r I u r₁ K q, B, d₅, goes, M₅, getD-set-same (d₄ .heap) a (4 * b) 0 a-in)
+
+      stops : room n j (suc l) d ≡ after false d → moveOn a (suc l) j (room n j (suc l) d) ≡ after false d
+      unfolding moveOn
+      stops e = rw e
+
+      now : Moves a
+      now = go (room-or n N R (g .own) (g .fin) (g .pages) (g .free) r (I .laid) j (suc l) (x .known) (let lo = a-lo in let hi = a-hi in omega arith))
+        where
+          go : ((Q.room n j (suc l) r ≡ none) × (g .free ≡ []) × (endOf (r .table) j < topOf (r .table) j + suc l))
+              ⊎ ((r₁ : Run) × (Q.room n j (suc l) r ≡ some r₁) × Roomed n N R (g .own) (g .fin) (g .pages) (g .free) r j (suc l) r₁) → Moves a
+          go (inl t) =
+              inl (
+                head ∙ E.no-room s S g r I a x reached new (t .0),
+                moves-is ∙ stops (no-room s S g r d M (g .fin) (g .pages) (I .laid) j (suc l) (x .known) (t .1) (t .2)),
+                t .1,
+              )
+          go (inr t) = copies (t .0) (t .2) (t .1)
+
+    pub moves : Moves a
+    moves = go (in-log a (g .log))
+      where
+        go : ((b : ℕ) × List·Memᴰ (to a b) (g .log)) ⊎ ((b : ℕ) → List·Memᴰ (to a b) (g .log) → ⊥) → Moves a
+        go (inl t) = again (t .0) (t .1)
+        go (inr new) = now new

@@ -1,0 +1,164 @@
+-- Where the scan goes on, at work and in the plain run: both read the same header, the same word behind the value (none where the value ends its page)
+-- and the same link.
+use Prim.Native.Nat.{ℕ, suc, _+_, _-_, _*_, _/_, _%_, _^_, _≤_, _<_}
+use native.Mathlib.Nat.{mul-le-mul-right, mul-mod-left}
+use native.Mathlib.Omega.{arith}
+use native.Mathlib.Decide.{ℕ-discrete}
+use mathlib.Core.Path.{_≡_, refl, sym, ap, _∙_, subst}
+use mathlib.Core.Logic.{_≢_, _⊎_, inl, inr}
+use mathlib.Core.Bool.{Bool, true, false, _||_}
+use mathlib.Core.List.{List, [], _∷_, List·Memᴰ, List·Memᴰ·head, List·Memᴰ·tail, List·Memᴰ·cases-cons}
+use lib.Dec.{eqb}
+use borrow.Author.Tests.{eqb-false}
+use Rattle.laws.specs.Lists.{at}
+use Rattle.laws.proofs.Once.{Linked, linked-first, linked-none}
+use Rattle.rules.specs.Memory.{Store, pageCount, link, topOf}
+use Rattle.rules.specs.Words.{headOf, wordsBy}
+use Rattle.rules.specs.Pages.{Run}
+use Rattle.rules.specs.Collection.{nextFrom, nextScan}
+use Rattle.rules.proofs.Chains.{page-of}
+use Rattle.rules.proofs.Pointers.{words-of}
+use Rattle.facts.proofs.Steps.{steps-le}
+use Rattle.facts.proofs.Laid.{mine≢beyond}
+use Rattle.facts.proofs.Sound.{Sound}
+use Rattle.working.proofs.Rows.{InRow}
+use Rattle.working.proofs.Invariant.{Ghost, Inv}
+use Rattle.motion.specs.Leaves.{Desk}
+use Rattle.motion.specs.Run as X
+use Rattle.motion.specs.Run.{nextOf, nextPage}
+use Rattle.agreement.proofs.Matching.{Matching}
+use Rattle.agreement.proofs.Frames.{top-same}
+use Rattle.agreement.proofs.Heads.{header-odd}
+use Rattle.agreement.proofs.Took.{start-is, link-plain}
+use Rattle.agreement.proofs.Moves.{body-plain}
+
+-- a link of a chain names one of its pages, or ends it
+linked-next : {l : ℕ → ℕ} {x : ℕ} {k : ℕ} (ks : List ℕ) → Linked l x ks → List·Memᴰ k ks → (l k ≡ 0) ⊎ ((k′ : ℕ) × (l k ≡ suc k′) × List·Memᴰ k′ ks)
+linked-next [] p m = elim m [ ]
+linked-next {l} {k = k} (y ∷ ys) p m = go (List·Memᴰ·cases-cons m) (λ q. linked-next ys (linked-first p .1) q)
+  where
+    first : (zs : List ℕ) → Linked l (l y) zs → (l y ≡ 0) ⊎ ((k′ : ℕ) × (l y ≡ suc k′) × List·Memᴰ k′ zs)
+    first [] q = inl (linked-none q)
+    first (z ∷ zs) q = inr (z, linked-first q .0, List·Memᴰ·head refl)
+
+    up : {x : ℕ} → (l x ≡ 0) ⊎ ((k′ : ℕ) × (l x ≡ suc k′) × List·Memᴰ k′ ys) → (l x ≡ 0) ⊎ ((k′ : ℕ) × (l x ≡ suc k′) × List·Memᴰ k′ (y ∷ ys))
+    up (inl q) = inl q
+    up (inr q) = inr (q .0, q .1, List·Memᴰ·tail (q .2))
+
+    go : (k ≡ y) ⊎ List·Memᴰ k ys → (List·Memᴰ k ys → (l k ≡ 0) ⊎ ((k′ : ℕ) × (l k ≡ suc k′) × List·Memᴰ k′ ys))
+        → (l k ≡ 0) ⊎ ((k′ : ℕ) × (l k ≡ suc k′) × List·Memᴰ k′ (y ∷ ys))
+    go (inl e) rest = rw e (up {x = y} (first ys (linked-first p .1)))
+    go (inr q) rest = up {x = k} (rest q)
+
+module _ (s : Store) (S : Sound s) (g : Ghost) (r : Run) (I : Inv s S g r) (d : Desk) (M : Matching s S g r d) (j : ℕ) (jR : j < s .ctl .regions) (b : ℕ)
+    (F : InRow (s .ctl .n) (r .heap) (g .fin) (g .pages j) b) where
+  abbrev n : ℕ
+  n = s .ctl .n
+
+  abbrev N : ℕ
+  N = pageCount n (s .heap)
+
+  abbrev P : ℕ
+  P = 2 ^ n
+
+  abbrev k : ℕ
+  k = F .page
+
+  abbrev t : ℕ
+  t = b + suc (F .len)
+
+  lo : k * P + 2 ≤ b
+  lo = steps-le (F .steps)
+
+  hi : t ≤ k * P + P
+  hi = F .stands .ends
+
+  page-known : (l : ℕ) → List·Memᴰ l (g .pages j) → l < N
+  page-known l m = I .laid .known l (λ q. mine≢beyond (I .laid .mine-own j l jR m) q)
+
+  small : N * P ≤ 65536
+  small = let a = S .laid .size in let c = S .within .paged .size in omega arith
+
+  in-heap : (l : ℕ) → List·Memᴰ l (g .pages j) → l * P + P ≤ N * P
+  in-heap l m = let q = mul-le-mul-right P (page-known l m) in omega arith
+
+  here : at (d .heap) b ≡ at (r .heap) b
+  here = let p = lo in let q = hi in M .words b (body-plain s S g k b (omega arith) (omega arith))
+
+  -- the link, and the page that it names
+  link-same : at (d .heap) (k * P) ≡ link n (r .heap) k
+  unfolding link
+  link-same = M .words (k * P) (link-plain s S g k)
+
+  link-known : link n (r .heap) k - 1 < N
+  link-known = go (linked-next (g .pages j) (I .laid .mine-links j jR .2) (F .here))
+    where
+      go : (link n (r .heap) k ≡ 0) ⊎ ((k′ : ℕ) × (link n (r .heap) k ≡ suc k′) × List·Memᴰ k′ (g .pages j)) → link n (r .heap) k - 1 < N
+      go (inl e) = let p = page-known k (F .here) in omega arith
+      go (inr u) = let p = page-known (u .0) (u .2) in let q = u .1 in omega arith
+
+  next-page : nextPage n b (d .heap) ≡ (link n (r .heap) k - 1) * P + 2
+  next-page =
+      let p = lo in
+      let q = hi in
+      rw (page-of n k b (omega arith) (omega arith), start-is s S k (page-known k (F .here)), link-same, start-is s S (link n (r .heap) k - 1) link-known)
+
+  end-is : b + ((at (d .heap) b) / 8 + 1) ≡ t
+  end-is =
+      let w : (at (r .heap) b) / 8 ≡ F .len = header-odd (at (r .heap) b) (F .len) (F .stands .head) .1 in
+      let e : (at (d .heap) b) / 8 ≡ F .len = ap (λ x. x / 8) here ∙ w in
+      omega arith
+
+  end-plain : b + wordsBy (headOf (at (r .heap) b)) ≡ t
+  end-plain = ap (λ x. b + x) (words-of (headOf (at (r .heap) b)) (F .len) (F .stands .head))
+
+  -- the word behind the value, where it does not end its page
+  behind : eqb (t % P) 0 ≡ false → at (d .heap) t ≡ at (r .heap) t
+  behind e = M .words t (body-plain s S g k t (let p = lo in omega arith) (strict (ℕ-discrete t (k * P + P))))
+    where
+      strict : Dec (t ≡ k * P + P) → t < k * P + P
+      strict (yes q) =
+          let w : t ≡ suc k * P = omega arith in
+          let z : t % P ≡ 0 = ap (λ x. x % P) w ∙ mul-mod-left (suc k) P in
+          absurd (eqb-false (t % P) 0 e z)
+      strict (no ne) = let p = hi in omega arith
+
+  pub nexts : X.nextScan n j b d ≡ nextScan n j b r
+  unfolding nextScan nextFrom nextOf
+  nexts =
+      ap (λ x. nextOf n b x (topOf (d .notes) j) (d .heap)) end-is ∙ ap (λ x. nextOf n b t x (d .heap)) (top-same s S g r d M j jR)
+      ∙ go (eqb t (topOf (r .table) j)) refl (eqb (t % P) 0) refl ∙ ap (λ x. nextFrom n j b x r) (sym end-plain)
+    where
+      page : (link n (r .heap) (b / P) - 1) * P + 2 ≡ (link n (r .heap) k - 1) * P + 2
+      page = let p = lo in let q = hi in ap (λ x. (link n (r .heap) x - 1) * P + 2) (page-of n k b (omega arith) (omega arith))
+
+      last : (c : Bool) → eqb (at (r .heap) t) 0 ≡ c → eqb t (topOf (r .table) j) ≡ false → eqb (t % P) 0 ≡ false → nextOf n b t (topOf (r .table) j) (d .heap) ≡ nextFrom n j b t r
+      last true q e f = rw (e, f, nextFrom, behind f, q) (next-page ∙ sym page)
+      last false q e f = rw (e, f, nextFrom, behind f, q)
+
+      go : (x : Bool) → eqb t (topOf (r .table) j) ≡ x → (y : Bool) → eqb (t % P) 0 ≡ y → nextOf n b t (topOf (r .table) j) (d .heap) ≡ nextFrom n j b t r
+      go true e y f = rw (e, nextFrom)
+      go false e true f = rw (e, f, nextFrom) (next-page ∙ sym page)
+      go false e false f = last (eqb (at (r .heap) t) 0) refl e f
+
+  -- it fits into a word
+  pub next-small : nextScan n j b r < 4294967296
+  unfolding nextScan nextFrom
+  next-small = subst (λ x. nextFrom n j b x r < 4294967296) (sym end-plain) (go (eqb t (topOf (r .table) j)) refl (eqb (t % P) 0 || eqb (at (r .heap) t) 0) refl)
+    where
+      t-small : t < 4294967296
+      t-small = let p = hi in let q = in-heap k (F .here) in let c = small in omega arith
+
+      page-small : (link n (r .heap) (b / P) - 1) * P + 2 < 4294967296
+      page-small =
+          let p = lo in
+          let q = hi in
+          let c = small in
+          let z = mul-le-mul-right P link-known in
+          let y = S .laid .big in
+          rw (page-of n k b (omega arith) (omega arith)) (omega arith)
+
+      go : (x : Bool) → eqb t (topOf (r .table) j) ≡ x → (y : Bool) → (eqb (t % P) 0 || eqb (at (r .heap) t) 0) ≡ y → nextFrom n j b t r < 4294967296
+      go true e y f = rw (e, nextFrom) t-small
+      go false e true f = rw (e, f, nextFrom) page-small
+      go false e false f = rw (e, f, nextFrom) t-small

@@ -1,0 +1,410 @@
+-- The headers put back: stepping through each old page, a header that is a forward is replaced by the first word of its copy, which is the
+-- header that was moved. So all old pages have their words of before, and no other word changes.
+use Prim.Native.Nat.{ℕ, zero, suc, _+_, _*_, _/_, _%_, _^_, _≤_, _<_, zero-le}
+use native.Mathlib.Nat.{le-refl, mul-le-mul-right}
+use native.Mathlib.Omega.{arith}
+use native.Mathlib.Decide.{ℕ-discrete, decLt}
+use native.Mathlib.Numerals.{sub-one}
+use mathlib.Core.Path.{_≡_, refl, sym, ap, _∙_, subst}
+use mathlib.Core.Logic.{_≢_, _⊎_, inl, inr}
+use mathlib.Core.Bool.{true, false}
+use mathlib.Core.Option.{some}
+use mathlib.Core.List.{List, [], _∷_, List·Memᴰ, List·Memᴰ·head, List·Memᴰ·tail, List·Memᴰ·cases-cons}
+use lib.ListN.{length, set, length-set}
+use lib.Seq.{getD-set-same, getD-set-other}
+use lib.Dec.{leb, eqb}
+use borrow.Author.Tests.{le-leb, lt-leb, eq-eqb, ne-eqb}
+use Rattle.laws.specs.Lists.{at}
+use Rattle.laws.specs.Each.{after}
+use Rattle.laws.specs.Loop.{more, over}
+use Rattle.laws.proofs.Loops.{loop-more, loop-over, loop-end}
+use Rattle.laws.proofs.Once.{once-most, member?}
+use Rattle.rules.specs.Memory.{Store, pageCount, link, firstLink}
+use Rattle.rules.specs.Words.{headOf, lengthBy, headBy}
+use Rattle.facts.proofs.Laid.{old≢mine, old≢beyond, mine≢beyond, old, mine, Body}
+use Rattle.facts.proofs.Steps.{Stands, Steps, here, over as passes, steps-le, steps-then, apart}
+use Rattle.facts.proofs.Copied.{to}
+use Rattle.facts.proofs.Sound.{Sound}
+use Rattle.rules.specs.Pages.{Run}
+use Rattle.working.proofs.Invariant.{Ghost, Kept}
+use Rattle.working.proofs.Log.{olds, in-olds, olds-in, Copy}
+use Rattle.motion.specs.Leaves.{Desk}
+use Rattle.motion.specs.Whole.{undoOf, undoTurn, undoVals, undoPage, undoChain, undoHeaders}
+use Rattle.agreement.proofs.Matching.{Matching}
+use Rattle.agreement.proofs.Stuck.{Stuck}
+use Rattle.agreement.proofs.Walked.{steps-keep, along-all, one-page, first-link, From, Before, from-split, before-none, from-none}
+
+-- ---- headers and forwards as numbers
+
+-- a header is odd and says its length
+pub head-odd : (w l : ℕ) → lengthBy (headOf w) ≡ some l → (w % 2 ≡ 1) × (w / 8 ≡ l)
+unfolding headOf
+head-odd w l e = go (w % 8) refl
+  where
+    go : (x : ℕ) → w % 8 ≡ x → (w % 2 ≡ 1) × (w / 8 ≡ l)
+    go zero q = let t : lengthBy (headBy 0 (w / 8)) ≡ some l = rw q at e in let z : _≡_ {A = ℕ} 0 1 = cc in absurd (omega arith)
+    go (suc zero) q = let t : some (w / 8) ≡ some l = rw q at e in (omega arith, cc)
+    go (suc (suc zero)) q = let t : lengthBy (headBy 2 (w / 8)) ≡ some l = rw q at e in let z : _≡_ {A = ℕ} 0 1 = cc in absurd (omega arith)
+    go (suc (suc (suc zero))) q = let t : some (w / 8) ≡ some l = rw q at e in (omega arith, cc)
+    go (suc (suc (suc (suc zero)))) q = let t : lengthBy (headBy 4 (w / 8)) ≡ some l = rw q at e in let z : _≡_ {A = ℕ} 0 1 = cc in absurd (omega arith)
+    go (suc (suc (suc (suc (suc x))))) q = let t : lengthBy (headBy (suc (suc (suc (suc (suc x))))) (w / 8)) ≡ some l = rw q at e in let z : _≡_ {A = ℕ} 0 1 = cc in absurd (omega arith)
+
+module _ (s : Store) (S : Sound s) (d : Desk) (A : Stuck s S d) where
+  abbrev g : Ghost
+  g = A .ghost
+
+  abbrev r : Run
+  r = A .run
+
+  abbrev M : Matching s S (A .ghost) (A .run) d
+  M = A .matching
+
+  abbrev n : ℕ
+  n = s .ctl .n
+
+  abbrev P : ℕ
+  P = 2 ^ s .ctl .n
+
+  abbrev N : ℕ
+  N = pageCount (s .ctl .n) (s .heap)
+
+  abbrev R : ℕ
+  R = s .ctl .regions
+
+  abbrev In : ℕ → ℕ → Type 0
+  In k x = (k * P ≤ x) × (x < k * P + P)
+
+  -- the word at x is as before, or the forward that a copy left
+  abbrev Either : List ℕ → ℕ → Type 0
+  Either h x = (at h x ≡ at (s .heap) x) ⊎ ((b : ℕ) × List·Memᴰ (to x b) (g .log) × (at h x ≡ 4 * b))
+
+  -- the old pages are as before, but for those left
+  pub record Half (left : ℕ → Type 0) (h : List ℕ) : Type 0 where
+    pub size : length h ≡ length (s .heap)
+    pub others : (k x : ℕ) → g .own k ≢ old → In k x → at h x ≡ at (d .heap) x
+    pub either : (k x : ℕ) → g .own k ≡ old → In k x → Either h x
+    pub back : (k x : ℕ) → g .own k ≡ old → (left k → ⊥) → In k x → at h x ≡ at (s .heap) x
+
+  half-more : {left left′ : ℕ → Type 0} {h : List ℕ} → ((k : ℕ) → left k → left′ k) → Half left h → Half left′ h
+  half-more f H = record { size = H .size; others = H .others; either = H .either; back = λ k x o ne p. H .back k x o (λ q. ne (f k q)) p }
+
+  size-N : length (s .heap) ≡ N * P
+  size-N = S .laid .size
+
+  inside : (k x : ℕ) → g .own k ≡ old → In k x → x < length (s .heap)
+  inside k x o p =
+      let a = mul-le-mul-right P (A .known k (old≢beyond o)) in
+      let e = size-N in
+      let hi = p .1 in
+      omega arith
+
+  -- a logged value stands in its page
+  module _ (k x b : ℕ) (p : In k x) (m : List·Memᴰ (to x b) (g .log)) where
+    abbrev C : Copy n s (Kept s) (g .own) (g .fin) (r .heap) (g .log) (g .count) x b
+    C = A .logged .copies m
+
+    from-is : C .from ≡ k
+    from-is = go (ℕ-discrete (C .from) k)
+      where
+        go : Dec (C .from ≡ k) → C .from ≡ k
+        go (yes e) = e
+        go (no ne) =
+            let a = steps-le (C .from-steps) in
+            let c = C .from-stands .ends in
+            absurd (one-page n (C .from) k x ne (omega arith) (omega arith) (p .0) (p .1))
+
+    logged-steps : Steps (s .heap) (k * P + P) (k * P + 2) x
+    logged-steps = subst (λ y. Steps (s .heap) (y * P + P) (y * P + 2) x) from-is (C .from-steps)
+
+    logged-stands : Stands (s .heap) (k * P + P) x (C .len)
+    logged-stands = subst (λ y. Stands (s .heap) (y * P + P) x (C .len)) from-is (C .from-stands)
+
+  -- where no value stands, the word is as before
+  same-if : (left : ℕ → Type 0) (h : List ℕ) → Half left h → (k x : ℕ) → g .own k ≡ old → In k x
+      → ((l : ℕ) → Steps (s .heap) (k * P + P) (k * P + 2) x → Stands (s .heap) (k * P + P) x l → ⊥) → at h x ≡ at (s .heap) x
+  same-if left h H k x o p none = go (H .either k x o p)
+    where
+      go : Either h x → at h x ≡ at (s .heap) x
+      go (inl e) = e
+      go (inr t) = absurd (none (C k x (t .0) p (t .1) .len) (logged-steps k x (t .0) p (t .1)) (logged-stands k x (t .0) p (t .1)))
+
+  -- one word put back
+  put-back : (left : ℕ → Type 0) (h : List ℕ) → Half left h → (k x v : ℕ) → g .own k ≡ old → In k x → v ≡ at (s .heap) x → Half left (set h x v)
+  put-back left h H k x v o p e =
+      record {
+        size = length-set h x v ∙ H .size;
+        others = λ l y ne q. getD-set-other h x y v 0 (λ z. ne (other-page l y q z)) ∙ H .others l y ne q;
+        either = λ l y w q. by l y q (H .either l y w q) (ℕ-discrete y x);
+        back = λ l y w ne q. kept l y q (H .back l y w ne q) (ℕ-discrete y x);
+      }
+    where
+      set-here : (y : ℕ) → y ≡ x → at (set h x v) y ≡ at (s .heap) y
+      set-here y z =
+          let b = inside k x o p in
+          let c = H .size in
+          rw z (getD-set-same h x v 0 (omega arith) ∙ e)
+
+      other-page : (l y : ℕ) → In l y → y ≡ x → g .own l ≡ old
+      other-page l y q z = go (ℕ-discrete l k)
+        where
+          go : Dec (l ≡ k) → g .own l ≡ old
+          go (yes w) = ap (g .own) w ∙ o
+          go (no ne) = absurd (one-page n l k y ne (q .0) (q .1) (rw z (p .0)) (rw z (p .1)))
+
+      by : (l y : ℕ) → In l y → Either h y → Dec (y ≡ x) → Either (set h x v) y
+      by l y q t (yes z) = inl (set-here y z)
+      by l y q (inl t) (no ne) = inl (getD-set-other h x y v 0 ne ∙ t)
+      by l y q (inr t) (no ne) = inr (t .0, t .1, getD-set-other h x y v 0 ne ∙ t .2)
+
+      kept : (l y : ℕ) → In l y → at h y ≡ at (s .heap) y → Dec (y ≡ x) → at (set h x v) y ≡ at (s .heap) y
+      kept l y q t (yes z) = set-here y z
+      kept l y q t (no ne) = getD-set-other h x y v 0 ne ∙ t
+
+  -- the copy still has the header
+  copy-head : (left : ℕ → Type 0) (h : List ℕ) → Half left h → (x b : ℕ) → List·Memᴰ (to x b) (g .log) → at h b ≡ at (s .heap) x
+  copy-head left h H x b m =
+      let D = A .logged .copies m in
+      let lo = steps-le (D .into-steps) in
+      let hi = D .into-stands .ends in
+      let p : In (D .into) b = (omega arith, omega arith) in
+      H .others (D .into) b (λ o. old≢mine o (D .into-mine)) p
+      ∙ M .words b (λ k j o q. origin-apart k b q (D .into) lo hi)
+      ∙ D .head
+    where
+      origin-apart : (k b : ℕ) → b ≡ k * P + 1 → (i : ℕ) → i * P + 2 ≤ b → b + suc (A .logged .copies m .len) ≤ i * P + P → ⊥
+      origin-apart k b q i lo hi = go (ℕ-discrete k i)
+        where
+          go : Dec (k ≡ i) → ⊥
+          go (yes e) = let w : k * P ≡ i * P = ap (λ y. y * P) e in omega arith
+          go (no ne) = let c = S .laid .big in one-page n k i b ne (omega arith) (omega arith) (omega arith) (omega arith)
+
+  -- ---- one page
+
+  module _ (left : ℕ → Type 0) (k j : ℕ) (own-k : g .own k ≡ old) (body : Body n (s .heap) k j (S .fin k)) where
+    abbrev hi : ℕ
+    hi = k * P + P
+
+    -- what stepping has come to, from the page's third word on
+    pub record PageBack (h : List ℕ) : Type 0 where
+      pub half : Half left h
+      pub page : (y : ℕ) → In k y → at h y ≡ at (s .heap) y
+
+    -- no value stands past the last
+    past-end : (h : List ℕ) → Half left h → (y : ℕ) → S .fin k ≤ y → y < hi → at h y ≡ at (s .heap) y
+    past-end h H y lo up =
+        let q = steps-le (body .filled) in
+        same-if left h H k y own-k (omega arith, up)
+        (λ l t st.
+        let z = body .rest y lo up in
+        let u = head-odd (at (s .heap) y) l (st .head) .0 in
+        omega arith)
+
+    -- inside a value no other stands
+    between : (h : List ℕ) → Half left h → (x l : ℕ) → Steps (s .heap) hi (k * P + 2) x → Stands (s .heap) hi x l
+        → (y : ℕ) → x < y → y < x + suc l → at h y ≡ at (s .heap) y
+    between h H x l t st y lo up =
+        let q = steps-le t in
+        let e = st .ends in
+        same-if left h H k y own-k (omega arith, omega arith) (λ m u v. go (apart t st u))
+      where
+        go : (y ≤ x) ⊎ (x + suc l ≤ y) → ⊥
+        go (inl p) = omega arith
+        go (inr p) = omega arith
+
+    -- one value: the next one's address, and the heap with its header back
+    pub record Stepped (h : List ℕ) (x l : ℕ) : Type 0 where
+      pub heap : List ℕ
+      pub turn : undoTurn hi (after x h) ≡ more (after (x + suc l) heap)
+      pub half : Half left heap
+      pub below : (y : ℕ) → k * P ≤ y → y < x + suc l → at heap y ≡ at (s .heap) y
+
+    undo-step : (h : List ℕ) → Half left h → (x l : ℕ) → Steps (s .heap) hi (k * P + 2) x → Stands (s .heap) hi x l
+        → ((y : ℕ) → k * P ≤ y → y < x → at h y ≡ at (s .heap) y) → Stepped h x l
+    unfolding undoTurn undoOf
+    undo-step h H x l t st below = go (H .either k x own-k p)
+      where
+        p : In k x
+        p = let a = steps-le t in let b = st .ends in (omega arith, omega arith)
+
+        odd : at (s .heap) x % 2 ≡ 1
+        odd = head-odd (at (s .heap) x) l (st .head) .0
+
+        len : at (s .heap) x / 8 ≡ l
+        len = head-odd (at (s .heap) x) l (st .head) .1
+
+        not-past : leb hi x ≡ false
+        not-past = let b = st .ends in lt-leb hi x (omega arith)
+
+        below-by : (h′ : List ℕ) → Half left h′ → ((y : ℕ) → y ≢ x → at h′ y ≡ at h y) → at h′ x ≡ at (s .heap) x
+            → (y : ℕ) → k * P ≤ y → y < x + suc l → at h′ y ≡ at (s .heap) y
+        below-by h′ H′ same e y lo up = by (ℕ-discrete y x)
+          where
+            by : Dec (y ≡ x) → at h′ y ≡ at (s .heap) y
+            by (yes z) = rw z e
+            by (no ne) = at-other (decLt y x)
+              where
+                at-other : Dec (y < x) → at h′ y ≡ at (s .heap) y
+                at-other (yes q) = same y ne ∙ below y lo q
+                at-other (no q) = between h′ H′ x l t st y (omega arith) up
+
+        go : Either h x → Stepped h x l
+        go (inl e) =
+            let nz : eqb (at h x) 0 ≡ false = ne-eqb (at h x) 0 (λ (z : at h x ≡ 0). let w = odd in omega arith) in
+            let o : eqb (at h x % 2) 1 ≡ true = eq-eqb (at h x % 2) 1 (ap (λ w. w % 2) e ∙ odd) in
+            let n : x + (at h x / 8 + 1) ≡ x + suc l = (let a = len in let b : at h x / 8 ≡ at (s .heap) x / 8 = ap (λ w. w / 8) e in omega arith) in
+            record {
+              heap = h;
+              turn = rw (undoTurn, not-past, nz, undoOf, o, n);
+              half = H;
+              below = below-by h H (λ y ne. refl) e;
+            }
+        go (inr u) =
+            let b = u .0 in
+            let D = A .logged .copies (u .1) in
+            let w = u .2 in
+            let lo = steps-le (D .into-steps) in
+            let nz : eqb (at h x) 0 ≡ false = ne-eqb (at h x) 0 (λ (z : at h x ≡ 0). omega arith) in
+            let o : eqb (at h x % 2) 1 ≡ false = ne-eqb (at h x % 2) 1 (λ (z : at h x % 2 ≡ 1). omega arith) in
+            let to-b : at h x / 4 ≡ b = omega arith in
+            let c : at h (at h x / 4) ≡ at (s .heap) x = ap (at h) to-b ∙ copy-head left h H x b (u .1) in
+            let m : x + (at h (at h x / 4) / 8 + 1) ≡ x + suc l = (let a = len in let q : at h (at h x / 4) / 8 ≡ at (s .heap) x / 8 = ap (λ v. v / 8) c in omega arith) in
+            let H′ = put-back left h H k x (at h (at h x / 4)) own-k p c in
+            let z = inside k x own-k p in
+            let z′ = H .size in
+            record {
+              heap = set h x (at h (at h x / 4));
+              turn = rw (undoTurn, not-past, nz, undoOf, o, m);
+              half = H′;
+              below = below-by (set h x (at h (at h x / 4))) H′ (λ y ne. getD-set-other h x y (at h (at h x / 4)) 0 ne)
+                  (getD-set-same h x (at h (at h x / 4)) 0 (omega arith) ∙ c);
+            }
+
+    undo-from : (f x : ℕ) (h : List ℕ) → Half left h → Steps (s .heap) hi (k * P + 2) x → Steps (s .heap) hi x (S .fin k) → S .fin k ≤ x + f
+        → ((y : ℕ) → k * P ≤ y → y < x → at h y ≡ at (s .heap) y) → PageBack (undoVals f hi (after x h))
+    unfolding undoTurn
+    undo-from f x h H t here b below = ends f
+      where
+        page : (y : ℕ) → In k y → at h y ≡ at (s .heap) y
+        page y p = go (decLt y x)
+          where
+            go : Dec (y < x) → at h y ≡ at (s .heap) y
+            go (yes q) = below y (p .0) q
+            go (no q) = past-end h H y (omega arith) (p .1)
+
+        stays : PageBack h
+        stays = record { half = H; page = page }
+
+        -- the end of the page, or a 0
+        over-is : undoTurn hi (after x h) ≡ over h
+        over-is = go (decLt x hi)
+          where
+            go : Dec (x < hi) → undoTurn hi (after x h) ≡ over h
+            go (yes q) =
+                let lo = steps-le t in
+                let z : at h x ≡ 0 = page x (omega arith, q) ∙ body .rest x (le-refl x) q in
+                rw (undoTurn, lt-leb hi x q, eq-eqb (at h x) 0 z)
+            go (no q) = rw (undoTurn, le-leb hi x (omega arith))
+
+        ends : (f : ℕ) → PageBack (undoVals f hi (after x h))
+        ends zero = rw (loop-end 0 (undoTurn hi) (λ o. o .state) (after x h) (le-refl 0)) stays
+        ends (suc f) = rw (loop-over (suc f) (undoTurn hi) (λ o. o .state) (after x h) h (omega arith) over-is) stays
+    undo-from zero x h H t (passes {l = l} st rest) b below = let q = steps-le rest in absurd (omega arith)
+    undo-from (suc f) x h H t (passes {l = l} st rest) b below =
+        let T = undo-step h H x l t st below in
+        let on = undo-from f (x + suc l) (T .heap) (T .half) (steps-then t (passes st here)) rest (omega arith) (T .below) in
+        rw (loop-more (suc f) (undoTurn hi) (λ o. o .state) (after x h) (after (x + suc l) (T .heap)) (omega arith) (T .turn), sub-one (suc f)) on
+
+    -- the page's descriptor is never a value
+    descriptor : (h : List ℕ) → Half left h → (y : ℕ) → k * P ≤ y → y < k * P + 2 → at h y ≡ at (s .heap) y
+    descriptor h H y lo up =
+        let c = S .laid .big in
+        same-if left h H k y own-k (lo, omega arith) (λ l t st. let q = steps-le t in omega arith)
+
+    pub undo-page : (h : List ℕ) → Half left h → PageBack (undoPage n k h)
+    unfolding undoPage
+    undo-page h H =
+        let a = body .inside in
+        undo-from P (k * P + 2) h H here (body .filled) (omega arith) (descriptor h H)
+
+  -- ---- all pages
+
+  module _ (j : ℕ) (jR : j < R) where
+    pub record Chain (ks : List ℕ) (h : List ℕ) : Type 0 where
+      pub half : Half (Before R (S .pages) ks (suc j)) h
+      pub theirs : (k : ℕ) → List·Memᴰ k ks → List·Memᴰ k (S .pages j)
+
+    turn : (k : ℕ) (ks : List ℕ) (h : List ℕ) → Chain (k ∷ ks) h → (link n h k ≡ link n (s .heap) k) × Chain ks (undoPage n k h)
+    unfolding link
+    turn k ks h K =
+        let m : List·Memᴰ k (S .pages j) = K .theirs k (List·Memᴰ·head refl) in
+        let o : g .own k ≡ old = A .from-space k .1 (j, jR, m) in
+        let B = S .laid .mine-body j k (S .laid .mine-own j k jR m) in
+        let U = undo-page (Before R (S .pages) (k ∷ ks) (suc j)) k j o B h (K .half) in
+        let c = S .laid .big in (
+          descriptor (Before R (S .pages) (k ∷ ks) (suc j)) k j o B h (K .half) (k * P) (le-refl _) (omega arith),
+          record {
+            half =
+                record {
+                  size = U .half .size;
+                  others = U .half .others;
+                  either = U .half .either;
+                  back = λ l x w ne p. back-by U l x w ne p (ℕ-discrete l k);
+                };
+            theirs = λ l q. K .theirs l (List·Memᴰ·tail q);
+          },
+        )
+      where
+        back-by : PageBack (Before R (S .pages) (k ∷ ks) (suc j)) k j (A .from-space k .1 (j, jR, K .theirs k (List·Memᴰ·head refl))) (S .laid .mine-body j k (S .laid .mine-own j k jR (K .theirs k (List·Memᴰ·head refl)))) (undoPage n k h)
+            → (l x : ℕ) → g .own l ≡ old → (Before R (S .pages) ks (suc j) l → ⊥) → In l x → Dec (l ≡ k) → at (undoPage n k h) x ≡ at (s .heap) x
+        back-by U l x w ne p (yes e) = U .page x (subst (λ y. In y x) e p)
+        back-by U l x w ne p (no f) = U .half .back l x w (λ q. ne (tails q)) p
+          where
+            tails : Before R (S .pages) (k ∷ ks) (suc j) l → Before R (S .pages) ks (suc j) l
+            tails (inr q) = inr q
+            tails (inl q) = go (List·Memᴰ·cases-cons q)
+              where
+                go : (l ≡ k) ⊎ List·Memᴰ l ks → Before R (S .pages) ks (suc j) l
+                go (inl e) = absurd (f e)
+                go (inr m) = inl m
+
+    small : (k : ℕ) → List·Memᴰ k (S .pages j) → k < N
+    small k m = S .laid .known k (mine≢beyond (S .laid .mine-own j k jR m))
+
+    region : (h : List ℕ) → Half (From R (S .pages) j) h → Half (From R (S .pages) (suc j)) (undoChain n N (firstLink n (s .table) j) h)
+    region h H =
+        let start : Chain (S .pages j) h = record { half = half-more (from-split R (S .pages) j) H; theirs = λ k m. m } in
+        let end : Chain [] (undoChain n N (suc (S .laid .mine-links j jR .0)) h)
+        = along-all N (link n) (undoPage n) (link n (s .heap)) Chain turn N (S .pages j) (suc (S .laid .mine-links j jR .0)) h (S .laid .mine-links j jR .2) small
+        (once-most N small (S .laid .mine-once j jR)) start in
+        rw (first-link n (s .table) j (S .laid .mine-links j jR .0) (S .laid .big) (S .laid .mine-links j jR .1)) (half-more (before-none R (S .pages) (suc j)) (end .half))
+
+  -- at the start every old page is left
+  begin : Half (From R (S .pages) 0) (d .heap)
+  begin =
+      record {
+        size = M .heap-length ∙ A .size ∙ sym size-N;
+        others = λ k x ne p. refl;
+        either = λ k x o p. rw (same k x o p) (either k x o p);
+        back = λ k x o ne p. let t = A .from-space k .0 o in absurd (ne (t .0, zero-le, t .1, t .2));
+      }
+    where
+      same : (k x : ℕ) → g .own k ≡ old → In k x → at (d .heap) x ≡ at (r .heap) x
+      same k x o p = M .words x (λ l j w q. go l j w q (ℕ-discrete l k))
+        where
+          go : (l j : ℕ) → g .own l ≡ mine j → x ≡ l * P + 1 → Dec (l ≡ k) → ⊥
+          go l j w q (yes e) = old≢mine (ap (g .own) e ∙ o) w
+          go l j w q (no ne) = let c = S .laid .big in one-page n l k x ne (omega arith) (omega arith) (p .0) (p .1)
+
+      either : (k x : ℕ) → g .own k ≡ old → In k x → Either (r .heap) x
+      either k x o p = go (member? x (olds (g .log)))
+        where
+          go : Dec (List·Memᴰ x (olds (g .log))) → Either (r .heap) x
+          go (yes m) = let t = in-olds (g .log) m in inr (t .0, t .1, A .logged .copies (t .1) .forward)
+          go (no ne) = inl (A .logged .unmoved k x o (p .0) (p .1) (λ b m. ne (olds-in m)))
+
+  pub headers-back : Half (From R (S .pages) R) (undoHeaders n N R (s .table) (d .heap))
+  headers-back = steps-keep (λ j. undoChain n N (firstLink n (s .table) j)) R (λ j h. Half (From R (S .pages) j) h) (λ j h jR H. region j jR h H) R 0 (d .heap) (omega arith) begin
+
+  -- the old pages are as before
+  pub old-back : (k x : ℕ) → g .own k ≡ old → In k x → at (undoHeaders n N R (s .table) (d .heap)) x ≡ at (s .heap) x
+  old-back k x o p = headers-back .back k x o (from-none R (S .pages) k) p

@@ -1,0 +1,170 @@
+-- A collection that lacks a page is undone: the headers are put back, and each taken page, in the order of taking, is cleared and gets its
+-- link of before, which its origin has kept. No page is still free. So the heap is as it was.
+use Prim.Native.Nat.{ℕ, _+_, _*_, _/_, _^_, _≤_, _<_}
+use native.Mathlib.Nat.{mul-le-mul-right, div-add-mod', mod-lt, div-lt-iff-lt-mul}
+use native.Mathlib.Omega.{arith}
+use native.Mathlib.Decide.{ℕ-discrete}
+use mathlib.Core.Path.{_≡_, refl, sym, ap, _∙_, subst}
+use mathlib.Core.Logic.{_≢_, _⊎_, inl, inr}
+use mathlib.Core.List.{List, [], _∷_, _++_, List·Memᴰ, List·Memᴰ·head, List·Memᴰ·tail, List·Memᴰ·cases-cons, List·Memᴰ·not-nil, Memᴰ·append-left}
+use lib.ListN.{length, set, length-set}
+use lib.Seq.{getD-set-same, getD-set-other, ext-getD}
+use Rattle.laws.specs.Lists.{at}
+use Rattle.laws.proofs.Once.{Once, once-none, once-more, once-tail, once-head, Linked}
+use Rattle.rules.specs.declared.Refusal.{Refusal}
+use Rattle.rules.specs.Memory.{Store, pageCount, link, origin}
+use Rattle.rules.specs.Refusals.{refused}
+use Rattle.rules.specs.Pages.{clearPage}
+use Rattle.facts.proofs.Laid.{old≢mine, spare≢beyond, Owner, old, spare, beyond, mine}
+use Rattle.facts.proofs.Sound.{Sound}
+use Rattle.working.proofs.Invariant.{Ghost}
+use Rattle.motion.specs.Leaves.{Desk, taken}
+use Rattle.motion.specs.Whole.{undoHeaders, relink, relinkAll, undo, lacking}
+use Rattle.agreement.proofs.Matching.{Matching}
+use Rattle.agreement.proofs.Stuck.{Stuck}
+use Rattle.agreement.proofs.Walked.{along-front, one-page, clear-length, clear-else, clear-in}
+use Rattle.agreement.proofs.Restored.{headers-back, old-back}
+
+once-front : (ks ms : List ℕ) → Once (ks ++ ms) → Once ks
+once-front [] ms o = once-none
+once-front (k ∷ ks) ms o = once-more (λ m. once-head o (Memᴰ·append-left ms m)) (once-front ks ms (once-tail o))
+
+module _ (s : Store) (S : Sound s) (d : Desk) (A : Stuck s S d) where
+  abbrev g : Ghost
+  g = A .ghost
+
+  abbrev M : Matching s S (A .ghost) (A .run) d
+  M = A .matching
+
+  abbrev n : ℕ
+  n = s .ctl .n
+
+  abbrev P : ℕ
+  P = 2 ^ s .ctl .n
+
+  abbrev N : ℕ
+  N = pageCount (s .ctl .n) (s .heap)
+
+  abbrev R : ℕ
+  R = s .ctl .regions
+
+  abbrev h₁ : List ℕ
+  h₁ = undoHeaders n N R (s .table) (d .heap)
+
+  -- a taken page was free
+  was-free : (k : ℕ) → List·Memᴰ k (M .took) → S .own k ≡ spare
+  was-free k m = S .laid .free-own k (subst (List·Memᴰ k) (sym (M .front)) (Memᴰ·append-left (g .free) m))
+
+  inside : (k : ℕ) → k < N → k * P + P ≤ length (s .heap)
+  inside k b = let a = mul-le-mul-right P b in let e = S .laid .size in omega arith
+
+  -- the pages ks are still to be linked; all others are as before
+  pub record Linking (ks : List ℕ) (h : List ℕ) : Type 0 where
+    pub size : length h ≡ length (s .heap)
+    pub back : (k x : ℕ) → k < N → (List·Memᴰ k ks → ⊥) → k * P ≤ x → x < k * P + P → at h x ≡ at (s .heap) x
+    pub kept : (k : ℕ) → List·Memᴰ k ks → at h (k * P + 1) ≡ link n (s .heap) k
+    pub once : Once ks
+    pub free : (k : ℕ) → List·Memᴰ k ks → S .own k ≡ spare
+
+  turn : (k : ℕ) (ks : List ℕ) (h : List ℕ) → Linking (k ∷ ks) h → (origin n h k ≡ link n (s .heap) k) × Linking ks (relink n k h)
+  unfolding origin link relink
+  turn k ks h L = (
+    L .kept k (List·Memᴰ·head refl),
+    record {
+      size = length-set h₂ (k * P) w ∙ clear-length n h k k-in ∙ L .size;
+      back = λ l x b ne p q. back l x b ne p q (ℕ-discrete l k);
+      kept = λ l m. kept l m;
+      once = once-tail (L .once);
+      free = λ l m. L .free l (List·Memᴰ·tail m);
+    },
+  )
+    where
+      w : ℕ
+      w = origin n h k
+
+      h₂ : List ℕ
+      h₂ = clearPage n h k
+
+      own-k : S .own k ≡ spare
+      own-k = L .free k (List·Memᴰ·head refl)
+
+      there : k < N
+      there = S .laid .known k (spare≢beyond own-k)
+
+      k-in : k * P + P ≤ length h
+      k-in = let a = inside k there in let b = L .size in omega arith
+
+      -- another page
+      else-same : (l x : ℕ) → l ≢ k → l * P ≤ x → x < l * P + P → at (set h₂ (k * P) w) x ≡ at h x
+      else-same l x ne p q =
+          let c = S .laid .big in
+          getD-set-other h₂ (k * P) x w 0 (λ e. one-page n l k x ne p q (omega arith) (omega arith)) ∙ clear-else n h k k-in l x ne p q
+
+      in-page : (x : ℕ) → k * P ≤ x → x < k * P + P → Dec (x ≡ k * P) → at (set h₂ (k * P) w) x ≡ at (s .heap) x
+      in-page x p q (yes e) =
+          let c = clear-length n h k k-in in
+          let a = k-in in
+          let b = S .laid .big in
+          rw e (getD-set-same h₂ (k * P) w 0 (omega arith) ∙ L .kept k (List·Memᴰ·head refl))
+      in-page x p q (no ne) =
+          getD-set-other h₂ (k * P) x w 0 ne ∙ clear-in n h k k-in x p q ∙ sym (S .laid .free-clean k own-k .rest x (omega arith) q)
+
+      back : (l x : ℕ) → l < N → (List·Memᴰ l ks → ⊥) → l * P ≤ x → x < l * P + P → Dec (l ≡ k) → at (set h₂ (k * P) w) x ≡ at (s .heap) x
+      back l x b ne p q (yes e) = let v : l * P ≡ k * P = ap (λ y. y * P) e in in-page x (omega arith) (omega arith) (ℕ-discrete x (k * P))
+      back l x b ne p q (no f) = else-same l x f p q ∙ L .back l x b (λ m. go (List·Memᴰ·cases-cons m)) p q
+        where
+          go : (l ≡ k) ⊎ List·Memᴰ l ks → ⊥
+          go (inl e) = f e
+          go (inr m) = ne m
+
+      kept : (l : ℕ) → List·Memᴰ l ks → at (set h₂ (k * P) w) (l * P + 1) ≡ at (s .heap) (l * P)
+      kept l m =
+          let c = S .laid .big in
+          else-same l (l * P + 1) (λ e. once-head (L .once) (subst (λ y. List·Memᴰ y ks) e m)) (omega arith) (omega arith) ∙ L .kept l (List·Memᴰ·tail m)
+
+  begin : Linking (M .took) h₁
+  begin =
+      record {
+        size = headers-back s S d A .size;
+        back = λ k x b ne p q. by k x b ne p q (g .own k) refl;
+        kept = kept;
+        once = once-front (M .took) (g .free) (subst Once (M .front) (S .laid .free-once));
+        free = was-free;
+      }
+    where
+      by : (k x : ℕ) → k < N → (List·Memᴰ k (M .took) → ⊥) → k * P ≤ x → x < k * P + P → (o : Owner) → g .own k ≡ o → at h₁ x ≡ at (s .heap) x
+      by k x b ne p q old e = old-back s S d A k x e (p, q)
+      by k x b ne p q spare e = absurd (List·Memᴰ·not-nil (subst (List·Memᴰ k) (A .none-free) (A .owned .spares k e)))
+      by k x b ne p q beyond e = absurd (A .owned .whole k b e)
+      by k x b ne p q (mine j) e = absurd (ne (M .owned k .1 (j, e)))
+
+      kept : (k : ℕ) → List·Memᴰ k (M .took) → at h₁ (k * P + 1) ≡ link n (s .heap) k
+      kept k m =
+          let c = S .laid .big in
+          let o = M .owned k .0 m in
+          headers-back s S d A .others k (k * P + 1) (λ q. old≢mine q (o .1)) (omega arith, omega arith) ∙ M .kept-link k m
+
+  end : Linking [] (relinkAll n (length (M .took)) N (s .ctl .first) h₁)
+  end =
+      along-front N (origin n) (relink n) (link n (s .heap)) Linking turn (M .took) (g .free) (s .ctl .first) h₁
+      (subst (λ ks. Linked (link n (s .heap)) (s .ctl .first) ks) (M .front) (S .laid .free-links))
+      (λ k m. S .laid .known k (spare≢beyond (was-free k m))) begin
+
+  pub undo-back : undo n (at (d .notes) taken) N R (s .ctl .first) (s .table) (d .heap) ≡ s .heap
+  undo-back =
+      rw (M .taken-count)
+      (ext-getD 0 _ _ (end .size)
+      (λ x b.
+      let c = S .laid .big in
+      let e = S .laid .size in
+      let f = end .size in
+      let b′ : x < length (s .heap) = omega arith in
+      let pos : 0 < P = omega arith in
+      let k-in : x / P < N = div-lt-iff-lt-mul {k = P} pos .1 (omega arith) in
+      let u = div-add-mod' x P in
+      let v = mod-lt x {m = P} pos in
+      end .back (x / P) x k-in (λ m. List·Memᴰ·not-nil m) (omega arith) (omega arith)))
+
+pub lacking-is : (s : Store) (S : Sound s) (d : Desk) → Stuck s S d → lacking s (pageCount (s .ctl .n) (s .heap)) d ≡ refused s Refusal.NoPage
+unfolding lacking
+lacking-is s S d A = rw (undo-back s S d A)

@@ -1,0 +1,85 @@
+-- Rule 3 from what the two walks answer: its walked form tests the regions first, then the free list, and the sums last.
+use Prim.Native.Nat.{ℕ, _+_, _*_, _/_, _^_, _≤_}
+use mathlib.Core.Path.{_≡_, refl, sym, ap, _∙_}
+use mathlib.Core.Bool.{Bool, true, false, _&&_}
+use mathlib.Core.List.{List}
+use native.Mathlib.Omega.{arith}
+use lib.Dec.{eqb}
+use lib.ListN.{length}
+use Rattle.laws.specs.Choice.{_⇒_∣_}
+use Rattle.laws.specs.Lists.{allBelow}
+use Rattle.rules.specs.declared.Control.{Control}
+use Rattle.rules.specs.Memory.{lent, freePages, pagesFrom}
+use Rattle.rules.specs.Audit.{endsWell, lastLink, rule3}
+use Rattle.rules.specs.Refusals.{Paged}
+use Rattle.rules.proofs.Once.{rule3-walked}
+use Rattle.chains.specs.declared.Chained.{Chained}
+use Rattle.chains.specs.declared.Listed.{Listed}
+use Rattle.chains.proofs.Turns.{pages-short, free-short}
+use Rattle.chains.specs.Walked.{bear, regionChained, regionsChained, freeListed}
+
+-- what an answer says of the test behind it
+chained-yes : (b : Bool) (x y : ℕ) → Chained.Pages x ≡ (b ⇒ Chained.Pages y ∣ Chained.Broken) → (b ≡ true) × (x ≡ y)
+chained-yes true x y e = (refl, cc)
+chained-yes false x y e = let z : _≡_ {A = ℕ} 0 1 = cc in absurd (omega arith)
+
+chained-no : (b : Bool) (y : ℕ) → Chained.Broken ≡ (b ⇒ Chained.Pages y ∣ Chained.Broken) → b ≡ false
+chained-no true y e = let z : _≡_ {A = ℕ} 0 1 = cc in absurd (omega arith)
+chained-no false y e = refl
+
+listed-yes : (b : Bool) (x l y m : ℕ) → Listed.Pages x l ≡ (b ⇒ Listed.Pages y m ∣ Listed.Broken) → (b ≡ true) × (x ≡ y) × (l ≡ m)
+listed-yes true x l y m e = (refl, cc, cc)
+listed-yes false x l y m e = let z : _≡_ {A = ℕ} 0 1 = cc in absurd (omega arith)
+
+listed-no : (b : Bool) (y m : ℕ) → Listed.Broken ≡ (b ⇒ Listed.Pages y m ∣ Listed.Broken) → b ≡ false
+listed-no true y m e = let z : _≡_ {A = ℕ} 0 1 = cc in absurd (omega arith)
+listed-no false y m e = refl
+
+module _ (h t r k : List ℕ) (c : Control) where
+  abbrev n : ℕ
+  n = c .n
+
+  abbrev regions : Bool
+  regions = allBelow (regionChained n h t) (c .regions)
+
+  abbrev free : List ℕ
+  free = freePages n h (c .first)
+
+  abbrev listed : Bool
+  listed = bear n h 0 free && endsWell n h (c .first)
+
+  walked : rule3 (lent h t r k c)
+      ≡ (regions && (listed && (eqb (c .last) (lastLink free) && (eqb (c .count) (length free) && eqb (length (pagesFrom n h t (c .regions) 0) + length free) (length h / 2 ^ n)))))
+  unfolding regionChained
+  walked = rule3-walked (lent h t r k c)
+
+  -- the regions are broken
+  pub three-chained : (a : Chained) → a ≡ regionsChained n h t (c .regions) → a ≡ Chained.Broken → rule3 (lent h t r k c) ≡ false
+  unfolding regionsChained
+  three-chained a e q = walked ∙ rw (chained-no regions (length (pagesFrom n h t (c .regions) 0)) (sym q ∙ e))
+
+  module _ (a : Chained) (x : ℕ) (e : a ≡ regionsChained n h t (c .regions)) (q : a ≡ Chained.Pages x) (b : Listed) (f : b ≡ freeListed n h (c .first)) where
+    fine : (regions ≡ true) × (x ≡ length (pagesFrom n h t (c .regions) 0))
+    unfolding regionsChained
+    fine = chained-yes regions x (length (pagesFrom n h t (c .regions) 0)) (sym q ∙ e)
+
+    -- the free list is broken
+    pub three-listed : b ≡ Listed.Broken → rule3 (lent h t r k c) ≡ false
+    unfolding freeListed
+    three-listed p = walked ∙ rw (fine .0, listed-no listed (length free) (lastLink free) (sym p ∙ f))
+
+    -- neither is: the sums decide
+    module _ (y l : ℕ) (p : b ≡ Listed.Pages y l) where
+      pub three-sums : rule3 (lent h t r k c) ≡ (eqb (c .last) l && (eqb (c .count) y && eqb (x + y) (length h / 2 ^ n)))
+      unfolding freeListed
+      three-sums = let g = listed-yes listed y l (length free) (lastLink free) (sym p ∙ f) in walked ∙ rw (fine .0, g .0, ← fine .1, ← g .1, ← g .2)
+
+      -- they are small
+      pub sums-fit : Paged n (length h) → c .regions ≤ 64 → x + y ≤ 4259840
+      unfolding freeListed
+      sums-fit g m =
+          let held = fine .1 in
+          let left = listed-yes listed y l (length free) (lastLink free) (sym p ∙ f) .1 in
+          let a = pages-short n h t (c .regions) 0 g in
+          let b = free-short n h (c .first) g in
+          omega arith

@@ -1,0 +1,187 @@
+-- The turn laws of rule 3's walks: at each region, at each page and at the end of a chain, what is left to test is what was left before, and
+-- the pages that are left are one fewer. Each follows the definition's own turn.
+use Prim.Native.Nat.{ℕ, zero, suc, _+_, _-_, _*_, _/_, _%_, _^_, _≤_, _<_}
+use mathlib.Core.Path.{_≡_, refl, sym, ap, _∙_}
+use mathlib.Core.Bool.{Bool, true, false, _&&_}
+use mathlib.Core.List.{List, [], _∷_, _++_}
+use native.Mathlib.Omega.{arith}
+use native.Mathlib.Numerals.{sub-one, add-one}
+use borrow.Author.Tests.{eq-eqb, ne-eqb, le-leb}
+use lib.Dec.{ltb, eqb}
+use lib.ListN.{length, getD, length-append}
+use lib.Seq.{slice, take-length}
+use Rattle.laws.specs.Lists.{all, allFrom, allBelow, zeros, lastOr}
+use Rattle.laws.proofs.Tests.{and-yes, and-assoc, from-go, from-stop}
+use Rattle.rules.specs.declared.Control.{Control}
+use Rattle.rules.specs.Memory.{lent, statusOf, addressPage, link, origin, firstOf, firstLink, chain, chainEnd, regionPages, freePages, pagesFrom}
+use Rattle.rules.specs.Audit.{opens, endsWell, lastLink, rule2}
+use Rattle.rules.specs.Refusals.{Paged}
+use Rattle.rules.proofs.Limits.{pages-few}
+use Rattle.rules.proofs.Nests.{next-chain, next-end, Over, pages-go, pages-over}
+use Rattle.chains.specs.declared.Chained.{Chained}
+use Rattle.chains.specs.declared.Listed.{Listed}
+use Rattle.chains.specs.Walked.{bear, regionChained, regionsChained, freeListed}
+
+-- ---- where a chain opens
+
+module _ (n : ℕ) (h t : List ℕ) (j first p : ℕ) (q : first ≡ firstOf t j) (e : p ≡ 2 ^ n) where
+  pub opens-off : (first % p ≡ 0 → ⊥) → opens n h t j ≡ false
+  unfolding opens
+  opens-off ne = rw (← q, ← e, ne-eqb _ _ ne)
+
+  pub opens-at : (a N : ℕ) → first % p ≡ 0 → a ≡ addressPage n first → N ≡ length h / 2 ^ n → opens n h t j ≡ ltb a N
+  unfolding opens
+  opens-at a N z qa qN = rw (qa, qN, ← q, ← e, eq-eqb _ _ z)
+
+module _ (n N : ℕ) (h t : List ℕ) (e : N ≡ length h / 2 ^ n) (m j : ℕ) (b : 0 < m) where
+  pub chained-open : (l : ℕ) → opens n h t j ≡ true → l ≡ firstLink n t j
+      → allFrom (regionChained n h t) m j ≡ (bear n h (suc j) (chain N n h l) && (eqb (chainEnd N n h l) 0 && allFrom (regionChained n h t) (m - 1) (j + 1)))
+  unfolding regionChained regionPages endsWell
+  chained-open l o g = from-go (regionChained n h t) m j b ∙ rw (o, e, g) (and-assoc (bear n h (suc j) (chain (length h / 2 ^ n) n h (firstLink n t j))) _ _)
+
+  pub chained-shut : opens n h t j ≡ false → allFrom (regionChained n h t) m j ≡ false
+  unfolding regionChained
+  chained-shut o = from-stop (regionChained n h t) m j b (rw o)
+
+  pub length-open : (l : ℕ) → l ≡ firstLink n t j → length (pagesFrom n h t m j) ≡ length (chain N n h l) + length (pagesFrom n h t (m - 1) (j + 1))
+  unfolding pagesFrom regionPages
+  length-open l g = rw (e, g, add-one j) (go m b)
+    where
+      go : (m : ℕ) → 0 < m → length (pagesFrom n h t m j) ≡ length (chain (length h / 2 ^ n) n h (firstLink n t j)) + length (pagesFrom n h t (m - 1) (suc j))
+      go zero l = absurd (omega arith)
+      go (suc m) l = rw (sub-one (suc m)) (length-append (regionPages n h t j) (pagesFrom n h t m (suc j)))
+
+-- ---- the pages of a chain that bear the origin o, from the link k on
+
+module _ (n N : ℕ) (h : List ℕ) (e : N ≡ length h / 2 ^ n) (f k o : ℕ) (r : Bool) where
+  -- what is left to test
+  abbrev pub Rest : ℕ → ℕ → Bool
+  Rest f k = bear n h o (chain f n h k) && (eqb (chainEnd f n h k) 0 && r)
+
+  module _ (b : ℕ) (q : b ≡ (k - 1) * 2 ^ n) (l : 0 < f) (z : k ≡ 0 → ⊥) (c : k ≤ N) where
+    turn : Rest f k ≡ (eqb (getD h (b + 1) 0) o && Rest (f - 1) (getD h b 0))
+    unfolding origin
+    turn = pages-go n N h e f k (λ k. eqb (origin n h k) o) (eqb (chainEnd f n h k) 0 && r) b q l z c ∙ rw (next-end n N h e f k b q l z c, q)
+
+    pub chained-page : getD h (b + 1) 0 ≡ o → Rest f k ≡ Rest (f - 1) (getD h b 0)
+    chained-page w = turn ∙ rw (eq-eqb _ _ w)
+
+    pub chained-other : (getD h (b + 1) 0 ≡ o → ⊥) → Rest f k ≡ false
+    chained-other w = turn ∙ rw (ne-eqb _ _ w)
+
+    pub length-page : length (chain f n h k) ≡ 1 + length (chain (f - 1) n h (getD h b 0))
+    length-page = ap length (next-chain n N h e f k b q l z c) ∙ (omega arith)
+
+  module _ (v : Over n N h e f k) where
+    pub chained-ends : k ≡ 0 → Rest f k ≡ r
+    chained-ends z = pages-over n N h e f k (λ k. eqb (origin n h k) o) (eqb (chainEnd f n h k) 0 && r) v ∙ rw (v .end, eq-eqb _ _ z)
+
+    pub chained-hangs : (k ≡ 0 → ⊥) → Rest f k ≡ false
+    chained-hangs z = pages-over n N h e f k (λ k. eqb (origin n h k) o) (eqb (chainEnd f n h k) 0 && r) v ∙ rw (v .end, ne-eqb _ _ z)
+
+    pub length-over : length (chain f n h k) ≡ 0
+    length-over = rw (v .none)
+
+-- ---- how many pages there can be
+
+chain-short : (f n : ℕ) (h : List ℕ) (k : ℕ) → length (chain f n h k) ≤ f
+unfolding chain
+chain-short zero n h k = omega arith
+chain-short (suc f) n h zero = omega arith
+chain-short (suc f) n h (suc k) = go (ltb k (length h / 2 ^ n)) refl (chain-short f n h (link n h k))
+  where
+    go : (b : Bool) → ltb k (length h / 2 ^ n) ≡ b → length (chain f n h (link n h k)) ≤ f → length (chain (suc f) n h (suc k)) ≤ suc f
+    go true e r = rw (chain, e) (omega arith)
+    go false e r = rw (chain, e) (omega arith)
+
+pub pages-short : (n : ℕ) (h t : List ℕ) (m j : ℕ) → Paged n (length h) → length (pagesFrom n h t m j) ≤ 65536 * m
+unfolding pagesFrom regionPages
+pages-short n h t zero j g = omega arith
+pages-short n h t (suc m) j g =
+    let r = pages-short n h t m (suc j) g in
+    let s = chain-short (length h / 2 ^ n) n h (firstLink n t j) in
+    let q = length-append (regionPages n h t j) (pagesFrom n h t m (suc j)) in
+    let b = pages-few n (length h) (length h / 2 ^ n) g refl in
+    omega arith
+
+pub free-short : (n : ℕ) (h : List ℕ) (first : ℕ) → Paged n (length h) → length (freePages n h first) ≤ 65536
+unfolding freePages
+free-short n h first g = let s = chain-short (length h / 2 ^ n) n h first in let b = pages-few n (length h) (length h / 2 ^ n) g refl in omega arith
+
+pub length-none : (n : ℕ) (h t : List ℕ) (m j : ℕ) → m ≤ 0 → length (pagesFrom n h t m j) ≡ 0
+unfolding pagesFrom
+length-none n h t zero j b = refl
+length-none n h t (suc m) j b = absurd (omega arith)
+
+-- the answers
+module _ (n : ℕ) (h t : List ℕ) (R : ℕ) where
+  pub all-chained : (x : ℕ) → true ≡ allBelow (regionChained n h t) R → x ≡ length (pagesFrom n h t R 0) → Chained.Pages x ≡ regionsChained n h t R
+  unfolding regionsChained
+  all-chained x e q = rw (← e, q)
+
+  pub not-chained : false ≡ allBelow (regionChained n h t) R → Chained.Broken ≡ regionsChained n h t R
+  unfolding regionsChained
+  not-chained e = rw (← e)
+
+module _ (n : ℕ) (h : List ℕ) (first : ℕ) where
+  pub all-listed : (x l : ℕ) → true ≡ (bear n h 0 (freePages n h first) && endsWell n h first) → x ≡ length (freePages n h first) → l ≡ lastLink (freePages n h first)
+      → Listed.Pages x l ≡ freeListed n h first
+  unfolding freeListed
+  all-listed x l e q p = rw (← e, q, p)
+
+  pub not-listed : false ≡ (bear n h 0 (freePages n h first) && endsWell n h first) → Listed.Broken ≡ freeListed n h first
+  unfolding freeListed
+  not-listed e = rw (← e)
+
+-- ---- the link to the last page
+
+-- the last link, where l was the one before these pages
+unfoldable pub lastBy : ℕ → List ℕ → ℕ
+lastBy l [] = l
+lastBy l (k ∷ ks) = lastBy (suc k) ks
+
+last-suc : (k : ℕ) (ks : List ℕ) → lastBy (suc k) ks ≡ suc (lastOr k ks)
+unfolding lastBy lastOr
+last-suc k [] = refl
+last-suc k (x ∷ ks) = last-suc x ks
+
+pub last-by : (ks : List ℕ) → lastBy 0 ks ≡ lastLink ks
+unfolding lastBy lastLink
+last-by [] = refl
+last-by (k ∷ ks) = last-suc k ks
+
+module _ (n N : ℕ) (h : List ℕ) (e : N ≡ length h / 2 ^ n) (f k l : ℕ) where
+  pub last-page : (b : ℕ) → b ≡ (k - 1) * 2 ^ n → 0 < f → (k ≡ 0 → ⊥) → k ≤ N → lastBy l (chain f n h k) ≡ lastBy k (chain (f - 1) n h (getD h b 0))
+  unfolding lastBy
+  last-page b q c z d =
+      let s : suc (k - 1) ≡ k = omega arith in
+      ap (lastBy l) (next-chain n N h e f k b q c z d) ∙ ap (λ x. lastBy x (chain (f - 1) n h (getD h b 0))) s
+
+  pub last-over : Over n N h e f k → lastBy l (chain f n h k) ≡ l
+  unfolding lastBy
+  last-over o = rw (o .none)
+
+-- the free list, from its first page on
+module _ (n N : ℕ) (h : List ℕ) (e : N ≡ length h / 2 ^ n) (first : ℕ) where
+  pub list-open : (bear n h 0 (chain N n h first) && (eqb (chainEnd N n h first) 0 && true)) ≡ (bear n h 0 (freePages n h first) && endsWell n h first)
+  unfolding freePages endsWell
+  list-open = rw e (ap (λ x. bear n h 0 (chain (length h / 2 ^ n) n h first) && x) (and-yes _))
+
+  pub list-length : 0 + (length (chain N n h first) + 0) ≡ length (freePages n h first)
+  unfolding freePages
+  list-length = rw e (omega arith)
+
+  pub list-last : lastBy 0 (chain N n h first) ≡ lastLink (freePages n h first)
+  unfolding freePages
+  list-last = rw e (last-by (freePages n h first))
+
+-- ---- rule 2
+
+module _ (h t r k : List ℕ) (c : Control) (b : c .regions ≤ 64) where
+  pub two-off : zeros (slice (4 * c .regions) (length t) t) ≡ false → rule2 (lent h t r k c) ≡ false
+  unfolding rule2
+  two-off e = rw (le-leb _ _ b, rw (take-length t) at e)
+
+  pub two-at : zeros (slice (4 * c .regions) (length t) t) ≡ true → rule2 (lent h t r k c) ≡ allBelow (λ j. eqb (statusOf t j) 0) (c .regions)
+  unfolding rule2
+  two-at e = rw (le-leb _ _ b, rw (take-length t) at e)

@@ -1,0 +1,146 @@
+-- The turn laws of rules 5 and 8: at each region, page and value, what is left to test is what was left before.
+use Prim.Native.Nat.{ℕ, zero, suc, _+_, _-_, _*_, _/_, _%_, _^_, _≤_, _<_}
+use mathlib.Core.Path.{_≡_, refl, sym, ap, _∙_}
+use mathlib.Core.Bool.{Bool, true, false, _&&_}
+use mathlib.Core.List.{List, []}
+use native.Mathlib.Omega.{arith}
+use native.Mathlib.Nat.{add-zero}
+use borrow.Author.Tests.{eq-eqb, ne-eqb}
+use lib.Dec.{eqb}
+use lib.ListN.{length, drop, take, getD}
+use lib.Seq.{slice, length-slice, drop-drop, take-length}
+use Rattle.laws.specs.Lists.{all, allFrom, zeros}
+use Rattle.laws.proofs.Tests.{and-yes, and-assoc}
+use Rattle.rules.specs.declared.Control.{Control}
+use Rattle.rules.specs.Memory.{lent, link, pageWords, topOf, chain}
+use Rattle.rules.specs.Words.{wordOf, fits, vals, valsIn, pageVals, constVals, usedOf, fieldsPass, goodConst}
+use Rattle.rules.specs.Audit.{ifLast, filled, pageFilled, constField, rule8}
+use Rattle.rules.proofs.Headers.{fit-of}
+use Rattle.rules.proofs.Stepping.{vals-none, vals-stop, vals-step}
+use Rattle.rules.proofs.Chains.{page-part}
+use Rattle.rules.proofs.Nests.{pages-go, last-not, last-is}
+
+-- ---- values, then zeros
+
+-- the zeros after the values from address a up to address e
+abbrev pub Zeros : List ℕ → ℕ → ℕ → Bool
+Zeros h a e = zeros (drop (usedOf (valsIn h a e)) (slice a e h))
+
+-- what is left of a page's test when the values before address a are passed: x its link, t the region's a
+abbrev pub Rest : List ℕ → ℕ → ℕ → ℕ → ℕ → Bool → Bool
+Rest h a e x t r = Zeros h a e && (ifLast x (eqb (a + usedOf (valsIn h a e)) t) && r)
+
+module _ (h : List ℕ) (a e : ℕ) where
+  zeros-over : valsIn h a e ≡ [] → Zeros h a e ≡ zeros (slice a e h)
+  unfolding usedOf
+  zeros-over q = rw q
+
+  pub zeros-at-end : e ≤ a → Zeros h a e ≡ zeros (slice a e h)
+  zeros-at-end b = zeros-over (vals-none h a e b)
+
+  pub zeros-at-stop : a < e → e ≤ length h → fits (getD h a 0) (e - (a + 1)) ≡ false → Zeros h a e ≡ zeros (slice a e h)
+  zeros-at-stop b c f = zeros-over (vals-stop h a e b c f)
+
+  module _ (b : a < e) (c : e ≤ length h) (f : fits (getD h a 0) (e - (a + 1)) ≡ true) where
+    abbrev l : ℕ
+    l = getD h a 0 / 8
+
+    used-turn : usedOf (valsIn h a e) ≡ suc l + usedOf (valsIn h (a + 1 + l) e)
+    unfolding usedOf
+    used-turn =
+        let g = fit-of (getD h a 0) (e - (a + 1)) f .1 in
+        let n : length (slice (a + 1) (a + 1 + l) h) ≡ l = length-slice (a + 1) (a + 1 + l) h (omega arith) ∙ (omega arith) in
+        rw (vals-step h a e b c f, n)
+
+    pub zeros-step : Zeros h a e ≡ Zeros h (a + 1 + l) e
+    zeros-step =
+        let u : ℕ = usedOf (valsIn h (a + 1 + l) e) in
+        let s : a + suc l ≡ a + 1 + l = omega arith in
+        ap (λ x. zeros (drop x (slice a e h))) used-turn
+        ∙ ap zeros (sym (drop-drop u (suc l) (slice a e h)) ∙ ap (drop u) (drop-drop (suc l) a (take e h) ∙ ap (λ z. drop z (take e h)) s))
+
+    pub end-step : a + usedOf (valsIn h a e) ≡ a + 1 + l + usedOf (valsIn h (a + 1 + l) e)
+    end-step = let q = used-turn in omega arith
+
+module _ (h : List ℕ) (a e x t : ℕ) (r : Bool) where
+  rest-over : valsIn h a e ≡ [] → Rest h a e x t r ≡ (zeros (slice a e h) && (ifLast x (eqb a t) && r))
+  unfolding usedOf
+  rest-over q = rw (q, add-zero)
+
+  pub rest-end : e ≤ a → Rest h a e x t r ≡ (zeros (slice a e h) && (ifLast x (eqb a t) && r))
+  rest-end b = rest-over (vals-none h a e b)
+
+  module _ (b : a < e) (c : e ≤ length h) where
+    pub rest-stop : fits (getD h a 0) (e - (a + 1)) ≡ false → Rest h a e x t r ≡ (zeros (slice a e h) && (ifLast x (eqb a t) && r))
+    rest-stop f = rest-over (vals-stop h a e b c f)
+
+    pub rest-go : fits (getD h a 0) (e - (a + 1)) ≡ true → Rest h a e x t r ≡ Rest h (a + 1 + getD h a 0 / 8) e x t r
+    rest-go f = rw (zeros-step h a e b c f, end-step h a e b c f)
+
+-- the values are passed and end at address a; what is left of the page, and of the rest r, is the whole w
+pub record Passed (h : List ℕ) (a e x t : ℕ) (r w : Bool) : Type 0 where
+  pub left : (zeros (slice a e h) && (ifLast x (eqb a t) && r)) ≡ w
+
+-- the zeros, and the end of the last page
+module _ {h : List ℕ} {a e x t : ℕ} {r w : Bool} (p : Passed h a e x t r w) where
+  pub zeros-off : zeros (slice a e h) ≡ false → false ≡ w
+  zeros-off z = rw z at (p .left)
+
+  zeros-on : zeros (slice a e h) ≡ true → (ifLast x (eqb a t) && r) ≡ w
+  zeros-on z = rw z at (p .left)
+
+  pub page-on : zeros (slice a e h) ≡ true → 0 < x → r ≡ w
+  page-on z b = sym (last-not x (eqb a t) r b) ∙ zeros-on z
+
+  pub page-at : zeros (slice a e h) ≡ true → x ≤ 0 → a ≡ t → r ≡ w
+  page-at z b q = sym (last-is x (eqb a t) r b ∙ rw (eq-eqb a t q)) ∙ zeros-on z
+
+  pub page-off : zeros (slice a e h) ≡ true → x ≤ 0 → (a ≡ t → ⊥) → false ≡ w
+  page-off z b q = sym (last-is x (eqb a t) r b ∙ rw (ne-eqb a t q)) ∙ zeros-on z
+
+-- a page of region j, whose a is d; p is its size
+pub five-page : (n N : ℕ) (h t : List ℕ) (e : N ≡ length h / 2 ^ n) (f k j d p : ℕ) → d ≡ topOf t j → p ≡ 2 ^ n → (r : Bool) (b : ℕ) → b ≡ (k - 1) * 2 ^ n → 0 < f → (k ≡ 0 → ⊥) → k ≤ N
+    → (all (pageFilled n h t j) (chain f n h k) && r) ≡ Rest h (b + 2) (b + p) (getD h b 0) d (all (pageFilled n h t j) (chain (f - 1) n h (getD h b 0)) && r)
+unfolding pageFilled filled link pageVals valsIn
+five-page n N h t e f k j d p qd qp r b q l z c =
+    pages-go n N h e f k (pageFilled n h t j) r b q l z c
+    ∙ and-assoc (filled ((k - 1) * 2 ^ n + 2) (drop 2 (pageWords n h (k - 1)))) _ _
+    ∙ rw (q, qd, qp, page-part n h (k - 1))
+
+-- ---- constants
+
+pub filled-all : (h : List ℕ) → Zeros h 0 (length h) ≡ filled 0 h
+unfolding filled valsIn
+filled-all h = rw (take-length h)
+
+pub consts-all : (p : ℕ → Bool) (h : List ℕ) → (all (fieldsPass p) (valsIn h 0 (length h)) && true) ≡ all (fieldsPass p) (constVals h)
+unfolding valsIn
+consts-all p h = rw (take-length h) (and-yes _)
+
+module _ (k : List ℕ) (w : ℕ) where
+  pub field-heap : w % 4 ≡ 0 → constField k w ≡ false
+  unfolding constField wordOf
+  field-heap e = rw (constField, e)
+
+  pub field-const : w % 4 ≡ 2 → constField k w ≡ goodConst k (w / 4)
+  unfolding constField wordOf
+  field-const e = rw (constField, e)
+
+  pub field-number : (w % 4 ≡ 0 → ⊥) → (w % 4 ≡ 2 → ⊥) → constField k w ≡ true
+  unfolding constField wordOf
+  field-number a b = go (w % 4) refl
+    where
+      go : (x : ℕ) → w % 4 ≡ x → constField k w ≡ true
+      go zero e = absurd (a e)
+      go (suc zero) e = rw (constField, e)
+      go (suc (suc zero)) e = absurd (b e)
+      go (suc (suc (suc x))) e = rw (constField, e)
+
+module _ (h t r k : List ℕ) (c : Control) where
+  pub eight-off : filled 0 k ≡ false → rule8 (lent h t r k c) ≡ false
+  unfolding rule8
+  eight-off e = rw e
+
+  pub eight-at : filled 0 k ≡ true → rule8 (lent h t r k c) ≡ all (fieldsPass (constField k)) (constVals k)
+  unfolding rule8
+  eight-at e = rw e

@@ -1,0 +1,221 @@
+-- `contents::rule5` meets its contract: at each level what is left to test, with what the outer levels have left, is the whole rule.
+use mathlib.Core.Path.{_≡_, refl, sym, _∙_}
+use mathlib.Core.Bool.{true, _&&_}
+use mathlib.Core.Logic.{⊎-elim}
+use Prim.Native.Nat.{_+_, _-_, _/_, _*_, _^_, _<_, _≤_}
+use native.Mathlib.Omega.{arith}
+use borrow.Author.Tests.{not-true, not-false}
+use lib.ListN.{length, getD}
+use Rattle.laws.specs.Lists.{all, allFrom}
+use Rattle.laws.proofs.Tests.{from-end}
+use Rattle.rules.specs.Memory.{chain, regionPages}
+use Rattle.rules.specs.Audit.{pageFilled, rule5}
+use Rattle.rules.proofs.Limits.{Inside, page-here, pages-few}
+use Rattle.rules.proofs.Nests.{Over, over-fuel, over-none, over-bad, pages-over, regions-go}
+use Rattle.contents.proofs.Turns.{Rest, Passed, five-page, rest-end, rest-stop, rest-go, zeros-off, page-on, page-at, page-off}
+use Rattle.contents.proofs.rule5.Statement.{statement}
+use Rattle.contents.proofs.rule5.Tie as tie
+
+abbrev Inv-values : tie.InvT-values
+Inv-values heap table roots consts n regions size pages fine j regions-left top link left base end at₀ at = Rest heap at end (getD heap base 0) top (all (pageFilled n heap table (j .0)) (chain (left - 1) n heap (getD heap base 0)) && allFrom (λ i. all (pageFilled n heap table i) (regionPages n heap table i)) (regions-left - 1) (j .0 + 1)) ≡ allFrom (λ i. all (pageFilled n heap table i) (regionPages n heap table i)) regions 0
+
+abbrev μ-values : tie.MeasureT-values
+μ-values heap table roots consts n regions size pages fine j regions-left top link left base end at₀ at = end - at
+
+abbrev Inv-pages : tie.InvT-pages
+Inv-pages heap table roots consts n regions size pages fine₀ j regions-left top link₀ left₀ fine link left = ((all (pageFilled n heap table (j .0)) (chain left n heap link) && allFrom (λ i. all (pageFilled n heap table i) (regionPages n heap table i)) (regions-left - 1) (j .0 + 1)) ≡ allFrom (λ i. all (pageFilled n heap table i) (regionPages n heap table i)) regions 0) × (fine ≡ true)
+
+abbrev μ-pages : tie.MeasureT-pages
+μ-pages heap table roots consts n regions size pages fine₀ j regions-left top link₀ left₀ fine link left = left
+
+abbrev Inv-regions : tie.InvT-regions
+Inv-regions heap table roots consts n regions size pages fine₀ j₀ regions-left₀ fine j regions-left = (allFrom (λ i. all (pageFilled n heap table i) (regionPages n heap table i)) regions-left (j .0) ≡ allFrom (λ i. all (pageFilled n heap table i) (regionPages n heap table i)) regions 0) × (fine ≡ true) × (j .0 + regions-left ≡ regions)
+
+abbrev μ-regions : tie.MeasureT-regions
+μ-regions heap table roots consts n regions size pages fine₀ j₀ regions-left₀ fine j regions-left = regions-left
+
+cast-regions : tie.Need-cast-regions Inv-values μ-values Inv-pages μ-pages Inv-regions μ-regions
+cast-regions c = omega arith
+
+page-words-requires :
+    tie.Need-page-words-requires Inv-values μ-values Inv-pages μ-pages Inv-regions μ-regions
+page-words-requires c κs = omega arith
+
+page-count-requires :
+    tie.Need-page-count-requires Inv-values μ-values Inv-pages μ-pages Inv-regions μ-regions
+page-count-requires c κs = omega arith
+
+few : (c : tie.After-page-count Inv-values μ-values Inv-pages μ-pages Inv-regions μ-regions) → c .page-count .result ≤ 65536
+few c = pages-few _ _ _ (c .before .before .before .before .before .before .before .pre .paged) (c .page-count .ensures)
+
+cast-pages : tie.Need-cast-pages Inv-values μ-values Inv-pages μ-pages Inv-regions μ-regions
+cast-pages c = omega (arith, few c)
+
+regions-holds : tie.Need-regions-holds Inv-values μ-values Inv-pages μ-pages Inv-regions μ-regions
+regions-holds c = (refl, refl, omega arith)
+
+top-of-requires :
+    tie.Need-top-of-requires Inv-values μ-values Inv-pages μ-pages Inv-regions μ-regions
+top-of-requires c κs = omega arith
+
+first-link-requires :
+    tie.Need-first-link-requires Inv-values μ-values Inv-pages μ-pages Inv-regions μ-regions
+first-link-requires c κs = omega arith
+
+pages-holds : tie.Need-pages-holds Inv-values μ-values Inv-pages μ-pages Inv-regions μ-regions
+pages-holds c = (sym (regions-go _ _ _ _ _ _ _ _ (c .before .before .before .before .page-count .ensures) (c .first-link .ensures) (c .before .before .regions-test .taken)) ∙ c .before .before .before .regions .inv .0, c .before .before .before .regions .inv .1)
+
+over : (c : tie.Left-pages Inv-values μ-values Inv-pages μ-pages Inv-regions μ-regions) → Over (c .before .before .before .before .before .before .before .before .before .before .before .before .before .args .c .n) (c .before .before .before .before .before .before .page-count .result) (c .before .before .before .before .before .before .before .before .before .before .before .before .before .args .heap .now) (c .before .before .before .before .before .before .page-count .ensures) (c .before .pages .left) (c .before .pages .link)
+over c = ⊎-elim (λ w. over-fuel _ _ _ _ _ _ (w .left)) (⊎-elim (λ w. over-none _ _ _ _ _ _ (w .1 .taken)) (λ w. over-bad _ _ _ _ _ _ (w .2 .taken))) (c .pages-test .came)
+
+link-address-requires :
+    tie.Need-link-address-requires Inv-values μ-values Inv-pages μ-pages Inv-regions μ-regions
+link-address-requires c κs = omega (arith, few ((c .before .before .before .before .before .before .before .before)))
+
+here : (c : tie.After-link-address Inv-values μ-values Inv-pages μ-pages Inv-regions μ-regions) → Inside (2 ^ c .before .before .before .before .before .before .before .before .before .before .before .before .before .before .before .before .args .c .n) (c .link-address .result .0) (length (c .before .before .before .before .before .before .before .before .before .before .before .before .before .before .before .before .args .heap .now))
+here c = page-here _ _ _ _ _ (c .before .before .before .before .before .before .before .before .before .before .before .before .before .before .before .before .pre .paged) (c .before .before .before .before .before .before .before .before .before .page-count .ensures) (c .link-address .ensures) (c .before .before .if1 .left) (c .before .if2 .left)
+
+inside : (c : tie.After-link-address Inv-values μ-values Inv-pages μ-pages Inv-regions μ-regions) → c .link-address .result .0 + c .before .before .before .before .before .before .before .before .before .before .page-words .result ≤ length (c .before .before .before .before .before .before .before .before .before .before .before .before .before .before .before .before .args .heap .now)
+inside c = omega (arith, here c, c .before .before .before .before .before .before .before .before .before .before .page-words .ensures)
+
+add-end : tie.Need-add-end Inv-values μ-values Inv-pages μ-pages Inv-regions μ-regions
+add-end c = omega (arith, here c, c .before .before .before .before .before .before .before .before .before .before .page-words .ensures)
+
+add-at : tie.Need-add-at Inv-values μ-values Inv-pages μ-pages Inv-regions μ-regions
+add-at c = omega (arith, here c)
+
+values-holds : tie.Need-values-holds Inv-values μ-values Inv-pages μ-pages Inv-regions μ-regions
+values-holds c = sym (five-page _ _ _ _ (c .before .before .before .before .before .before .before .before .before .page-count .ensures) _ _ _ _ _ (c .before .before .before .before .before .before .top-of .ensures .0) (c .before .before .before .before .before .before .before .before .before .before .page-words .ensures) _ _ (c .link-address .ensures) (c .before .before .before .pages-test .taken) (c .before .before .if1 .left) (c .before .if2 .left)) ∙ c .before .before .before .before .pages .inv .0
+
+mul-head : tie.Need-mul-head Inv-values μ-values Inv-pages μ-pages Inv-regions μ-regions
+mul-head c = omega (arith, here ((c .before .before)), c .before .before .before .before .before .before .before .before .before .before .before .before .page-words .ensures)
+
+shared-slice-read-head :
+    tie.Need-shared-slice-read-head Inv-values μ-values Inv-pages μ-pages Inv-regions μ-regions
+shared-slice-read-head c = omega (arith, inside ((c .before .before .before)))
+
+add-fits : tie.Need-add-fits Inv-values μ-values Inv-pages μ-pages Inv-regions μ-regions
+add-fits c = omega (arith, here ((c .before .before .before)), c .before .before .before .before .before .before .before .before .before .before .before .before .before .page-words .ensures)
+
+sub-fits : tie.Need-sub-fits Inv-values μ-values Inv-pages μ-pages Inv-regions μ-regions
+sub-fits c = omega arith
+
+fits-requires : tie.Need-fits-requires Inv-values μ-values Inv-pages μ-pages Inv-regions μ-regions
+fits-requires c κs = omega arith
+
+add-at-2 : tie.Need-add-at-2 Inv-values μ-values Inv-pages μ-pages Inv-regions μ-regions
+add-at-2 c = omega (arith, here ((c .before .before .before .before .before)), c .before .before .before .before .before .before .before .before .before .before .before .before .before .before .before .page-words .ensures)
+
+cast-at : tie.Need-cast-at Inv-values μ-values Inv-pages μ-pages Inv-regions μ-regions
+cast-at c = omega (arith, c .before .before .shared-slice-known5 .given (c .before .before .before .before .values .at))
+
+add-at-3 : tie.Need-add-at-3 Inv-values μ-values Inv-pages μ-pages Inv-regions μ-regions
+add-at-3 c = omega (arith, here ((c .before .before .before .before .before)), c .before .before .before .before .before .before .before .before .before .before .before .before .before .before .before .page-words .ensures, c .before .before .shared-slice-known5 .given (c .before .before .before .before .values .at))
+
+values-less : tie.Need-values-less Inv-values μ-values Inv-pages μ-pages Inv-regions μ-regions
+values-less c = omega arith
+
+values-again : tie.Need-values-again Inv-values μ-values Inv-pages μ-pages Inv-regions μ-regions
+values-again c = sym (rest-go _ _ _ _ _ _ (c .before .before .before .values-test .taken) (inside ((c .before .before .before .before .before))) (sym (c .before .fits2 .ensures) ∙ not-false _ (c .if3 .left))) ∙ c .before .before .before .before .values .inv
+
+passed : (c : tie.Left-values Inv-values μ-values Inv-pages μ-pages Inv-regions μ-regions) → Passed (c .before .before .before .before .before .before .before .before .before .before .before .before .before .before .before .before .before .before .args .heap .now) (c .before .values .at) (c .before .before .link-address .result .0 + c .before .before .before .before .before .before .before .before .before .before .before .before .page-words .result) (getD (c .before .before .before .before .before .before .before .before .before .before .before .before .before .before .before .before .before .before .args .heap .now) (c .before .before .link-address .result .0) 0) (c .before .before .before .before .before .before .before .before .top-of .result .0) (all (pageFilled (c .before .before .before .before .before .before .before .before .before .before .before .before .before .before .before .before .before .before .args .c .n) (c .before .before .before .before .before .before .before .before .before .before .before .before .before .before .before .before .before .before .args .heap .now) (c .before .before .before .before .before .before .before .before .before .before .before .before .before .before .before .before .before .before .args .table .now) (c .before .before .before .before .before .before .before .before .before .before .regions .j .0)) (chain (c .before .before .before .before .before .before .pages .left - 1) (c .before .before .before .before .before .before .before .before .before .before .before .before .before .before .before .before .before .before .args .c .n) (c .before .before .before .before .before .before .before .before .before .before .before .before .before .before .before .before .before .before .args .heap .now) (getD (c .before .before .before .before .before .before .before .before .before .before .before .before .before .before .before .before .before .before .args .heap .now) (c .before .before .link-address .result .0) 0)) && allFrom (λ i. all (pageFilled (c .before .before .before .before .before .before .before .before .before .before .before .before .before .before .before .before .before .before .args .c .n) (c .before .before .before .before .before .before .before .before .before .before .before .before .before .before .before .before .before .before .args .heap .now) (c .before .before .before .before .before .before .before .before .before .before .before .before .before .before .before .before .before .before .args .table .now) i) (regionPages (c .before .before .before .before .before .before .before .before .before .before .before .before .before .before .before .before .before .before .args .c .n) (c .before .before .before .before .before .before .before .before .before .before .before .before .before .before .before .before .before .before .args .heap .now) (c .before .before .before .before .before .before .before .before .before .before .before .before .before .before .before .before .before .before .args .table .now) i)) (c .before .before .before .before .before .before .before .before .before .before .regions .regions-left - 1) (c .before .before .before .before .before .before .before .before .before .before .regions .j .0 + 1)) (allFrom (λ i. all (pageFilled (c .before .before .before .before .before .before .before .before .before .before .before .before .before .before .before .before .before .before .args .c .n) (c .before .before .before .before .before .before .before .before .before .before .before .before .before .before .before .before .before .before .args .heap .now) (c .before .before .before .before .before .before .before .before .before .before .before .before .before .before .before .before .before .before .args .table .now) i) (regionPages (c .before .before .before .before .before .before .before .before .before .before .before .before .before .before .before .before .before .before .args .c .n) (c .before .before .before .before .before .before .before .before .before .before .before .before .before .before .before .before .before .before .args .heap .now) (c .before .before .before .before .before .before .before .before .before .before .before .before .before .before .before .before .before .before .args .table .now) i)) (c .before .before .before .before .before .before .before .before .before .before .before .before .before .before .before .before .before .before .args .c .regions) 0)
+passed c = record { left = ⊎-elim (λ w. sym (rest-end _ _ _ _ _ _ (w .left)) ∙ c .before .values .inv) (λ w. sym (rest-stop _ _ _ _ _ _ (w .0 .taken) (inside ((c .before .before))) (sym (w .2 .ensures) ∙ not-true _ (w .3 .taken))) ∙ c .before .values .inv) (c .values-test .came) }
+
+zero-between-requires :
+    tie.Need-zero-between-requires Inv-values μ-values Inv-pages μ-pages Inv-regions μ-regions
+zero-between-requires c κs = inside ((c .before .before))
+
+mul-link : tie.Need-mul-link Inv-values μ-values Inv-pages μ-pages Inv-regions μ-regions
+mul-link c = omega (arith, here ((c .before .before .before .before)))
+
+shared-slice-read-link :
+    tie.Need-shared-slice-read-link Inv-values μ-values Inv-pages μ-pages Inv-regions μ-regions
+shared-slice-read-link c = omega (arith, here ((c .before .before .before .before .before)))
+
+sub-left : tie.Need-sub-left Inv-values μ-values Inv-pages μ-pages Inv-regions μ-regions
+sub-left c = omega arith
+
+pages-less : tie.Need-pages-less Inv-values μ-values Inv-pages μ-pages Inv-regions μ-regions
+pages-less c = omega arith
+
+pages-again : tie.Need-pages-again Inv-values μ-values Inv-pages μ-pages Inv-regions μ-regions
+pages-again c = (page-on (passed ((c .before .before .before .before))) (sym (c .before .before .before .zero-between .ensures) ∙ not-false _ (c .before .before .if4 .left)) (c .if5 .taken), c .before .before .before .before .before .before .before .before .before .before .pages .inv .1)
+
+pages-less-2 : tie.Need-pages-less-2 Inv-values μ-values Inv-pages μ-pages Inv-regions μ-regions
+pages-less-2 c = omega arith
+
+pages-again-2 : tie.Need-pages-again-2 Inv-values μ-values Inv-pages μ-pages Inv-regions μ-regions
+pages-again-2 c = (page-at (passed ((c .before .before .before .before .before))) (sym (c .before .before .before .before .zero-between .ensures) ∙ not-false _ (c .before .before .before .if4 .left)) (c .before .if5 .left) (c .if6 .left), c .before .before .before .before .before .before .before .before .before .before .before .pages .inv .1)
+
+add-t37 : tie.Need-add-t37 Inv-values μ-values Inv-pages μ-pages Inv-regions μ-regions
+add-t37 c = omega arith
+
+sub-regions-left :
+    tie.Need-sub-regions-left Inv-values μ-values Inv-pages μ-pages Inv-regions μ-regions
+sub-regions-left c = omega arith
+
+regions-less : tie.Need-regions-less Inv-values μ-values Inv-pages μ-pages Inv-regions μ-regions
+regions-less c = omega arith
+
+regions-again : tie.Need-regions-again Inv-values μ-values Inv-pages μ-pages Inv-regions μ-regions
+regions-again c = (sym (pages-over _ _ _ _ _ _ _ _ (over ((c .before)))) ∙ c .before .before .pages .inv .0, c .before .before .pages .inv .1, omega arith)
+
+returns : tie.Need-returns Inv-values μ-values Inv-pages μ-pages Inv-regions μ-regions
+unfolding rule5
+returns c = c .before .regions .inv .1 ∙ sym (from-end _ _ _ (c .regions-test .left)) ∙ c .before .regions .inv .0
+
+returns-2 : tie.Need-returns-2 Inv-values μ-values Inv-pages μ-pages Inv-regions μ-regions
+unfolding rule5
+returns-2 c = zeros-off (passed ((c .before .before))) (sym (c .before .zero-between .ensures) ∙ not-true _ (c .if4 .taken))
+
+returns-3 : tie.Need-returns-3 Inv-values μ-values Inv-pages μ-pages Inv-regions μ-regions
+unfolding rule5
+returns-3 c = page-off (passed ((c .before .before .before .before .before))) (sym (c .before .before .before .before .zero-between .ensures) ∙ not-false _ (c .before .before .before .if4 .left)) (c .before .if5 .left) (c .if6 .taken)
+
+pub rule5-spec : {M : Type 1} → statement M
+rule5-spec =
+    tie.close
+    (tie.spec
+    Inv-values
+    μ-values
+    Inv-pages
+    μ-pages
+    Inv-regions
+    μ-regions
+    cast-regions
+    page-words-requires
+    page-count-requires
+    cast-pages
+    regions-holds
+    top-of-requires
+    first-link-requires
+    pages-holds
+    link-address-requires
+    add-end
+    add-at
+    values-holds
+    mul-head
+    shared-slice-read-head
+    add-fits
+    sub-fits
+    fits-requires
+    add-at-2
+    cast-at
+    add-at-3
+    values-less
+    values-again
+    zero-between-requires
+    mul-link
+    shared-slice-read-link
+    sub-left
+    pages-less
+    pages-again
+    pages-less-2
+    pages-again-2
+    add-t37
+    sub-regions-left
+    regions-less
+    regions-again
+    returns
+    returns-2
+    returns-3)

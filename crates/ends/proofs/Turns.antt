@@ -1,0 +1,94 @@
+-- The turn laws of rules 4 and 9: at each region and at each page, what is left to test is what was left before.
+use Prim.Native.Nat.{ℕ, zero, suc, _+_, _-_, _*_, _/_, _^_, _≤_, _<_}
+use mathlib.Core.Path.{_≡_, refl, sym, ap, _∙_}
+use mathlib.Core.Bool.{Bool, true, false, _&&_}
+use mathlib.Core.List.{List}
+use native.Mathlib.Omega.{arith}
+use borrow.Author.Tests.{le-leb, lt-leb, eq-eqb, ne-eqb}
+use lib.Dec.{leb, eqb}
+use lib.ListN.{length, getD}
+use lib.Seq.{slice}
+use Rattle.laws.specs.Lists.{all, allFrom, allBelow, zeros}
+use Rattle.laws.proofs.Tests.{and-left, and-right, and-yes, and-assoc, below-in, from-go, from-stop}
+use Rattle.laws.proofs.Facts.{and-of, same-test, below-of}
+use Rattle.rules.specs.declared.Control.{Control}
+use Rattle.rules.specs.Memory.{Store, lent, link, pageEnd, endOf, topOf, firstLink, chain, regionPages, freePages}
+use Rattle.rules.specs.Audit.{ifLast, endsAt, topFits, clean, rule4, rule9}
+use Rattle.rules.proofs.Chains.{page-from}
+use Rattle.rules.proofs.Nests.{pages-go, last-not, last-is}
+
+-- ---- a
+
+module _ (n : ℕ) (t : List ℕ) (j e a p : ℕ) (qe : e ≡ endOf t j) (qa : a ≡ topOf t j) (qp : p ≡ 2 ^ n) where
+  pub top-low : a + p < e + 2 → topFits n t j ≡ false
+  unfolding topFits
+  top-low b = rw (← qe, ← qa, ← qp, lt-leb _ _ b)
+
+  pub top-is : e + 2 ≤ a + p → topFits n t j ≡ leb a e
+  unfolding topFits
+  top-is b = rw (← qe, ← qa, ← qp, le-leb _ _ b)
+
+-- ---- rule 4, region by region
+
+unfoldable pub regionEnds : ℕ → List ℕ → List ℕ → ℕ → Bool
+regionEnds n h t j = topFits n t j && all (endsAt n h t j) (regionPages n h t j)
+
+both-below : (a b : ℕ → Bool) (m : ℕ) → (allBelow a m && allBelow b m) ≡ allBelow (λ j. b j && a j) m
+both-below a b m =
+    same-test (allBelow a m && allBelow b m) (allBelow (λ j. b j && a j) m)
+    (λ t. below-of (λ j. b j && a j) m (λ j l. and-of (below-in b m (and-right (allBelow a m) (allBelow b m) t) j l) (below-in a m (and-left (allBelow a m) (allBelow b m) t) j l)))
+    (λ t.
+    let each = below-in (λ j. b j && a j) m t in
+    and-of (below-of a m (λ j l. and-right (b j) (a j) (each j l))) (below-of b m (λ j l. and-left (b j) (a j) (each j l))))
+
+pub four-each : (h t r k : List ℕ) (c : Control) → allFrom (regionEnds (c .n) h t) (c .regions) 0 ≡ rule4 (lent h t r k c)
+unfolding rule4 regionEnds
+four-each h t r k c = sym (both-below (λ j. all (endsAt (c .n) h t j) (regionPages (c .n) h t j)) (topFits (c .n) t) (c .regions))
+
+module _ (n N : ℕ) (h t : List ℕ) (e : N ≡ length h / 2 ^ n) (m j : ℕ) (b : 0 < m) where
+  pub four-shut : topFits n t j ≡ false → allFrom (regionEnds n h t) m j ≡ false
+  unfolding regionEnds
+  four-shut o = from-stop (regionEnds n h t) m j b (rw o)
+
+  pub four-open : (l : ℕ) → topFits n t j ≡ true → l ≡ firstLink n t j
+      → allFrom (regionEnds n h t) m j ≡ (all (endsAt n h t j) (chain N n h l) && allFrom (regionEnds n h t) (m - 1) (j + 1))
+  unfolding regionEnds regionPages
+  four-open l o g = from-go (regionEnds n h t) m j b ∙ rw (o, e, g)
+
+-- ---- the pages of a region
+
+-- a page of region j, whose e is d; p is its size
+module _ (n N : ℕ) (h t : List ℕ) (e : N ≡ length h / 2 ^ n) (f k j d p : ℕ) (qd : d ≡ endOf t j) (qp : p ≡ 2 ^ n) (r : Bool)
+    (b : ℕ) (q : b ≡ (k - 1) * 2 ^ n) (l : 0 < f) (z : k ≡ 0 → ⊥) (c : k ≤ N) where
+  abbrev pub Rest : Bool
+  Rest = all (endsAt n h t j) (chain (f - 1) n h (getD h b 0)) && r
+
+  turn : (all (endsAt n h t j) (chain f n h k) && r) ≡ (ifLast (getD h b 0) (eqb d (b + p)) && Rest)
+  unfolding endsAt link
+  turn = pages-go n N h e f k (endsAt n h t j) r b q l z c ∙ rw (q, qd, qp)
+
+  pub four-on : 0 < getD h b 0 → (all (endsAt n h t j) (chain f n h k) && r) ≡ Rest
+  four-on x = turn ∙ last-not (getD h b 0) (eqb d (b + p)) Rest x
+
+  pub four-at : getD h b 0 ≤ 0 → d ≡ b + p → (all (endsAt n h t j) (chain f n h k) && r) ≡ Rest
+  four-at x y = turn ∙ last-is (getD h b 0) (eqb d (b + p)) Rest x ∙ rw (eq-eqb _ _ y)
+
+  pub four-off : getD h b 0 ≤ 0 → (d ≡ b + p → ⊥) → (all (endsAt n h t j) (chain f n h k) && r) ≡ false
+  four-off x y = turn ∙ last-is (getD h b 0) (eqb d (b + p)) Rest x ∙ rw (ne-eqb _ _ y)
+
+-- ---- rule 9
+
+pub nine-open : (h t r k : List ℕ) (c : Control) (N : ℕ) → N ≡ length h / 2 ^ c .n → (all (clean (c .n) h) (chain N (c .n) h (c .first)) && true) ≡ rule9 (lent h t r k c)
+unfolding rule9 freePages
+nine-open h t r k c N e = rw e (and-yes _)
+
+module _ (n N : ℕ) (h : List ℕ) (e : N ≡ length h / 2 ^ n) (f k p : ℕ) (qp : p ≡ 2 ^ n) (r : Bool) (b : ℕ) (q : b ≡ (k - 1) * 2 ^ n) (l : 0 < f) (z : k ≡ 0 → ⊥) (c : k ≤ N) where
+  turn9 : (all (clean n h) (chain f n h k) && r) ≡ (zeros (slice (b + 1) (b + p) h) && (all (clean n h) (chain (f - 1) n h (getD h b 0)) && r))
+  unfolding clean
+  turn9 = pages-go n N h e f k (clean n h) r b q l z c ∙ rw (page-from 1 n h (k - 1), q, qp)
+
+  pub nine-go : zeros (slice (b + 1) (b + p) h) ≡ true → (all (clean n h) (chain f n h k) && r) ≡ (all (clean n h) (chain (f - 1) n h (getD h b 0)) && r)
+  nine-go t = turn9 ∙ rw t
+
+  pub nine-stop : zeros (slice (b + 1) (b + p) h) ≡ false → (all (clean n h) (chain f n h k) && r) ≡ false
+  nine-stop t = turn9 ∙ rw t

@@ -1,0 +1,102 @@
+-- `ends::rule9` meets its contract: what is left to test from the present page on is the whole rule.
+use mathlib.Core.Path.{_≡_, refl, sym, _∙_}
+use mathlib.Core.Bool.{true, _&&_}
+use Prim.Native.Nat.{_+_, _-_, _*_, _^_, _<_, _≤_}
+use native.Mathlib.Omega.{arith}
+use borrow.Author.Tests.{not-true, not-false}
+use lib.ListN.{length, getD}
+use Rattle.laws.specs.Lists.{all}
+use Rattle.rules.specs.Memory.{chain}
+use Rattle.rules.specs.Audit.{clean}
+use Rattle.rules.proofs.Limits.{Inside, page-here, page-size, pages-few}
+use Rattle.rules.proofs.Nests.{over-fuel, over-none, over-bad, pages-over}
+use Rattle.ends.proofs.Turns.{nine-open, nine-go, nine-stop}
+use Rattle.ends.proofs.rule9.Statement.{statement}
+use Rattle.ends.proofs.rule9.Tie as tie
+
+abbrev Inv-pages : tie.InvT-pages
+Inv-pages heap table roots consts n first size pages fine₀ link₀ left₀ fine link left = ((all (clean n heap) (chain left n heap link) && true) ≡ (all (clean n heap) (chain pages n heap first) && true)) × (fine ≡ true)
+
+abbrev μ-pages : tie.MeasureT-pages
+μ-pages heap table roots consts n first size pages fine₀ link₀ left₀ fine link left = left
+
+page-words-requires : tie.Need-page-words-requires Inv-pages μ-pages
+page-words-requires c κs = omega arith
+
+page-count-requires : tie.Need-page-count-requires Inv-pages μ-pages
+page-count-requires c κs = omega arith
+
+few : (c : tie.After-page-count Inv-pages μ-pages) → c .page-count .result ≤ 65536
+few c = pages-few _ _ _ (c .before .before .before .before .before .before .pre .paged) (c .page-count .ensures)
+
+cast-pages : tie.Need-cast-pages Inv-pages μ-pages
+cast-pages c = omega (arith, few c)
+
+pages-holds : tie.Need-pages-holds Inv-pages μ-pages
+pages-holds c = (refl, refl)
+
+link-address-requires : tie.Need-link-address-requires Inv-pages μ-pages
+link-address-requires c κs = omega (arith, few ((c .before .before .before .before)))
+
+here : (c : tie.After-link-address Inv-pages μ-pages) → Inside (2 ^ c .before .before .before .before .before .before .before .before .before .before .before .args .c .n) (c .link-address .result .0) (length (c .before .before .before .before .before .before .before .before .before .before .before .args .heap .now))
+here c = page-here _ _ _ _ _ (c .before .before .before .before .before .before .before .before .before .before .before .pre .paged) (c .before .before .before .before .before .page-count .ensures) (c .link-address .ensures) (c .before .before .if1 .left) (c .before .if2 .left)
+
+add-link : tie.Need-add-link Inv-pages μ-pages
+add-link c = omega (arith, here c)
+
+add-t19 : tie.Need-add-t19 Inv-pages μ-pages
+add-t19 c = omega (arith, here c, c .before .before .before .before .before .before .page-words .ensures)
+
+zero-between-requires : tie.Need-zero-between-requires Inv-pages μ-pages
+zero-between-requires c κs = omega (arith, here c, c .before .before .before .before .before .before .page-words .ensures)
+
+mul-link : tie.Need-mul-link Inv-pages μ-pages
+mul-link c = omega (arith, here ((c .before .before)))
+
+shared-slice-read-link : tie.Need-shared-slice-read-link Inv-pages μ-pages
+shared-slice-read-link c = omega (arith, here ((c .before .before .before)))
+
+sub-left : tie.Need-sub-left Inv-pages μ-pages
+sub-left c = omega arith
+
+pages-less : tie.Need-pages-less Inv-pages μ-pages
+pages-less c = omega arith
+
+pages-again : tie.Need-pages-again Inv-pages μ-pages
+pages-again c = (sym (nine-go _ _ _ (c .before .before .before .before .before .before .before .before .page-count .ensures) _ _ _ (c .before .before .before .before .before .before .before .before .before .page-words .ensures) _ _ (c .before .before .before .link-address .ensures) (c .before .before .before .before .before .before .pages-test .taken) (c .before .before .before .before .before .if1 .left) (c .before .before .before .before .if2 .left) (sym (c .before .before .zero-between .ensures) ∙ not-false _ (c .before .if3 .left))) ∙ c .before .before .before .before .before .before .before .pages .inv .0, c .before .before .before .before .before .before .before .pages .inv .1)
+
+returns : tie.Need-returns Inv-pages μ-pages
+returns c = c .before .pages .inv .1 ∙ sym (pages-over _ _ _ _ _ _ _ _ (over-fuel _ _ _ (c .before .before .page-count .ensures) _ _ (c .pages-test .left))) ∙ c .before .pages .inv .0 ∙ nine-open _ _ _ _ _ _ (c .before .before .page-count .ensures)
+
+returns-2 : tie.Need-returns-2 Inv-pages μ-pages
+returns-2 c = c .before .before .pages .inv .1 ∙ sym (pages-over _ _ _ _ _ _ _ _ (over-none _ _ _ (c .before .before .before .page-count .ensures) _ _ (c .if1 .taken))) ∙ c .before .before .pages .inv .0 ∙ nine-open _ _ _ _ _ _ (c .before .before .before .page-count .ensures)
+
+returns-3 : tie.Need-returns-3 Inv-pages μ-pages
+returns-3 c = c .before .before .before .pages .inv .1 ∙ sym (pages-over _ _ _ _ _ _ _ _ (over-bad _ _ _ (c .before .before .before .before .page-count .ensures) _ _ (c .if2 .taken))) ∙ c .before .before .before .pages .inv .0 ∙ nine-open _ _ _ _ _ _ (c .before .before .before .before .page-count .ensures)
+
+returns-4 : tie.Need-returns-4 Inv-pages μ-pages
+returns-4 c = sym (nine-stop _ _ _ (c .before .before .before .before .before .before .before .page-count .ensures) _ _ _ (c .before .before .before .before .before .before .before .before .page-words .ensures) _ _ (c .before .before .link-address .ensures) (c .before .before .before .before .before .pages-test .taken) (c .before .before .before .before .if1 .left) (c .before .before .before .if2 .left) (sym (c .before .zero-between .ensures) ∙ not-true _ (c .if3 .taken))) ∙ c .before .before .before .before .before .before .pages .inv .0 ∙ nine-open _ _ _ _ _ _ (c .before .before .before .before .before .before .before .page-count .ensures)
+
+pub rule9-spec : {M : Type 1} → statement M
+rule9-spec =
+    tie.close
+    (tie.spec
+    Inv-pages
+    μ-pages
+    page-words-requires
+    page-count-requires
+    cast-pages
+    pages-holds
+    link-address-requires
+    add-link
+    add-t19
+    zero-between-requires
+    mul-link
+    shared-slice-read-link
+    sub-left
+    pages-less
+    pages-again
+    returns
+    returns-2
+    returns-3
+    returns-4)

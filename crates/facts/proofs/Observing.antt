@@ -1,0 +1,83 @@
+-- What a caller sees on a heap that passes is what the view has: the tests before a walk or a fetch pass.
+use Prim.Native.Nat.{ℕ, _<_}
+use mathlib.Core.Path.{_≡_, refl, sym, ap, _∙_}
+use mathlib.Core.Logic.{_↔_}
+use mathlib.Core.Bool.{Bool, true, false}
+use mathlib.Core.List.{List}
+use lib.ListN.{length}
+use lib.Dec.{leb}
+use native.Mathlib.Omega.{arith}
+use borrow.Author.Tests.{lt-leb, leb-false}
+use Rattle.laws.specs.Choice.{_⇒_∣_}
+use Rattle.laws.specs.Lists.{at}
+use Rattle.rules.specs.declared.Refusal.{Refusal}
+use Rattle.rules.specs.declared.Valued.{Valued}
+use Rattle.rules.specs.Memory.{Store}
+use Rattle.rules.specs.Audit.{usedBy}
+use Rattle.rules.specs.Calls.{lookIn, Walked, ends, stops, walkFrom, walkSays, walk, fetch, usedWords}
+use Rattle.facts.specs.View.{seen, readBy, path, reading}
+use Rattle.facts.specs.Observed.{readAt, Meet}
+use Rattle.facts.proofs.Alike.{MeetIn}
+use Rattle.facts.proofs.Sound.{Passes}
+
+module _ (s : Store) (p : Passes s) where
+  says-choice : (b : Bool) (x y : Walked) → walkSays (s .ctl) (b ⇒ x ∣ y) ≡ (b ⇒ walkSays (s .ctl) x ∣ walkSays (s .ctl) y)
+  says-choice true x y = refl
+  says-choice false x y = refl
+
+  pub walk-is : (i : ℕ) (fs : List ℕ) → walk s i fs ≡ walkSays (s .ctl) (path (seen s) (s .roots) i fs)
+  unfolding walk path
+  walk-is i fs = rw (p .limits, p .common) (sym (says-choice (leb (length (s .roots)) i) (stops Refusal.NoSuch) (walkFrom (lookIn s) (at (s .roots) i) fs)))
+
+  pub fetch-is : (w : ℕ) → fetch s w ≡ lookIn s w
+  unfolding fetch
+  fetch-is w = rw (p .limits, p .common)
+
+  pub used-is : (j : ℕ) → j < s .ctl .regions → usedWords s j ≡ Valued.Done (usedBy (s .ctl .n) (s .heap) (s .table) j) (s .ctl)
+  unfolding usedWords
+  used-is j b = rw (p .limits, p .common, p .unbroken, lt-leb (s .ctl .regions) j b)
+
+  -- no region, no answer
+  pub used-known : (j u : ℕ) → usedWords s j ≡ Valued.Done u (s .ctl) → (j < s .ctl .regions) × (usedBy (s .ctl .n) (s .heap) (s .table) j ≡ u)
+  unfolding usedWords
+  used-known j u e = go (leb (s .ctl .regions) j) refl
+    where
+      go : (b : Bool) → leb (s .ctl .regions) j ≡ b → (j < s .ctl .regions) × (usedBy (s .ctl .n) (s .heap) (s .table) j ≡ u)
+      go true q =
+          let z : Valued.Refused Refusal.NoRegion (s .ctl) ≡ Valued.Done u (s .ctl) = sym (rw (p .limits, p .common, p .unbroken, q)) ∙ e in
+          let z′ : _≡_ {A = ℕ} 0 1 = cc in
+          absurd (omega arith)
+      go false q =
+          let b = leb-false (s .ctl .regions) j q in
+          let z : Valued.Done (usedBy (s .ctl .n) (s .heap) (s .table) j) (s .ctl) ≡ Valued.Done u (s .ctl) = sym (used-is j (omega arith)) ∙ e in
+          (omega arith, cc)
+
+  reads-says : (x : Walked) → readAt s (walkSays (s .ctl) x) ≡ readBy (seen s) x
+  reads-says (stops r) = refl
+  reads-says (ends w) = rw (fetch-is w)
+
+  pub read-is : (i : ℕ) (fs : List ℕ) → readAt s (walk s i fs) ≡ reading (seen s) (s .roots) i fs
+  unfolding reading
+  read-is i fs = ap (readAt s) (walk-is i fs) ∙ reads-says (path (seen s) (s .roots) i fs)
+
+  ends-says : (x : Walked) (w : ℕ) → walkSays (s .ctl) x ≡ Valued.Done w (s .ctl) → x ≡ ends w
+  ends-says (ends v) w e = let q : v ≡ w = cc in ap ends q
+  ends-says (stops r) w e = let z : _≡_ {A = ℕ} 0 1 = cc in absurd (omega arith)
+
+  pub meet-is : (i : ℕ) (fs : List ℕ) (j : ℕ) (gs : List ℕ) → Meet s i fs j gs ↔ MeetIn (seen s) (s .roots) i fs j gs
+  meet-is i fs j gs = (
+    λ m.
+        record {
+          word = m .word;
+          one = ends-says (path (seen s) (s .roots) i fs) (m .word) (sym (walk-is i fs) ∙ m .one);
+          other = ends-says (path (seen s) (s .roots) j gs) (m .word) (sym (walk-is j gs) ∙ m .other);
+          pointer = m .pointer;
+        },
+    λ m.
+        record {
+          word = m .word;
+          one = walk-is i fs ∙ ap (walkSays (s .ctl)) (m .one);
+          other = walk-is j gs ∙ ap (walkSays (s .ctl)) (m .other);
+          pointer = m .pointer;
+        },
+  )

@@ -1,0 +1,283 @@
+-- From facts to the audit's tests: a `Sound` heap passes, so that `Sound` is exactly what the audit's yes means. The chains are the lists
+-- that `Sound` names, since linked pages of which each stands once are at most N.
+use Prim.Native.Nat.{ℕ, zero, suc, _+_, _*_, _/_, _%_, _^_, _≤_, _<_, zero-le}
+use native.Mathlib.Nat.{mul-div-left, mul-mod-left}
+use native.Mathlib.Omega.{arith}
+use mathlib.Core.Path.{_≡_, refl, sym, ap, _∙_}
+use mathlib.Core.Logic.{_↔_}
+use mathlib.Core.Bool.{Bool, true, false, Bool·beq}
+use mathlib.Core.List.{List, List·Memᴰ, List·Memᴰ·head, Memᴰ·append-left, Memᴰ·append-right}
+use lib.ListN.{length, drop, length-drop}
+use lib.Seq.{getD-drop}
+use lib.Dec.{eqb}
+use borrow.Author.Tests.{lt-ltb, le-leb, eq-eqb, ne-eqb}
+use Rattle.laws.specs.Lists.{at, all}
+use Rattle.laws.proofs.Facts.{and-of, all-of, at-all, below-of, zeros-of}
+use Rattle.laws.proofs.Once.{Once, last-in, last-one, Linked, stop, goes, linked-ends, once-most, once-each}
+use Rattle.rules.specs.declared.Control.{Control}
+use Rattle.rules.specs.declared.Refusal.{Refusal}
+use Rattle.rules.specs.declared.Plain.{Plain}
+use Rattle.rules.specs.Memory.{Store, limits, pageCount, regionOrigin, pageWords, bodyWords, link, origin, endOf, firstOf, topOf, statusOf, chain, chainEnd, firstLink, regionPages, freePages, pagesFrom}
+use Rattle.rules.specs.Words.{pageVals, usedOf, fieldsPass}
+use Rattle.rules.specs.Audit.{eachPage, ifLast, rule2, opens, endsWell, lastLink, allChains, rule3, endsAt, topFits, rule4, filled, pageFilled, rule5, goodWord, rule6, rule7, constField, rule8, clean, rule9, firstFailing, brokenRule}
+use Rattle.rules.specs.Refusals.{Paged, common, withinLimits, commonTest}
+use Rattle.rules.specs.Calls.{audit}
+use Rattle.rules.proofs.Chains.{length-page, at-page}
+use Rattle.rules.proofs.Whole.{linked-chain, chains-once, of-pages}
+use Rattle.facts.proofs.Steps.{steps-le, Holds}
+use Rattle.facts.proofs.Laid.{spare≢beyond, mine≢beyond, Body}
+use Rattle.facts.proofs.Filled.{vals-used, filled-of, fields-of}
+use Rattle.facts.proofs.Goods.{page-ends, body-holds, body-ends, of-good, of-const}
+use Rattle.facts.proofs.Sound.{Within, Chained, in-free, in-region, Sound, Passes}
+use Rattle.facts.proofs.Means.{Rules, sound-of}
+
+pub hold-rules : (s : Store) → Rules s → brokenRule s ≡ 0
+unfolding brokenRule firstFailing
+hold-rules s r = rw (firstFailing, r .two, r .three, r .four, r .five, r .six, r .seven, r .eight, r .nine)
+
+-- ---- the limits
+
+pub within-limits : (s : Store) → Within s → withinLimits s ≡ true
+unfolding limits
+within-limits s w =
+    and-of (and-of (and-of (and-of (and-of (and-of (and-of
+    (le-leb _ _ (w .paged .low)) (le-leb _ _ (w .paged .high))) (eq-eqb _ _ (w .paged .whole))) (le-leb _ _ (w .two))) (le-leb _ _ (w .paged .size)))
+    (eq-eqb _ _ (w .table))) (le-leb _ _ (w .roots))) (le-leb _ _ (w .consts))
+
+module _ (s : Store) (S : Sound s) where
+  abbrev n : ℕ
+  n = s .ctl .n
+
+  abbrev N : ℕ
+  N = pageCount (s .ctl .n) (s .heap)
+
+  abbrev R : ℕ
+  R = s .ctl .regions
+
+  abbrev paged : Paged (s .ctl .n) (length (s .heap))
+  paged = S .within .paged
+
+  mine-there : (j k : ℕ) → j < R → List·Memᴰ k (S .pages j) → k < N
+  mine-there j k b m = S .laid .known k (mine≢beyond (S .laid .mine-own j k b m))
+
+  free-there : (k : ℕ) → List·Memᴰ k (S .free) → k < N
+  free-there k m = S .laid .known k (spare≢beyond (S .laid .free-own k m))
+
+  -- ---- the chains are those that the facts name
+
+  first-page : (j : ℕ) (b : j < R) → firstLink n (s .table) j ≡ suc (S .laid .mine-links j b .0)
+  first-page j b = ap suc (ap (λ x. x / 2 ^ n) (S .laid .mine-links j b .1) ∙ mul-div-left (S .laid .mine-links j b .0) {n = 2 ^ n} (let g = S .laid .big in omega arith))
+
+  chain-is : (j : ℕ) → j < R → (chain N n (s .heap) (firstLink n (s .table) j) ≡ S .pages j) × (chainEnd N n (s .heap) (firstLink n (s .table) j) ≡ 0)
+  chain-is j b =
+      rw (first-page j b)
+      (linked-chain n (s .heap) N (S .laid .mine-links j b .2) (λ k m. mine-there j k b m)
+      (once-most N (λ k m. mine-there j k b m) (S .laid .mine-once j b)))
+
+  free-is : (chain N n (s .heap) (s .ctl .first) ≡ S .free) × (chainEnd N n (s .heap) (s .ctl .first) ≡ 0)
+  free-is = linked-chain n (s .heap) N (S .laid .free-links) free-there (once-most N free-there (S .laid .free-once))
+
+  pub pages-are : (j : ℕ) → j < R → regionPages n (s .heap) (s .table) j ≡ S .pages j
+  unfolding regionPages
+  pages-are j b = chain-is j b .0
+
+  pub free-are : freePages n (s .heap) (s .ctl .first) ≡ S .free
+  unfolding freePages
+  free-are = free-is .0
+
+  whose : (j k : ℕ) → j < R → List·Memᴰ k (S .pages j) → origin n (s .heap) k ≡ suc j
+  unfolding origin
+  whose j k b m = S .laid .mine-body j k (S .laid .mine-own j k b m) .whose
+
+  nobodys : (k : ℕ) → List·Memᴰ k (S .free) → origin n (s .heap) k ≡ 0
+  unfolding origin
+  nobodys k m = let g = S .laid .big in S .laid .free-clean k (S .laid .free-own k m) .rest (k * 2 ^ n + 1) (omega arith) (omega arith)
+
+  -- ---- the common test
+
+  first-fits : (ks : List ℕ) {x : ℕ} → Linked (link n (s .heap)) x ks → ((k : ℕ) → List·Memᴰ k ks → k < N) → x ≤ N
+  first-fits ks stop f = zero-le
+  first-fits ks (goes {k} t) f = f k (List·Memᴰ·head refl)
+
+  both-or-none : (ks : List ℕ) {x c : ℕ} → Linked (link n (s .heap)) x ks → c ≡ length ks → Bool·beq (eqb x 0) (eqb c 0) ≡ true
+  both-or-none ks stop e = rw e
+  both-or-none ks (goes {k} {ks = ms} t) e = rw (e, ne-eqb (suc k) 0 (λ (q : suc k ≡ 0). omega arith), ne-eqb (suc (length ms)) 0 (λ (q : suc (length ms) ≡ 0). omega arith))
+
+  commons : commonTest s ≡ true
+  unfolding common
+  commons =
+      let c = S .laid .free-count in
+      let m = once-most N free-there (S .laid .free-once) in
+      and-of (and-of (and-of
+      (le-leb _ _ (S .regions)) (le-leb _ _ (first-fits (S .free) (S .laid .free-links) free-there))) (le-leb (s .ctl .count) N (omega arith)))
+      (both-or-none (S .free) (S .laid .free-links) c)
+
+  -- ---- the rules
+
+  -- a test of each page of each region
+  each-page : (q : ℕ → ℕ → Bool) → ((j k : ℕ) → j < R → List·Memᴰ k (S .pages j) → q j k ≡ true) → eachPage q n (s .heap) (s .table) R ≡ true
+  each-page q f =
+      below-of (λ j. all (q j) (regionPages n (s .heap) (s .table) j)) R
+      (λ j b. all-of (q j) (regionPages n (s .heap) (s .table) j) (λ k m. f j k b (rw (pages-are j b) at m)))
+
+  each-free : (q : ℕ → Bool) → ((k : ℕ) → List·Memᴰ k (S .free) → q k ≡ true) → all q (freePages n (s .heap) (s .ctl .first)) ≡ true
+  each-free q f = all-of q (freePages n (s .heap) (s .ctl .first)) (λ k m. f k (rw free-are at m))
+
+  two : rule2 s ≡ true
+  unfolding rule2
+  two =
+      and-of (and-of (le-leb _ _ (S .regions))
+      (zeros-of (drop (4 * R) (s .table))
+      (λ i b.
+      let len = S .within .table in
+      let d = length-drop (4 * R) (s .table) in
+      getD-drop (4 * R) (s .table) i 0 ∙ S .past (4 * R + i) (omega arith) (omega arith))))
+      (below-of (λ j. eqb (statusOf (s .table) j) 0) R (λ j b. eq-eqb _ _ (S .idle j b)))
+
+  chains-all-once : Once (allChains n (s .heap) (s .table) R (s .ctl .first))
+  chains-all-once =
+      chains-once n (s .heap) (s .table) R
+      (λ j b. rw (pages-are j b) (S .laid .mine-once j b))
+      (λ j k b m. whose j k b (rw (pages-are j b) at m))
+      (s .ctl .first)
+      (rw free-are (S .laid .free-once))
+      (λ k m. nobodys k (rw free-are at m))
+
+  in-chains : (k : ℕ) → Chained R (S .own) (S .pages) (S .free) k → List·Memᴰ k (allChains n (s .heap) (s .table) R (s .ctl .first))
+  in-chains k (in-free o m) = Memᴰ·append-right (pagesFrom n (s .heap) (s .table) R 0) (rw free-are m)
+  in-chains k (in-region j b o m) =
+      Memᴰ·append-left (freePages n (s .heap) (s .ctl .first)) (of-pages n (s .heap) (s .table) R 0 j k zero-le (omega arith) (rw (pages-are j b) m))
+
+  opened : (j : ℕ) → j < R → opens n (s .heap) (s .table) j ≡ true
+  unfolding opens
+  opened j b =
+      let t = S .laid .mine-links j b in
+      let g = S .laid .big in
+      and-of
+      (eq-eqb _ _ (ap (λ x. x % 2 ^ n) (t .1) ∙ mul-mod-left (t .0) (2 ^ n)))
+      (lt-ltb (firstOf (s .table) j / 2 ^ n) N (rw (ap (λ x. x / 2 ^ n) (t .1) ∙ mul-div-left (t .0) {n = 2 ^ n} (omega arith)) (first-there (t .2) (λ k m. mine-there j k b m))))
+    where
+      first-there : {l : ℕ → ℕ} {k : ℕ} {ks : List ℕ} → Linked l (suc k) ks → ((x : ℕ) → List·Memᴰ x ks → x < N) → k < N
+      first-there (goes {k} t) f = f k (List·Memᴰ·head refl)
+
+  three : rule3 s ≡ true
+  unfolding rule3 endsWell
+  three =
+      and-of (and-of (and-of (and-of (and-of (and-of (and-of
+      (below-of (opens n (s .heap) (s .table)) R opened)
+      (once-each N chains-all-once (λ k b. in-chains k (S .chained k b))))
+      (below-of (λ j. endsWell n (s .heap) (firstLink n (s .table) j)) R (λ j b. eq-eqb _ _ (chain-is j b .1))))
+      (eq-eqb _ _ (free-is .1)))
+      (each-page (λ j k. eqb (origin n (s .heap) k) (regionOrigin j)) (λ j k b m. eq-eqb _ _ (whose j k b m))))
+      (each-free (λ k. eqb (origin n (s .heap) k) 0) (λ k m. eq-eqb _ _ (nobodys k m))))
+      (eq-eqb _ _ (S .laid .free-last ∙ ap lastLink (sym free-are))))
+      (eq-eqb _ _ (S .laid .free-count ∙ ap length (sym free-are)))
+
+  -- a page whose link is 0 is the last
+  if-last : (j k : ℕ) (b : j < R) → List·Memᴰ k (S .pages j) → (t : Bool) → (k ≡ S .laid .mine-top j b .0 → t ≡ true) → ifLast (link n (s .heap) k) t ≡ true
+  unfolding ifLast
+  if-last j k b m t f = go (link n (s .heap) k) refl
+    where
+      go : (l : ℕ) → link n (s .heap) k ≡ l → ifLast l t ≡ true
+      go zero e = f (last-one (linked-ends (S .laid .mine-links j b .2) m e) (S .laid .mine-top j b .1))
+      go (suc l) e = refl
+
+  body : (j k : ℕ) → j < R → List·Memᴰ k (S .pages j) → Body n (s .heap) k j (S .fin k)
+  body j k b m = S .laid .mine-body j k (S .laid .mine-own j k b m)
+
+  four : rule4 s ≡ true
+  unfolding rule4 endsAt topFits
+  four =
+      and-of
+      (each-page (endsAt n (s .heap) (s .table))
+      (λ j k b m. if-last j k b m _ (λ e. eq-eqb _ _ (S .laid .mine-top j b .2 ∙ ap (λ x. x * 2 ^ n + 2 ^ n) (sym e)))))
+      (below-of (topFits n (s .table)) R
+      (λ j b.
+      let t = S .laid .mine-top j b in
+      let x = body j (t .0) b (last-in (t .1)) in
+      let lo = steps-le (x .filled) in
+      let hi = x .inside in
+      let e = t .2 in
+      let a = t .3 in
+      and-of (le-leb (endOf (s .table) j + 2) (topOf (s .table) j + 2 ^ n) (omega arith)) (le-leb (topOf (s .table) j) (endOf (s .table) j) (omega arith))))
+
+  ends-at : (j k : ℕ) → j < R → List·Memᴰ k (S .pages j) → k * 2 ^ n + 2 + usedOf (pageVals n (s .heap) k) ≡ S .fin k
+  unfolding pageVals
+  ends-at j k b m =
+      let x = body j k b m in
+      let there = mine-there j k b m in
+      vals-used (s .heap) (k * 2 ^ n + 2 ^ n) (x .filled) (bodyWords n (s .heap) k) (body-holds n (s .heap) paged k there) (body-ends n (s .heap) paged k there) (x .rest)
+
+  five : rule5 s ≡ true
+  unfolding rule5 pageFilled
+  five =
+      each-page (pageFilled n (s .heap) (s .table))
+      (λ j k b m.
+      let x = body j k b m in
+      let there = mine-there j k b m in
+      and-of
+      (filled-of (s .heap) (k * 2 ^ n + 2 ^ n) (k * 2 ^ n + 2) (bodyWords n (s .heap) k) (body-holds n (s .heap) paged k there) (body-ends n (s .heap) paged k there) (S .fin k) (x .filled) (x .rest))
+      (if-last j k b m _ (λ e. eq-eqb _ _ (ends-at j k b m ∙ ap (S .fin) e ∙ sym (S .laid .mine-top j b .3)))))
+
+  six : rule6 s ≡ true
+  unfolding rule6 pageVals
+  six =
+      each-page (λ j k. all (fieldsPass (goodWord s)) (pageVals n (s .heap) k))
+      (λ j k b m.
+      let there = mine-there j k b m in
+      fields-of (goodWord s) (s .heap) (k * 2 ^ n + 2 ^ n) (bodyWords n (s .heap) k) (k * 2 ^ n + 2) 0 (body-holds n (s .heap) paged k there) (body-ends n (s .heap) paged k there)
+      (λ a l i st x r q.
+      let e : k * 2 ^ n + 2 + 0 ≡ k * 2 ^ n + 2 = omega arith in
+      of-good n R (s .heap) (s .consts) paged (at (s .heap) (a + suc i)) (S .fields j k a l i b m (rw e at st) x r q)))
+
+  seven : rule7 s ≡ true
+  unfolding rule7
+  seven = at-all (goodWord s) (s .roots) (λ i b. of-good n R (s .heap) (s .consts) paged (at (s .roots) i) (S .roots i b))
+
+  eight : rule8 s ≡ true
+  unfolding rule8
+  eight =
+      let whole : Holds (s .consts) 0 (s .consts) = record { word = λ i q. ap (at (s .consts)) (omega arith) } in
+      and-of
+      (filled-of (s .consts) (length (s .consts)) 0 (s .consts) whole (omega arith) (S .consts .fin) (S .consts .filled) (S .consts .rest))
+      (fields-of (constField (s .consts)) (s .consts) (length (s .consts)) (s .consts) 0 0 whole (omega arith)
+      (λ a l i st x r q. of-const (s .consts) (at (s .consts) (a + suc i)) (S .consts .fields a l i st x r q)))
+
+  nine : rule9 s ≡ true
+  unfolding rule9 clean
+  nine =
+      each-free (clean n (s .heap))
+      (λ k m.
+      let len = length-page n (s .heap) k (page-ends n (s .heap) paged k (free-there k m)) in
+      let d = length-drop 1 (pageWords n (s .heap) k) in
+      zeros-of (drop 1 (pageWords n (s .heap) k))
+      (λ i b.
+      getD-drop 1 (pageWords n (s .heap) k) i 0 ∙ at-page n (s .heap) k (1 + i) (omega arith)
+      ∙ S .laid .free-clean k (S .laid .free-own k m) .rest (k * 2 ^ n + (1 + i)) (omega arith) (omega arith)))
+
+  pub passes-of : Passes s
+  passes-of =
+      record {
+        limits = within-limits s (S .within);
+        common = commons;
+        unbroken = hold-rules s (record { two = two; three = three; four = four; five = five; six = six; seven = seven; eight = eight; nine = nine });
+      }
+
+-- ---- the meaning of yes
+
+pub meaning : (s : Store) → Passes s ↔ Sound s
+meaning s = (λ p. sound-of s (p .limits) (p .common) (p .unbroken), λ S. passes-of s S)
+
+-- the audit as a call says yes exactly when the heap passes
+pub audit-yes : (s : Store) → (audit s ≡ Plain.Done (s .ctl)) ↔ Passes s
+unfolding audit
+audit-yes s = (λ e. go (withinLimits s) refl (commonTest s) refl (brokenRule s) refl e, λ p. rw (p .limits, p .common, p .unbroken))
+  where
+    no-way : {A : Type 0} {r : Refusal} {c d : Control} → Plain.Refused r c ≡ Plain.Done d → A
+    no-way e = let z : _≡_ {A = ℕ} 0 1 = cc in absurd (omega arith)
+
+    go : (l : Bool) → withinLimits s ≡ l → (c : Bool) → commonTest s ≡ c → (b : ℕ) → brokenRule s ≡ b → audit s ≡ Plain.Done (s .ctl) → Passes s
+    go true pl true pc zero pb e = record { limits = pl; common = pc; unbroken = pb }
+    go true pl true pc (suc i) pb e = no-way (rw (pl, pc, pb) at e)
+    go true pl false pc b pb e = no-way (rw (pl, pc) at e)
+    go false pl c pc b pb e = no-way (rw pl at e)

@@ -1,0 +1,96 @@
+-- The turn laws of the tests of roots and fields: at each page what is left to test is what was left before; and how the code decides
+-- whether a word points into a region.
+use Prim.Native.Nat.{ℕ, zero, suc, _+_, _-_, _*_, _/_, _%_, _^_, _≤_, _<_}
+use mathlib.Core.Path.{_≡_, refl, sym, ap, _∙_}
+use mathlib.Core.Bool.{Bool, true, false, _&&_, not}
+use mathlib.Core.List.{List}
+use native.Mathlib.Omega.{arith}
+use native.Mathlib.Numerals.{sub-one}
+use lib.Dec.{eqb, eqb·zero-suc, eqb·suc-suc}
+use lib.ListN.{length, getD}
+use lib.Seq.{slice, take-length}
+use Rattle.laws.specs.Lists.{all, allFrom}
+use Rattle.laws.proofs.Tests.{and-yes}
+use Rattle.rules.specs.declared.Region.{Region}
+use Rattle.rules.specs.Memory.{origin, originRegion, addressPage, chain, regionPages}
+use Rattle.rules.specs.Words.{wordOf, pointerAddress, valsIn, fieldsPass, goodIn}
+use Rattle.rules.specs.Refusals.{Paged}
+use Rattle.rules.specs.Audit.{pagePass, recordsPass}
+use Rattle.rules.specs.Calls.{pointsInto, letGo}
+use Rattle.rules.proofs.Chains.{page-vals}
+use Rattle.rules.proofs.Good.{origin-out}
+use Rattle.rules.proofs.Nests.{pages-go}
+use Rattle.fields.specs.declared.Wanted.{Wanted}
+use Rattle.fields.specs.Passing.{passes}
+
+-- ---- the fields of the records of the m regions from j on
+
+abbrev pub Records : (ℕ → Bool) → ℕ → List ℕ → List ℕ → ℕ → ℕ → Bool
+Records g n h t m j = allFrom (λ i. all (pagePass g n h) (regionPages n h t i)) m j
+
+-- at the link k; b is the page's address and p its size
+pub page-records : (g : ℕ → Bool) (n N : ℕ) (h : List ℕ) (e : N ≡ length h / 2 ^ n) (f k p : ℕ) → p ≡ 2 ^ n → (r : Bool) (b : ℕ) → b ≡ (k - 1) * 2 ^ n → 0 < f → (k ≡ 0 → ⊥) → k ≤ N
+    → (all (pagePass g n h) (chain f n h k) && r) ≡ (all (fieldsPass g) (valsIn h (b + 2) (b + p)) && (all (pagePass g n h) (chain (f - 1) n h (getD h b 0)) && r))
+page-records g n N h e f k p qp r b q l z c = pages-go n N h e f k (pagePass g n h) r b q l z c ∙ rw (q, qp, ← page-vals n h (k - 1))
+
+-- all words of a list
+pub words-all : (p : ℕ → Bool) (h : List ℕ) → (all p (slice 0 (length h) h) && true) ≡ all p h
+words-all p h = rw (take-length h) (and-yes _)
+
+-- ---- pointing into region j
+
+into-by : (r n : ℕ) (h : List ℕ) (j w : ℕ) → w % 4 ≡ r → (r ≡ 0 → ⊥) → pointsInto n h j w ≡ false
+unfolding pointsInto wordOf
+into-by zero n h j w e ne = absurd (ne refl)
+into-by (suc zero) n h j w e ne = rw (pointsInto, e)
+into-by (suc (suc zero)) n h j w e ne = rw (pointsInto, e)
+into-by (suc (suc (suc r))) n h j w e ne = rw (pointsInto, e)
+
+pub into-not : (n : ℕ) (h : List ℕ) (j w : ℕ) → (w % 4 ≡ 0 → ⊥) → pointsInto n h j w ≡ false
+into-not n h j w ne = into-by (w % 4) n h j w refl ne
+
+module _ (n : ℕ) (h : List ℕ) (j w a : ℕ) (m : w % 4 ≡ 0) (qa : a ≡ pointerAddress w) where
+  into-is : pointsInto n h j w ≡ eqb (origin n h (addressPage n a)) (suc j)
+  unfolding pointsInto wordOf
+  into-is = rw (pointsInto, m, qa)
+
+  pub into-out : Paged n (length h) → length h ≤ a → pointsInto n h j w ≡ false
+  into-out g b = into-is ∙ rw (origin-out n h a g b) (eqb·zero-suc j)
+
+  -- b is the address of its page
+  module _ (k b : ℕ) (qk : k ≡ addressPage n a) (qb : b ≡ k * 2 ^ n) where
+    into-read : pointsInto n h j w ≡ eqb (getD h (b + 1) 0) (suc j)
+    unfolding origin
+    into-read = into-is ∙ rw (qb, qk)
+
+    pub into-none : getD h (b + 1) 0 ≡ 0 → pointsInto n h j w ≡ false
+    into-none z = into-read ∙ rw z (eqb·zero-suc j)
+
+    pub into-at : (o : ℕ) → (getD h (b + 1) 0 ≡ 0 → ⊥) → o ≡ originRegion (getD h (b + 1) 0) → pointsInto n h j w ≡ eqb o j
+    into-at o ne q = into-read ∙ go (getD h (b + 1) 0) ne q
+      where
+        go : (x : ℕ) → (x ≡ 0 → ⊥) → o ≡ originRegion x → eqb x (suc j) ≡ eqb o j
+        go zero ne q = absurd (ne refl)
+        go (suc x) ne q = rw (q, sub-one (suc x)) (eqb·suc-suc x j)
+
+-- ---- what is wanted
+
+module _ (n R : ℕ) (h k : List ℕ) (v : Wanted) (w : ℕ) where
+  pub pass-good : v ≡ Wanted.Good → passes n R h k v w ≡ goodIn n R h k w
+  unfolding passes
+  pass-good e = rw e
+
+  pub pass-apart : {j : Region} → v ≡ Wanted.Apart j → passes n R h k v w ≡ not (pointsInto n h (j .0) w)
+  unfolding passes
+  pass-apart e = rw e
+
+-- ---- held, or let go
+
+module _ (n R : ℕ) (h t r k : List ℕ) (j : Region) where
+  pub go-off : all (passes n R h k (Wanted.Apart j)) r ≡ false → letGo n h t r (j .0) ≡ false
+  unfolding letGo passes
+  go-off e = rw e
+
+  pub go-at : all (passes n R h k (Wanted.Apart j)) r ≡ true → letGo n h t r (j .0) ≡ recordsPass (passes n R h k (Wanted.Apart j)) n h t (j .0)
+  unfolding letGo passes
+  go-at e = rw e

@@ -1,0 +1,38 @@
+-- Runs of stores: `sets l i vs` is l with vs stored one after the other from place i on. Two runs that follow one another are one run, and
+-- a part that was lent and given back is a run of stores. All by recursion on the words stored.
+use Prim.Native.Nat.{ℕ, zero, suc, _+_, _-_, _≤_, _<_}
+use mathlib.Core.Path.{_≡_, refl, sym, ap, _∙_}
+use mathlib.Core.List.{List, [], _∷_, _++_, append-nil, append-assoc}
+use native.Mathlib.Nat.{add-zero, zero-add}
+use native.Mathlib.Numerals.{add-one}
+use native.Mathlib.Omega.{arith}
+use lib.ListN.{length, take, drop, set, drop-of-length-le}
+use lib.Seq.{sets, sets-eq, drop-drop}
+
+module _ {A : Type 0} where
+  pub sets-append : (l : List A) (i : ℕ) (vs ws : List A) → sets l i (vs ++ ws) ≡ sets (sets l i vs) (i + length vs) ws
+  sets-append l i [] ws = rw add-zero
+  sets-append l i (v ∷ vs) ws =
+      let q : suc i + length vs ≡ i + length (v ∷ vs) = omega arith in
+      sets-append (set l i v) (suc i) vs ws ∙ ap (λ k. sets (sets (set l i v) (suc i) vs) k ws) q
+
+  -- the next place as code writes it
+  pub sets-next : (l : List A) (i : ℕ) (v : A) (vs : List A) → sets l i (v ∷ vs) ≡ sets (set l i v) (i + 1) vs
+  sets-next l i v vs = rw (add-one i)
+
+  pub sets-front : (l vs : List A) → length vs ≤ length l → sets l 0 vs ≡ vs ++ drop (length vs) l
+  sets-front l vs b = sets-eq vs l 0 (omega arith) ∙ ap (λ k. vs ++ drop k l) (zero-add (length vs))
+
+  pub sets-whole : (l vs : List A) → length vs ≡ length l → sets l 0 vs ≡ vs
+  sets-whole l vs e =
+      sets-front l vs (omega arith)
+      ∙ ap (λ r. vs ++ r) (drop-of-length-le l {i = length vs} (omega arith))
+      ∙ append-nil vs
+
+  -- a part from a up to e, lent and given back as ys
+  pub part-sets : (l : List A) (a e : ℕ) (ys : List A) → a ≤ e → e ≤ length l → length ys ≡ e - a
+      → take a l ++ (ys ++ drop (e - a) (drop a l)) ≡ sets l a ys
+  part-sets l a e ys b c q =
+      ap (λ r. take a l ++ (ys ++ r)) (drop-drop (e - a) a l ∙ ap (λ k. drop (a + k) l) (sym q))
+      ∙ sym (append-assoc (take a l) ys (drop (a + length ys) l))
+      ∙ sym (sets-eq ys l a (omega arith))

@@ -1,0 +1,81 @@
+-- Demand 2, of the definitions. "A finished collection leaves exactly the words that document 01 works out. It is refused for pages exactly when
+-- that working needs more than the free list has. The due answer and used words are document 01's sums. Numbers read back as they were written."
+-- (What a collection leaves is the definition `collect`; that the code leaves it is the code's contract.)
+use Prim.Native.Nat.{ℕ, suc, _+_, _*_, _^_, _<_}
+use mathlib.Core.Path.{_≡_, refl, sym, ap, _∙_}
+use mathlib.Core.Logic.{_↔_}
+use mathlib.Core.Bool.{Bool, true, false}
+use mathlib.Core.List.{List, [], _∷_, map}
+use lib.ListN.{length}
+use lib.IntN.{ℤ}
+use lib.Dec.{ltb}
+use borrow.Author.Tests.{ltb-true, lt-ltb}
+use Rattle.laws.specs.Sums.{sumOver}
+use Rattle.rules.specs.declared.Refusal.{Refusal}
+use Rattle.rules.specs.declared.Plain.{Plain}
+use Rattle.rules.specs.declared.Valued.{Valued}
+use Rattle.rules.specs.declared.Told.{Told}
+use Rattle.rules.specs.declared.Worded.{Worded}
+use Rattle.rules.specs.declared.Numbered.{Numbered}
+use Rattle.rules.specs.Memory.{Store, pageCount, regionPages}
+use Rattle.rules.specs.Words.{Val, pageVals, usedOf}
+use Rattle.rules.specs.Audit.{usedOn, usedBy}
+use Rattle.rules.specs.Refusals.{refused, withinLimits, commonTest}
+use Rattle.rules.specs.Calls.{wordOfNumber, numberOfWord, audit, due, usedWords}
+use Rattle.rules.specs.Collection.{collect}
+use Rattle.facts.proofs.Sound.{Passes}
+use Rattle.facts.proofs.Passing.{audit-yes, meaning}
+use Rattle.facts.proofs.Observing.{used-is}
+use Rattle.working.specs.Unbounded.{wanted}
+use Rattle.working.proofs.Refused.{refused-wants}
+use Rattle.promises.proofs.NumbersBack.{number-back, word-back}
+
+-- the sum of a list of numbers
+abbrev pub sum : List ℕ → ℕ
+sum xs = sumOver (λ x. x) xs
+
+-- L+1 of each value of page k
+abbrev pub wordsOn : Store → ℕ → List ℕ
+wordsOn s k = map (λ (v : Val). suc (length (v .words))) (pageVals (s .ctl .n) (s .heap) k)
+
+pub record Demand2 : Type 0 where
+  -- a collection of a heap that passes is refused 4 exactly when its working, had it as many pages as it wants, takes more than are free
+  pub lacks : (s : Store) → audit s ≡ Plain.Done (s .ctl) → (collect s ≡ refused s Refusal.NoPage) ↔ (s .ctl .count < wanted s)
+  -- a collection is due exactly when 3 times the free count is below N
+  pub dues : (s : Store) → withinLimits s ≡ true → commonTest s ≡ true
+      → (b : Bool) × (due s ≡ Told.Done b (s .ctl)) × ((b ≡ true) ↔ (3 * s .ctl .count < pageCount (s .ctl .n) (s .heap)))
+  -- a region's used words are L+1 summed over its values, page by page
+  pub uses : (s : Store) → audit s ≡ Plain.Done (s .ctl) → (j : ℕ) → j < s .ctl .regions
+      → usedWords s j ≡ Valued.Done (sumOver (λ k. sum (wordsOn s k)) (regionPages (s .ctl .n) (s .heap) (s .table) j)) (s .ctl)
+  -- numbers read back as they were written, and 32-bit words too
+  pub numbers : (i : ℤ) (w : ℕ) → wordOfNumber i ≡ Worded.Done w → numberOfWord w ≡ Numbered.Done i
+  pub words : (w : ℕ) (i : ℤ) → w < 2 ^ 32 → numberOfWord w ≡ Numbered.Done i → wordOfNumber i ≡ Worded.Done w
+
+-- the words that values take, as a sum
+used-sum : (vs : List Val) → usedOf vs ≡ sum (map (λ (v : Val). suc (length (v .words))) vs)
+unfolding usedOf sumOver
+used-sum [] = refl
+used-sum (v ∷ vs) = ap (λ x. suc (length (v .words)) + x) (used-sum vs)
+
+used-pages : (s : Store) (ks : List ℕ) → usedOn (s .ctl .n) (s .heap) ks ≡ sumOver (λ k. sum (wordsOn s k)) ks
+unfolding usedOn sumOver
+used-pages s [] = refl
+used-pages s (k ∷ ks) = rw (used-sum (pageVals (s .ctl .n) (s .heap) k), used-pages s ks)
+
+lacking : (s : Store) → audit s ≡ Plain.Done (s .ctl) → (collect s ≡ refused s Refusal.NoPage) ↔ (s .ctl .count < wanted s)
+unfolding collect
+lacking s e = let p = audit-yes s .0 e in rw (p .limits, p .common, p .unbroken) (refused-wants s (meaning s .0 p))
+
+dueing : (s : Store) → withinLimits s ≡ true → commonTest s ≡ true
+    → (b : Bool) × (due s ≡ Told.Done b (s .ctl)) × ((b ≡ true) ↔ (3 * s .ctl .count < pageCount (s .ctl .n) (s .heap)))
+unfolding due
+dueing s l c =
+    (ltb (3 * s .ctl .count) (pageCount (s .ctl .n) (s .heap)), rw (l, c), (λ e. ltb-true _ _ e, λ b. lt-ltb _ _ b))
+
+using-words : (s : Store) → audit s ≡ Plain.Done (s .ctl) → (j : ℕ) → j < s .ctl .regions
+    → usedWords s j ≡ Valued.Done (sumOver (λ k. sum (wordsOn s k)) (regionPages (s .ctl .n) (s .heap) (s .table) j)) (s .ctl)
+unfolding usedBy
+using-words s e j b = used-is s (audit-yes s .0 e) j b ∙ ap (λ u. Valued.Done u (s .ctl)) (used-pages s (regionPages (s .ctl .n) (s .heap) (s .table) j))
+
+pub demand2 : Demand2
+demand2 = record { lacks = lacking; dues = dueing; uses = using-words; numbers = number-back; words = word-back }

@@ -1,0 +1,93 @@
+-- Every call keeps a heap that passes passing, so any run of calls from a fresh heap passes. `Sound` is what passing means, each call keeps it,
+-- and a refused call changes nothing.
+use Prim.Native.Nat.{ℕ}
+use native.Mathlib.Omega.{arith}
+use mathlib.Core.Path.{_≡_, refl}
+use mathlib.Core.Logic.{_⊎_, inl, inr}
+use mathlib.Core.Bool.{Bool, true, false}
+use mathlib.Core.List.{List, [], _∷_}
+use lib.ListN.{length}
+use Rattle.rules.specs.declared.Control.{Control}
+use Rattle.rules.specs.declared.Refusal.{Refusal}
+use Rattle.rules.specs.declared.Opened.{Opened}
+use Rattle.rules.specs.Memory.{Store, lent, control, limits, pageCount}
+use Rattle.rules.specs.Audit.{rule8}
+use Rattle.rules.specs.Refusals.{refused}
+use Rattle.rules.specs.Calls.{setUp}
+use Rattle.rules.specs.Collection.{collected, collect}
+use Rattle.facts.proofs.Means.{constants-of}
+use Rattle.facts.proofs.Passing.{meaning}
+use Rattle.facts.proofs.Sound.{Sound, Passes}
+use Rattle.facts.specs.Observed.{Demand3}
+use Rattle.working.proofs.Running.{Refusing}
+use Rattle.working.proofs.Collecting.{leaving, collects}
+use Rattle.promises.specs.Left.{leftPlain}
+use Rattle.promises.specs.Run.{Call, aPush, aPop, aCollect, anAudit, aDue, anAllocate, aFetch, aFetchRefusal, anAssign, aSetRoot, aWalk, aUsedWords, aPage, aPageRefusal, aWordOfNumber, aNumberOfWord, aWriteImage, after, run, fresh}
+use Rattle.promises.proofs.KeepsGood.{audited-keeps}
+use Rattle.promises.proofs.KeepsFields.{set-root-keeps, assign-keeps}
+use Rattle.promises.proofs.KeepsPush.{push-keeps}
+use Rattle.promises.proofs.KeepsAllocate.{allocate-keeps}
+use Rattle.promises.proofs.KeepsPop.{pop-keeps}
+use Rattle.promises.proofs.KeepsSetUp.{set-up-sound}
+
+-- ---- setting up
+
+pub set-up-passes : (n : ℕ) (heap table roots consts : List ℕ) (c : Control) → rule8 (lent heap table roots consts c) ≡ true
+    → setUp n heap table roots consts .answer ≡ Opened.Done c → Passes (fresh n heap table roots consts c)
+unfolding setUp
+set-up-passes n heap table roots consts c t e = go (limits n (length heap) (length table) (length roots) (length consts)) refl
+  where
+    go : (b : Bool) → limits n (length heap) (length table) (length roots) (length consts) ≡ b → Passes (fresh n heap table roots consts c)
+    go false q = let z : Opened.Refused Refusal.Limits ≡ Opened.Done c = rw q at e in let w : _≡_ {A = ℕ} 0 1 = cc in absurd (omega arith)
+    go true q =
+        let z : Opened.Done (control n 0 1 (pageCount n heap) (pageCount n heap)) ≡ Opened.Done c = rw q at e in
+        let x : control n 0 1 (pageCount n heap) (pageCount n heap) ≡ c = cc in
+        rw (q, ← x) (meaning _ .1 (set-up-sound n (lent heap table roots consts c) q (constants-of (lent heap table roots consts c) t)))
+
+-- ---- each call
+
+-- a collection is done and leaves a sound heap, or is refused
+pub collect-keeps : (s : Store) → Sound s → Sound (leftPlain (collect s))
+unfolding collect
+collect-keeps s S = audited-keeps (λ o. Sound (leftPlain o)) (refused s) s (collected s) (λ r. S) (λ l c b. go (collects s S))
+  where
+    go : ((collected s ≡ refused s Refusal.NoPage) × Refusing s S) ⊎ ((s′ : Store) × (collected s ≡ leaving s′) × Sound s′ × Demand3 s s′) → Sound (leftPlain (collected s))
+    go (inl u) = rw (u .0) S
+    go (inr u) = rw (u .1) (u .2)
+
+pub call-keeps : (c : Call) (s : Store) → Sound s → Sound (after c s)
+call-keeps aPush s S = push-keeps s S
+call-keeps aPop s S = pop-keeps s S
+call-keeps aCollect s S = collect-keeps s S
+call-keeps (anAllocate j kind ws) s S = allocate-keeps s j kind ws S
+call-keeps (anAssign w i x) s S = assign-keeps s w i x S
+call-keeps (aSetRoot i w) s S = set-root-keeps s i w S
+call-keeps anAudit s S = S
+call-keeps aDue s S = S
+call-keeps (aFetch w) s S = S
+call-keeps (aFetchRefusal w) s S = S
+call-keeps (aWalk i path) s S = S
+call-keeps (aUsedWords j) s S = S
+call-keeps (aPage k) s S = S
+call-keeps (aPageRefusal k) s S = S
+call-keeps (aWordOfNumber i) s S = S
+call-keeps (aNumberOfWord w) s S = S
+call-keeps (aWriteImage bytes) s S = S
+
+pub run-keeps : (cs : List Call) (s : Store) → Sound s → Sound (run cs s)
+unfolding run
+run-keeps [] s S = S
+run-keeps (c ∷ cs) s S = run-keeps cs (after c s) (call-keeps c s S)
+
+-- ---- in the audit's words
+
+pub call-passes : (c : Call) (s : Store) → Passes s → Passes (after c s)
+call-passes c s p = meaning (after c s) .1 (call-keeps c s (meaning s .0 p))
+
+pub run-passes : (cs : List Call) (s : Store) → Passes s → Passes (run cs s)
+run-passes cs s p = meaning (run cs s) .1 (run-keeps cs s (meaning s .0 p))
+
+-- from a fresh heap whose constants keep rule 8, every run of calls passes
+pub fresh-run-passes : (n : ℕ) (heap table roots consts : List ℕ) (c : Control) → rule8 (lent heap table roots consts c) ≡ true
+    → setUp n heap table roots consts .answer ≡ Opened.Done c → (cs : List Call) → Passes (run cs (fresh n heap table roots consts c))
+fresh-run-passes n heap table roots consts c t e cs = run-passes cs (fresh n heap table roots consts c) (set-up-passes n heap table roots consts c t e)

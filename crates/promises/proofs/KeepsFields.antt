@@ -1,0 +1,239 @@
+-- Setting a root and assigning a field keep a heap sound: the word offered is good, and a field is no part of the layout.
+use Prim.Native.Nat.{ℕ, suc, _+_, _*_, _/_, _^_, _≤_, _<_}
+use native.Mathlib.Nat.{le-refl}
+use native.Mathlib.Omega.{arith}
+use native.Mathlib.Decide.{ℕ-discrete}
+use mathlib.Core.Path.{_≡_, sym, ap, _∙_}
+use mathlib.Core.Logic.{_≢_, _⊎_, inl, inr}
+use mathlib.Core.Bool.{true, not}
+use mathlib.Core.Option.{some}
+use mathlib.Core.List.{List, List·Memᴰ}
+use lib.ListN.{length, set, length-set}
+use lib.Seq.{getD-set-same, getD-set-other}
+use lib.Dec.{leb}
+use borrow.Author.Tests.{leb-false, not-false}
+use Rattle.laws.specs.Lists.{at}
+use Rattle.laws.proofs.Loops.{choice-keeps}
+use Rattle.laws.proofs.Lists.{apart as pages-apart}
+use Rattle.rules.specs.Memory.{Store, lent, pageCount}
+use Rattle.rules.specs.Words.{Word, number, inHeap, inConst, wordOf, headOf, lengthBy, fit, fits, isRecord, goodHeap, goodConst}
+use Rattle.rules.specs.Audit.{goodWord}
+use Rattle.rules.specs.Refusals.{refused}
+use Rattle.rules.specs.Pages.{begun}
+use Rattle.rules.specs.Calls.{assignAt, assignBy, assign, setRoot}
+use Rattle.rules.proofs.Headers.{fit-is, fit-of}
+use Rattle.facts.proofs.Steps.{Stands, Steps, here, steps-le, steps-same, stands-same, steps-inside, apart}
+use Rattle.facts.proofs.Laid.{mine, Layout}
+use Rattle.facts.proofs.Framed.{below-end, good-in}
+use Rattle.facts.proofs.Goods.{page-ends, good-of, in-heap}
+use Rattle.facts.proofs.Sound.{InHeap, Good, a-number, to-heap, to-const, Sound}
+use Rattle.working.proofs.Fielded.{field-laid}
+use Rattle.promises.specs.Left.{leftPlain}
+use Rattle.promises.proofs.KeepsGood.{admitted-keeps, good-page}
+
+-- ---- a root
+
+module _ (s : Store) (S : Sound s) (i w : ℕ) (good : Good (s .ctl .n) (s .ctl .regions) (s .heap) (s .consts) w) where
+  root-at : (j : ℕ) → j < length (set (s .roots) i w) → Good (s .ctl .n) (s .ctl .regions) (s .heap) (s .consts) (at (set (s .roots) i w) j)
+  root-at j b = go (ℕ-discrete j i)
+    where
+      len : length (set (s .roots) i w) ≡ length (s .roots)
+      len = length-set (s .roots) i w
+
+      go : Dec (j ≡ i) → Good (s .ctl .n) (s .ctl .regions) (s .heap) (s .consts) (at (set (s .roots) i w) j)
+      go (yes e) = let l = len in rw (e, getD-set-same (s .roots) i w 0 (omega arith)) good
+      go (no ne) = let l = len in rw (getD-set-other (s .roots) i j w 0 ne) (S .roots j (omega arith))
+
+  pub root-sound : Sound (lent (s .heap) (s .table) (set (s .roots) i w) (s .consts) (s .ctl))
+  root-sound =
+      record {
+        within =
+            record {
+              paged = S .within .paged;
+              two = S .within .two;
+              table = S .within .table;
+              roots = let l = length-set (s .roots) i w in let b = S .within .roots in omega arith;
+              consts = S .within .consts;
+            };
+        own = S .own;
+        fin = S .fin;
+        pages = S .pages;
+        free = S .free;
+        regions = S .regions;
+        past = S .past;
+        idle = S .idle;
+        laid = S .laid;
+        chained = S .chained;
+        fields = S .fields;
+        roots = root-at;
+        consts = S .consts;
+      }
+
+pub set-root-keeps : (s : Store) (i w : ℕ) → Sound s → Sound (leftPlain (setRoot s i w))
+unfolding setRoot
+set-root-keeps s i w S =
+    admitted-keeps (λ o. Sound (leftPlain o)) (refused s) s _ (λ r. S)
+    (λ l c.
+    choice-keeps (λ o. Sound (leftPlain o)) (leb (length (s .roots)) i) _ _ (λ e. S)
+    (λ e₁.
+    choice-keeps (λ o. Sound (leftPlain o)) (not (goodWord s w)) _ _ (λ e. S)
+    (λ e₂. root-sound s S i w (good-of (s .ctl .n) (s .ctl .regions) (s .heap) (s .consts) (S .within .paged) w (not-false _ e₂)))))
+
+-- ---- a field
+
+-- a header's length, as the code reads it
+length-is : (w l : ℕ) → lengthBy (headOf w) ≡ some l → l ≡ w / 8
+unfolding fits
+length-is w l e =
+    let f : fit w l ≡ some l = fit-is w l l e (le-refl l) in
+    let t : fits w l ≡ true = rw (fits, f) in
+    let q : some l ≡ some (w / 8) = sym f ∙ fit-of w l t .0 in
+    cc
+
+-- two heaps that differ in one word inside a value: what is stepped to in the one is stepped to in the other
+module _ (n : ℕ) (g h : List ℕ) (k d len i : ℕ) (sd : Steps g (k * 2 ^ n + 2 ^ n) (k * 2 ^ n + 2) d) (sv : Stands g (k * 2 ^ n + 2 ^ n) d len) (i-in : i < len)
+    (keep : (y : ℕ) → y ≢ d + suc i → at g y ≡ at h y) where
+  far : (m y : ℕ) → m ≢ k → m * 2 ^ n ≤ y → y < m * 2 ^ n + 2 ^ n → y ≢ d + suc i
+  far m y ne a b e = go (pages-apart (2 ^ n) m k ne)
+    where
+      go : (m * 2 ^ n + 2 ^ n ≤ k * 2 ^ n) ⊎ (k * 2 ^ n + 2 ^ n ≤ m * 2 ^ n) → ⊥
+      go (inl t) = let lo = steps-le sd in let hi = sv .ends in omega arith
+      go (inr t) = let lo = steps-le sd in let hi = sv .ends in omega arith
+
+  -- no header stands at the word
+  header-not : (m a l : ℕ) → Steps g (m * 2 ^ n + 2 ^ n) (m * 2 ^ n + 2) a → Stands g (m * 2 ^ n + 2 ^ n) a l → a ≢ d + suc i
+  header-not m a l r st e = go (ℕ-discrete m k)
+    where
+      by : (a ≤ d) ⊎ (d + suc len ≤ a) → ⊥
+      by (inl q) = omega arith
+      by (inr q) = omega arith
+
+      go : Dec (m ≡ k) → ⊥
+      go (yes q) = by (apart sd sv (rw q at r))
+      go (no ne) = let lo = steps-le r in let hi = st .ends in far m a ne (omega arith) (omega arith) e
+
+  value-over : (m a l : ℕ) → Steps g (m * 2 ^ n + 2 ^ n) (m * 2 ^ n + 2) a → Stands g (m * 2 ^ n + 2 ^ n) a l
+      → Steps h (m * 2 ^ n + 2 ^ n) (m * 2 ^ n + 2) a × Stands h (m * 2 ^ n + 2 ^ n) a l
+  value-over m a l r st = (go (ℕ-discrete m k), stands-same (keep a (header-not m a l r st)) st)
+    where
+      go : Dec (m ≡ k) → Steps h (m * 2 ^ n + 2 ^ n) (m * 2 ^ n + 2) a
+      go (yes e) = rw e (steps-inside g h (k * 2 ^ n + 2 ^ n) (k * 2 ^ n + 2) d len (d + suc i) sd sv (omega arith) (omega arith) keep here (rw e at r))
+      go (no ne) = let hi = st .ends in steps-same (λ y u v. keep y (far m y ne (omega arith) (omega arith))) r
+
+-- field i of the record of l words at address d
+module _ (s : Store) (S : Sound s) (d i x : ℕ) (p : InHeap (s .ctl .n) (s .ctl .regions) (s .heap) d) (i-in : i < p .len)
+    (good : Good (s .ctl .n) (s .ctl .regions) (s .heap) (s .consts) x) where
+  abbrev n : ℕ
+  n = s .ctl .n
+
+  abbrev R : ℕ
+  R = s .ctl .regions
+
+  abbrev k : ℕ
+  k = p .page
+
+  abbrev h′ : List ℕ
+  h′ = set (s .heap) (d + suc i) x
+
+  abbrev Good′ : ℕ → Type 0
+  Good′ w = Good n R h′ (s .consts) w
+
+  mem : List·Memᴰ (p .page) (S .pages (p .region))
+  mem = good-page s S d p
+
+  own-k : S .own k ≡ mine (p .region)
+  own-k = S .laid .mine-own (p .region) k (p .known) mem
+
+  below : d + suc (p .len) ≤ S .fin k
+  below =
+      let b = S .laid .mine-body (p .region) k own-k in
+      below-end (s .heap) (k * 2 ^ n + 2 ^ n) (k * 2 ^ n + 2) (S .fin k) (b .filled) (b .rest) (p .steps) (p .stands)
+
+  laid : Layout n (pageCount n (s .heap)) R (S .own) (S .fin) (S .pages) (S .free) (begun (lent h′ (s .table) (s .roots) (s .consts) (s .ctl)))
+  laid = field-laid n (pageCount n (s .heap)) R (S .own) (S .fin) (S .pages) (S .free) (begun s) (S .laid) k (p .region) d (p .len) i x own-k (p .steps) (p .stands) below i-in
+
+  keep : (y : ℕ) → y ≢ d + suc i → at (s .heap) y ≡ at h′ y
+  keep y ne = sym (getD-set-other (s .heap) (d + suc i) y x 0 ne)
+
+  abbrev there : (m a l : ℕ) → Steps (s .heap) (m * 2 ^ n + 2 ^ n) (m * 2 ^ n + 2) a → Stands (s .heap) (m * 2 ^ n + 2 ^ n) a l
+      → Steps h′ (m * 2 ^ n + 2 ^ n) (m * 2 ^ n + 2) a × Stands h′ (m * 2 ^ n + 2 ^ n) a l
+  there = value-over n (s .heap) h′ k d (p .len) i (p .steps) (p .stands) i-in keep
+
+  back : (m a l : ℕ) → Steps h′ (m * 2 ^ n + 2 ^ n) (m * 2 ^ n + 2) a → Stands h′ (m * 2 ^ n + 2 ^ n) a l
+      → Steps (s .heap) (m * 2 ^ n + 2 ^ n) (m * 2 ^ n + 2) a × Stands (s .heap) (m * 2 ^ n + 2 ^ n) a l
+  back =
+      let t = there k d (p .len) (p .steps) (p .stands) in
+      value-over n h′ (s .heap) k d (p .len) i (t .0) (t .1) i-in (λ y ne. sym (keep y ne))
+
+  -- an origin is no such word
+  origin-kept : (m : ℕ) → at (s .heap) (m * 2 ^ n + 1) ≡ at h′ (m * 2 ^ n + 1)
+  origin-kept m = keep (m * 2 ^ n + 1) (go (ℕ-discrete m k))
+    where
+      go : Dec (m ≡ k) → m * 2 ^ n + 1 ≢ d + suc i
+      go (yes e) = let w : m * 2 ^ n ≡ k * 2 ^ n = ap (λ t. t * 2 ^ n) e in let lo = steps-le (p .steps) in omega arith
+      go (no ne) = let b = S .laid .big in far n (s .heap) h′ k d (p .len) i (p .steps) (p .stands) i-in keep m (m * 2 ^ n + 1) ne (omega arith) (omega arith)
+
+  good-still : (w : ℕ) → Good n R (s .heap) (s .consts) w → Good n R h′ (s .consts) w
+  good-still w (a-number e) = a-number e
+  good-still w (to-heap a e q) =
+      to-heap a e (good-in n R R (s .heap) h′ a q (length-set (s .heap) (d + suc i) x) (q .known) (origin-kept (q .page)) (there (q .page) a (q .len) (q .steps) (q .stands)))
+  good-still w (to-const a e q) = to-const a e q
+
+  fields′ : (j m a l t : ℕ) → j < R → List·Memᴰ m (S .pages j) → Steps h′ (m * 2 ^ n + 2 ^ n) (m * 2 ^ n + 2) a → Stands h′ (m * 2 ^ n + 2 ^ n) a l
+      → isRecord (at h′ a) ≡ true → t < l → Good n R h′ (s .consts) (at h′ (a + suc t))
+  fields′ j m a l t b mem r st rec q = go (ℕ-discrete (a + suc t) (d + suc i))
+    where
+      u : Steps (s .heap) (m * 2 ^ n + 2 ^ n) (m * 2 ^ n + 2) a × Stands (s .heap) (m * 2 ^ n + 2 ^ n) a l
+      u = back m a l r st
+
+      go : Dec (a + suc t ≡ d + suc i) → Good n R h′ (s .consts) (at h′ (a + suc t))
+      go (yes e) =
+          let a = page-ends n (s .heap) (S .within .paged) k (p .there) in
+          let b = p .stands .ends in
+          rw (e, getD-set-same (s .heap) (d + suc i) x 0 (omega arith)) (good-still x good)
+      go (no ne) =
+          rw (← keep (a + suc t) ne)
+          (good-still _ (S .fields j m a l t b mem (u .0) (u .1) (ap isRecord (keep a (header-not n (s .heap) h′ k d (p .len) i (p .steps) (p .stands) i-in keep m a l (u .0) (u .1))) ∙ rec) q))
+
+  pub field-sound : Sound (lent h′ (s .table) (s .roots) (s .consts) (s .ctl))
+  field-sound =
+      let len = length-set (s .heap) (d + suc i) x in
+      record {
+        within =
+            record { paged = rw len (S .within .paged); two = rw len (S .within .two); table = S .within .table; roots = S .within .roots; consts = S .within .consts };
+        own = S .own;
+        fin = S .fin;
+        pages = S .pages;
+        free = S .free;
+        regions = S .regions;
+        past = S .past;
+        idle = S .idle;
+        laid = rw len laid;
+        chained = rw len (S .chained);
+        fields = fields′;
+        roots = λ j b. good-still _ (S .roots j b);
+        consts = S .consts;
+      }
+
+pub assign-keeps : (s : Store) (w i x : ℕ) → Sound s → Sound (leftPlain (assign s w i x))
+unfolding assign assignBy assignAt
+assign-keeps s w i x S =
+    admitted-keeps (λ o. Sound (leftPlain o)) (refused s) s _ (λ r. S) (λ l c. go (wordOf w))
+  where
+    go : (v : Word) → Sound (leftPlain (assignBy s v i x))
+    go number = S
+    go (inConst a) = choice-keeps (λ o. Sound (leftPlain o)) (not (goodConst (s .consts) a)) _ _ (λ e. S) (λ e. S)
+    go (inHeap a) =
+        choice-keeps (λ o. Sound (leftPlain o)) (not (goodHeap (s .ctl .n) (s .ctl .regions) (s .heap) a)) _ _ (λ e. S)
+        (λ e₁.
+        choice-keeps (λ o. Sound (leftPlain o)) (not (isRecord (at (s .heap) a))) _ _ (λ e. S)
+        (λ e₂.
+        choice-keeps (λ o. Sound (leftPlain o)) (leb (at (s .heap) a / 8) i) _ _ (λ e. S)
+        (λ e₃.
+        choice-keeps (λ o. Sound (leftPlain o)) (not (goodWord s x)) _ _ (λ e. S)
+        (λ e₄.
+        let p = in-heap (s .ctl .n) (s .ctl .regions) (s .heap) (S .within .paged) a (not-false _ e₁) in
+        let q = length-is (at (s .heap) a) (p .len) (p .stands .head) in
+        let b = leb-false (at (s .heap) a / 8) i e₃ in
+        let t : suc (a + i) ≡ a + suc i = omega arith in
+        rw t (field-sound s S a i x p (omega arith) (good-of (s .ctl .n) (s .ctl .regions) (s .heap) (s .consts) (S .within .paged) x (not-false _ e₄)))))))

@@ -1,0 +1,286 @@
+-- Popping a region leaves every path from a root as it was: no value moves, the words of the other regions stay, and no path leads into the
+-- region, since it was not held. A refused pop changes nothing.
+use Prim.Native.Nat.{ℕ, suc, _+_, _-_, _*_, _^_, _≤_, _<_}
+use native.Mathlib.Nat.{add-zero}
+use native.Mathlib.Omega.{arith}
+use mathlib.Core.Path.{_≡_, refl, sym, ap, _∙_}
+use mathlib.Core.Bool.{true, false, not, false≢true}
+use mathlib.Core.List.{List, [], List·Memᴰ}
+use lib.ListN.{length, take, drop, length-drop}
+use lib.Seq.{length-take-le}
+use lib.Dec.{eqb}
+use borrow.Author.Tests.{not-true, not-false, eqb-false}
+use Rattle.laws.specs.Lists.{at}
+use Rattle.laws.proofs.Loops.{choice-keeps}
+use Rattle.laws.proofs.Lists.{part-same, word-in}
+use Rattle.laws.proofs.Facts.{all-at}
+use Rattle.rules.specs.Memory.{Store}
+use Rattle.rules.specs.Words.{number, inHeap, inConst, wordOf, headOf, isRecord, valueAt, look}
+use Rattle.rules.specs.Refusals.{refused}
+use Rattle.rules.specs.Calls.{lookIn, headerIn, fieldsIn, isNumber, Walked, ends, walkSays, walk, pointsInto, letGo, popOn, popTop, pop}
+use Rattle.facts.specs.View.{homeIn, seen, path}
+use Rattle.facts.specs.Observed.{readAt}
+use Rattle.facts.proofs.Steps.{Stands, Steps, steps-le}
+use Rattle.facts.proofs.Laid.{Body}
+use Rattle.facts.proofs.Framed.{below-end, value-kept}
+use Rattle.facts.proofs.Goods.{page-ends, const-in}
+use Rattle.facts.proofs.Looked.{pointer-is, words-of, look-at, home-at}
+use Rattle.facts.proofs.Alike.{Alike, Same, AlikeWalks, both-end, both-stop, paths, readings}
+use Rattle.facts.proofs.Observing.{walk-is, read-is}
+use Rattle.facts.proofs.Passing.{meaning, pages-are}
+use Rattle.facts.proofs.Sound.{InHeap, InConst, Good, a-number, to-heap, to-const, GoodConst, number-there, const-there, Sound, Passes}
+use Rattle.promises.specs.Left.{leftPlain}
+use Rattle.promises.proofs.KeepsGood.{audited-keeps, good-page}
+use Rattle.promises.proofs.KeepsPop as Pop
+
+-- ---- values that stay
+
+module _ (s : Store) (S : Sound s) (j : ℕ) (top : s .ctl .regions ≡ suc j) (free : letGo (s .ctl .n) (s .heap) (s .table) (s .roots) j ≡ true) where
+  abbrev n : ℕ
+  n = s .ctl .n
+
+  abbrev R : ℕ
+  R = s .ctl .regions
+
+  abbrev s′ : Store
+  s′ = Pop.s′ s S j top free
+
+  abbrev h′ : List ℕ
+  h′ = Pop.r′ s S j top free .heap
+
+  S′ : Sound s′
+  S′ = Pop.pop-sound s S j top free
+
+  -- a word that is good and does not point into the region means after what it meant before
+  pub record Stays (v w : ℕ) : Type 0 where
+    pub same : v ≡ w
+    pub good : Good n R (s .heap) (s .consts) v
+    pub out : pointsInto n (s .heap) j v ≡ false
+
+  stays : (v : ℕ) → Good n R (s .heap) (s .consts) v → pointsInto n (s .heap) j v ≡ false → Stays v v
+  stays v g o = record { same = refl; good = g; out = o }
+
+  -- ---- a value of another region
+
+  module _ (v a : ℕ) (e : wordOf v ≡ inHeap a) (p : InHeap n R (s .heap) a) (o : pointsInto n (s .heap) j v ≡ false) where
+    abbrev k : ℕ
+    k = p .page
+
+    low : p .region < j
+    low = let ne = Pop.other-region n R (s .heap) j v a p e o in let b = p .known in omega arith
+
+    mem : List·Memᴰ k (S .pages (p .region))
+    mem = good-page s S a p
+
+    body : Body n (s .heap) k (p .region) (S .fin k)
+    body = S .laid .mine-body (p .region) k (S .laid .mine-own (p .region) k (p .known) mem)
+
+    ends-in : a + suc (p .len) ≤ S .fin k
+    ends-in = below-end (s .heap) (k * 2 ^ n + 2 ^ n) (k * 2 ^ n + 2) (S .fin k) (body .filled) (body .rest) (p .steps) (p .stands)
+
+    inside : k * 2 ^ n + 2 ^ n ≤ length (s .heap)
+    inside = page-ends n (s .heap) (S .within .paged) k (p .there)
+
+    keep : (x : ℕ) → k * 2 ^ n < x → x < S .fin k → at (s .heap) x ≡ at h′ x
+    keep x lo hi = Pop.keeps s S j top free (p .region) k x (p .known) low mem lo hi
+
+    v-is : v ≡ 4 * a
+    v-is = pointer-is v a e
+
+    seen-before : lookIn s v ≡ take (suc (p .len)) (drop a (s .heap))
+    seen-before =
+        let b = S .laid .big in
+        ap (lookIn s) v-is ∙ look-at s k a (p .len) (omega arith) inside (p .steps) (p .stands) (p .region) (p .known) (p .whose)
+
+    there-after : Steps h′ (k * 2 ^ n + 2 ^ n) (k * 2 ^ n + 2) a × Stands h′ (k * 2 ^ n + 2 ^ n) a (p .len)
+    there-after =
+        value-kept (s .heap) (k * 2 ^ n + 2 ^ n) (k * 2 ^ n + 2) (S .fin k) (body .filled) (body .rest) h′ (λ x lo hi. keep x (omega arith) hi) (p .steps) (p .stands)
+
+    whose-after : at h′ (k * 2 ^ n + 1) ≡ suc (p .region)
+    whose-after = let b = steps-le (body .filled) in sym (keep (k * 2 ^ n + 1) (omega arith) (omega arith)) ∙ p .whose
+
+    long : length h′ ≡ length (s .heap)
+    long = Pop.long s S j top free
+
+    inside-after : k * 2 ^ n + 2 ^ n ≤ length h′
+    inside-after = let a = inside in let b = long in omega arith
+
+    seen-after : lookIn s′ v ≡ take (suc (p .len)) (drop a h′)
+    seen-after =
+        let b = S .laid .big in
+        ap (lookIn s′) v-is ∙ look-at s′ k a (p .len) (omega arith) inside-after (there-after .0) (there-after .1) (p .region) low whose-after
+
+    pub value-same : lookIn s v ≡ lookIn s′ v
+    value-same =
+        let lo = steps-le (p .steps) in
+        let hi = ends-in in
+        let end = body .inside in
+        let i = inside in
+        seen-before
+        ∙ part-same (s .heap) h′ a (suc (p .len)) (sym long) (λ x u v. keep x (omega arith) (omega arith)) (omega arith)
+        ∙ sym seen-after
+
+    pub home-same : homeIn s v ≡ homeIn s′ v
+    home-same =
+        let b = S .laid .big in
+        ap (homeIn s) v-is
+        ∙ home-at s k a (p .len) (omega arith) inside (p .steps) (p .stands) (p .region) (p .known) (p .whose)
+        ∙ sym (home-at s′ k a (p .len) (omega arith) inside-after (there-after .0) (there-after .1) (p .region) low whose-after)
+        ∙ ap (homeIn s′) (sym v-is)
+
+    size-is : length (lookIn s v) ≡ suc (p .len)
+    size-is =
+        let d = length-drop a (s .heap) in
+        let i = inside in
+        let e = p .stands .ends in
+        ap length seen-before ∙ length-take-le (suc (p .len)) (drop a (s .heap)) (omega arith)
+
+    word-is : (i : ℕ) → i < suc (p .len) → at (lookIn s v) i ≡ at (s .heap) (a + i)
+    word-is i b = ap (λ x. at x i) seen-before ∙ word-in (s .heap) a (suc (p .len)) i b
+
+    -- its fields stay too
+    pub field-stays : isRecord (headerIn (lookIn s v)) ≡ true → (f : ℕ) → f < fieldsIn (lookIn s v) → Stays (at (lookIn s v) (suc f)) (at (lookIn s′ v) (suc f))
+    field-stays rec f b =
+        let z = size-is in
+        let q : f < p .len = omega arith in
+        let r : isRecord (at (s .heap) a) ≡ true = ap isRecord (ap (at (s .heap)) (sym (add-zero a)) ∙ sym (word-is 0 (omega arith))) ∙ rec in
+        let w : at (lookIn s v) (suc f) ≡ at (s .heap) (a + suc f) = word-is (suc f) (omega arith) in
+        record {
+          same = ap (λ x. at x (suc f)) value-same;
+          good = rw w (S .fields (p .region) k a (p .len) f (p .known) mem (p .steps) (p .stands) r q);
+          out = rw w (Pop.field-out s S j top free (p .region) k a (p .len) f low mem (p .steps) (p .stands) r q);
+        }
+
+  -- ---- a constant
+
+  module _ (v a : ℕ) (e : wordOf v ≡ inConst a) (p : InConst (s .consts) a) where
+    const-same : lookIn s v ≡ lookIn s′ v
+    unfolding look
+    const-same = rw (look, e)
+
+    const-seen : lookIn s v ≡ take (suc (p .len)) (drop a (s .consts))
+    unfolding look valueAt
+    const-seen = rw (e, look, const-in (s .consts) a p, words-of (headOf (at (s .consts) a)) (p .len) (p .stands .head))
+
+    const-home : homeIn s v ≡ homeIn s′ v
+    unfolding homeIn
+    const-home = rw (homeIn, e)
+
+    const-size : length (lookIn s v) ≡ suc (p .len)
+    const-size =
+        let d = length-drop a (s .consts) in
+        let q = p .stands .ends in
+        ap length const-seen ∙ length-take-le (suc (p .len)) (drop a (s .consts)) (omega arith)
+
+    const-word : (i : ℕ) → i < suc (p .len) → at (lookIn s v) i ≡ at (s .consts) (a + i)
+    const-word i b = ap (λ x. at x i) const-seen ∙ word-in (s .consts) a (suc (p .len)) i b
+
+    const-stays : (w : ℕ) → GoodConst (s .consts) w → Good n R (s .heap) (s .consts) w × (pointsInto n (s .heap) j w ≡ false)
+    unfolding pointsInto
+    const-stays w (number-there q) = (a-number q, rw (pointsInto, q))
+    const-stays w (const-there b q g) = (to-const b q g, rw (pointsInto, q))
+
+    const-field : isRecord (headerIn (lookIn s v)) ≡ true → (f : ℕ) → f < fieldsIn (lookIn s v) → Stays (at (lookIn s v) (suc f)) (at (lookIn s′ v) (suc f))
+    const-field rec f b =
+        let z = const-size in
+        let q : f < p .len = omega arith in
+        let r : isRecord (at (s .consts) a) ≡ true = ap isRecord (ap (at (s .consts)) (sym (add-zero a)) ∙ sym (const-word 0 (omega arith))) ∙ rec in
+        let w : at (lookIn s v) (suc f) ≡ at (s .consts) (a + suc f) = const-word (suc f) (omega arith) in
+        let g = const-stays (at (s .consts) (a + suc f)) (S .consts .fields a (p .len) f (p .steps) (p .stands) r q) in
+        record { same = ap (λ x. at x (suc f)) const-same; good = rw w (g .0); out = rw w (g .1) }
+
+  -- ---- the two views
+
+  number-none : (v : ℕ) → wordOf v ≡ number → (t : Store) → lookIn t v ≡ []
+  unfolding look
+  number-none v e t = rw (look, e)
+
+  number-home : (v : ℕ) → wordOf v ≡ number → (t : Store) → homeIn t v ≡ 0
+  unfolding homeIn
+  number-home v e t = rw (homeIn, e)
+
+  zero-record : isRecord 0 ≡ false
+  unfolding isRecord headOf
+  zero-record = refl
+
+  view-same : (v : ℕ) → Good n R (s .heap) (s .consts) v → pointsInto n (s .heap) j v ≡ false
+      → (lookIn s v ≡ lookIn s′ v) × (homeIn s v ≡ homeIn s′ v)
+      × (isRecord (headerIn (lookIn s v)) ≡ true → (f : ℕ) → f < fieldsIn (lookIn s v) → Stays (at (lookIn s v) (suc f)) (at (lookIn s′ v) (suc f)))
+  view-same v (a-number e) o = (
+    number-none v e s ∙ sym (number-none v e s′),
+    number-home v e s ∙ sym (number-home v e s′),
+    λ r. let q : isRecord 0 ≡ true = ap (λ x. isRecord (headerIn x)) (sym (number-none v e s)) ∙ r in absurd (false≢true (sym zero-record ∙ q)),
+  )
+  view-same v (to-heap a e p) o = (value-same v a e p o, home-same v a e p o, field-stays v a e p o)
+  view-same v (to-const a e p) o = (const-same v a e p, const-home v a e p, const-field v a e p)
+
+  alike : (v : ℕ) → Good n R (s .heap) (s .consts) v → pointsInto n (s .heap) j v ≡ false → Alike Stays (lookIn s v) (lookIn s′ v)
+  alike v g o =
+      let t = view-same v g o in
+      record { header = ap headerIn (t .0); size = ap length (t .0); fields = t .2; text = λ r. t .0 }
+
+  same-views : Same (seen s) (seen s′) Stays
+  same-views =
+      record {
+        numbers = λ v w r. ap (λ x. isNumber (wordOf x)) (r .same);
+        value-of = λ v w r e. r .same;
+        values = λ v w r. rw (← r .same) (alike v (r .good) (r .out));
+        homes = λ v w r. view-same v (r .good) (r .out) .1 ∙ ap (homeIn s′) (r .same);
+        once = λ v w v′ w′ r r′. (λ e. sym (r .same) ∙ e ∙ r′ .same, λ e. r .same ∙ e ∙ sym (r′ .same));
+      }
+
+  roots-stay : (i : ℕ) → i < length (s .roots) → Stays (at (s .roots) i) (at (s .roots) i)
+  roots-stay i b =
+      stays (at (s .roots) i) (S .roots i b) (not-true _ (all-at (Pop.out s S j top free) (s .roots) (Pop.roots-out s S j top free) i b))
+
+  -- every path ends alike, on the same word
+  ended : {x y : Walked} → AlikeWalks Stays x y → x ≡ y
+  ended (both-end r) = ap ends (r .same)
+  ended both-stop = refl
+
+  pub paths-same : (i : ℕ) (fs : List ℕ) → path (seen s) (s .roots) i fs ≡ path (seen s′) (s .roots) i fs
+  paths-same i fs = ended (paths (seen s) (seen s′) Stays same-views (s .roots) (s .roots) refl roots-stay i fs)
+
+  pub reads-same : (i : ℕ) (fs : List ℕ) → readAt s (walk s i fs) ≡ readAt s′ (walk s′ i fs)
+  reads-same i fs =
+      read-is s (meaning s .1 S) i fs
+      ∙ readings (seen s) (seen s′) Stays same-views (s .roots) (s .roots) refl roots-stay i fs
+      ∙ sym (read-is s′ (meaning s′ .1 S′) i fs)
+
+-- ---- the call
+
+-- the same word, or the same refusal, from both
+pub record SameWalk (s s′ : Store) (i : ℕ) (fs : List ℕ) : Type 0 where
+  pub walked : Walked
+  pub before : walk s i fs ≡ walkSays (s .ctl) walked
+  pub after : walk s′ i fs ≡ walkSays (s′ .ctl) walked
+  -- and what is read there is the same: a number, or a value's region, kind, length, numbers and raw words
+  pub reads : readAt s (walk s i fs) ≡ readAt s′ (walk s′ i fs)
+
+pub pop-reads : (s : Store) → Passes s → (i : ℕ) (fs : List ℕ) → SameWalk s (leftPlain (pop s)) i fs
+unfolding pop popTop popOn
+pop-reads s P i fs =
+    audited-keeps (λ o. SameWalk s (leftPlain o) i fs) (refused s) s _ (λ r. stayed)
+    (λ l c b.
+    choice-keeps (λ o. SameWalk s (leftPlain o) i fs) (eqb (s .ctl .regions) 0) _ _ (λ e. stayed)
+    (λ e₁.
+    let j : ℕ = s .ctl .regions - 1 in
+    let ne = eqb-false (s .ctl .regions) 0 e₁ in
+    let top : s .ctl .regions ≡ suc j = omega arith in
+    choice-keeps (λ o. SameWalk s (leftPlain o) i fs) (not (letGo (s .ctl .n) (s .heap) (s .table) (s .roots) j)) _ _ (λ e. stayed)
+    (λ e₂. rw (pages-are s S j (omega arith)) (popped j top (not-false _ e₂)))))
+  where
+    S : Sound s
+    S = meaning s .0 P
+
+    stayed : SameWalk s s i fs
+    stayed = record { walked = path (seen s) (s .roots) i fs; before = walk-is s P i fs; after = walk-is s P i fs; reads = refl }
+
+    popped : (j : ℕ) (top : s .ctl .regions ≡ suc j) (free : letGo (s .ctl .n) (s .heap) (s .table) (s .roots) j ≡ true) → SameWalk s (Pop.s′ s S j top free) i fs
+    popped j top free =
+        record {
+          walked = path (seen s) (s .roots) i fs;
+          before = walk-is s P i fs;
+          after = walk-is (Pop.s′ s S j top free) (meaning _ .1 (Pop.pop-sound s S j top free)) i fs ∙ ap (walkSays _) (sym (paths-same s S j top free i fs));
+          reads = reads-same s S j top free i fs;
+        }

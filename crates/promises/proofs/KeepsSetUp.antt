@@ -1,0 +1,258 @@
+-- Setting up leaves a sound heap, from any words, if the constants keep rule 8: every page is free and linked to the next, no region is
+-- there, and every root is a number.
+use Prim.Native.Nat.{ℕ, zero, suc, _+_, _-_, _*_, _/_, _^_, _≤_, _<_, zero-le, suc-le-suc}
+use native.Mathlib.Nat.{add-zero, zero-add, zero-mul}
+use native.Mathlib.Omega.{arith}
+use mathlib.Core.Path.{_≡_, refl, sym, ap, _∙_}
+use mathlib.Core.Logic.{_≢_}
+use mathlib.Core.Bool.{Bool, true, false}
+use mathlib.Core.List.{List, [], _∷_, _++_, List·Memᴰ}
+use lib.ListN.{length, replicate, length-replicate, getD-replicate, length-append, List·getD-append}
+use lib.Seq.{getD-append-add}
+use lib.Dec.{ltb}
+use borrow.Author.Tests.{ltb-true, lt-ltb}
+use Rattle.laws.specs.Lists.{at, lastOr}
+use Rattle.laws.proofs.Once.{counting, counting-length, in-counting, counting-in, counting-linked, Linked, linked-once}
+use Rattle.rules.specs.Memory.{Store, lent, control, limits, pageCount, link}
+use Rattle.rules.specs.Words.{number, wordOf}
+use Rattle.rules.specs.Audit.{lastLink}
+use Rattle.rules.specs.Pages.{begun}
+use Rattle.rules.specs.Refusals.{Paged}
+use Rattle.rules.specs.Calls.{freshPages}
+use Rattle.rules.proofs.Limits.{page-size, whole-pages}
+use Rattle.facts.proofs.Laid.{Owner, spare, beyond, mine, Clean, Layout}
+use Rattle.facts.proofs.Means.{within-of}
+use Rattle.facts.proofs.Sound.{Within, Good, a-number, Constants, in-free, Sound}
+
+-- ---- the words of fresh pages
+
+-- one page, with its link
+abbrev onePage : ℕ → ℕ → List ℕ
+onePage n l = l ∷ replicate (2 ^ n - 1) 0
+
+module _ (n : ℕ) (big : 1 ≤ 2 ^ n) where
+  page-length : (l : ℕ) → length (onePage n l) ≡ 2 ^ n
+  page-length l = let e = length-replicate {A = ℕ} (2 ^ n - 1) 0 in omega arith
+
+  page-zero : (l x : ℕ) → 0 < x → x < 2 ^ n → at (onePage n l) x ≡ 0
+  page-zero l zero a b = absurd (omega arith)
+  page-zero l (suc x) a b = getD-replicate (2 ^ n - 1) x 0 0 (omega arith)
+
+  -- m pages from page k on
+  pub fresh-length : (m k : ℕ) → length (freshPages n m k) ≡ m * 2 ^ n
+  unfolding freshPages
+  fresh-length zero k = rw zero-mul
+  fresh-length (suc zero) k = let a = page-length 0 in omega arith
+  fresh-length (suc (suc m)) k =
+      length-append (onePage n (suc (suc k))) (freshPages n (suc m) (suc k))
+      ∙ (let a = page-length (suc (suc k)) in let b = fresh-length (suc m) (suc k) in omega arith)
+
+  -- a word of the first page, and of the pages behind it
+  first-word : (l x : ℕ) (rest : List ℕ) → x < 2 ^ n → at (onePage n l ++ rest) x ≡ at (onePage n l) x
+  first-word l x rest b = List·getD-append (onePage n l) rest 0 x (let a = page-length l in omega arith)
+
+  later-word : (l y : ℕ) (rest : List ℕ) → at (onePage n l ++ rest) (2 ^ n + y) ≡ at rest y
+  later-word l y rest = ap (λ p. at (onePage n l ++ rest) (p + y)) (sym (page-length l)) ∙ getD-append-add (onePage n l) rest y 0
+
+  pub fresh-zero : (m k i x : ℕ) → i < m → 0 < x → x < 2 ^ n → at (freshPages n m k) (i * 2 ^ n + x) ≡ 0
+  unfolding freshPages
+  fresh-zero zero k i x b lo hi = absurd (omega arith)
+  fresh-zero (suc zero) k zero x b lo hi = let q : 0 * 2 ^ n + x ≡ x = omega arith in ap (at (onePage n 0)) q ∙ page-zero 0 x lo hi
+  fresh-zero (suc zero) k (suc i) x b lo hi = absurd (omega arith)
+  fresh-zero (suc (suc m)) k zero x b lo hi =
+      let q : 0 * 2 ^ n + x ≡ x = omega arith in
+      ap (at (onePage n (suc (suc k)) ++ freshPages n (suc m) (suc k))) q ∙ first-word (suc (suc k)) x (freshPages n (suc m) (suc k)) hi ∙ page-zero (suc (suc k)) x lo hi
+  fresh-zero (suc (suc m)) k (suc i) x b lo hi =
+      let q : suc i * 2 ^ n + x ≡ 2 ^ n + (i * 2 ^ n + x) = omega arith in
+      ap (at (onePage n (suc (suc k)) ++ freshPages n (suc m) (suc k))) q ∙ later-word (suc (suc k)) (i * 2 ^ n + x) (freshPages n (suc m) (suc k))
+      ∙ fresh-zero (suc m) (suc k) i x (omega arith) lo hi
+
+  -- each page is linked to the next, the last to none
+  pub fresh-next : (m k i : ℕ) → suc i < m → at (freshPages n m k) (i * 2 ^ n) ≡ suc (suc (k + i))
+  unfolding freshPages
+  fresh-next zero k i b = absurd (omega arith)
+  fresh-next (suc zero) k i b = absurd (omega arith)
+  fresh-next (suc (suc m)) k zero b =
+      let q : 0 * 2 ^ n ≡ 0 = omega arith in
+      ap (at (onePage n (suc (suc k)) ++ freshPages n (suc m) (suc k))) q ∙ ap (λ y. suc (suc y)) (sym (add-zero k))
+  fresh-next (suc (suc m)) k (suc i) b =
+      let q : suc i * 2 ^ n ≡ 2 ^ n + i * 2 ^ n = omega arith in
+      let e : suc (suc (suc k + i)) ≡ suc (suc (k + suc i)) = omega arith in
+      ap (at (onePage n (suc (suc k)) ++ freshPages n (suc m) (suc k))) q ∙ later-word (suc (suc k)) (i * 2 ^ n) (freshPages n (suc m) (suc k))
+      ∙ fresh-next (suc m) (suc k) i (omega arith) ∙ e
+
+  pub fresh-last : (m k i : ℕ) → suc i ≡ m → at (freshPages n m k) (i * 2 ^ n) ≡ 0
+  unfolding freshPages
+  fresh-last zero k i e = absurd (omega arith)
+  fresh-last (suc zero) k i e = let q : i * 2 ^ n ≡ 0 = (let z : i ≡ 0 = omega arith in rw (z, zero-mul)) in ap (at (onePage n 0)) q
+  fresh-last (suc (suc m)) k zero e = absurd (omega arith)
+  fresh-last (suc (suc m)) k (suc i) e =
+      let q : suc i * 2 ^ n ≡ 2 ^ n + i * 2 ^ n = omega arith in
+      ap (at (onePage n (suc (suc k)) ++ freshPages n (suc m) (suc k))) q ∙ later-word (suc (suc k)) (i * 2 ^ n) (freshPages n (suc m) (suc k))
+      ∙ fresh-last (suc m) (suc k) i (omega arith)
+
+-- ---- the last of the numbers from k on, as a link
+
+counting-last : (m k : ℕ) → lastLink (counting (suc m) k) ≡ suc (k + m)
+unfolding counting lastLink lastOr
+counting-last zero k = ap suc (sym (add-zero k))
+counting-last (suc m) k = let e : suc (suc k + m) ≡ suc (k + suc m) = omega arith in counting-last m (suc k) ∙ e
+
+-- ---- the store
+
+-- what setting up leaves of a store of any words, with n
+abbrev pub setUpStore : ℕ → Store → Store
+setUpStore n s =
+    lent (freshPages n (pageCount n (s .heap)) 0) (replicate (length (s .table)) 0) (replicate (length (s .roots)) 1) (s .consts)
+    (control n 0 1 (pageCount n (s .heap)) (pageCount n (s .heap)))
+
+module _ (n : ℕ) (s : Store) (fits : limits n (length (s .heap)) (length (s .table)) (length (s .roots)) (length (s .consts)) ≡ true) (consts : Constants (s .consts)) where
+  abbrev N : ℕ
+  N = pageCount n (s .heap)
+
+  abbrev h : List ℕ
+  h = freshPages n (pageCount n (s .heap)) 0
+
+  within : Within (lent (s .heap) (s .table) (s .roots) (s .consts) (control n 0 0 0 0))
+  within = within-of (lent (s .heap) (s .table) (s .roots) (s .consts) (control n 0 0 0 0)) fits
+
+  abbrev paged : Paged n (length (s .heap))
+  paged = within .paged
+
+  size : (16 ≤ 2 ^ n) × (2 ^ n ≤ 256)
+  size = page-size n (paged .low) (paged .high)
+
+  big : 1 ≤ 2 ^ n
+  big = let a = size in omega arith
+
+  long : length h ≡ length (s .heap)
+  long = fresh-length n big N 0 ∙ whole-pages n (length (s .heap)) paged
+
+  some-pages : 0 < N
+  some-pages = some N refl
+    where
+      some : (m : ℕ) → N ≡ m → 0 < m
+      some zero e =
+          let a = within .two in
+          let b = whole-pages n (length (s .heap)) paged in
+          let c : N * 2 ^ n ≡ 0 = rw (e, zero-mul) in
+          let d = size in
+          absurd (omega arith)
+      some (suc m) e = suc-le-suc zero-le
+
+  own : ℕ → Owner
+  own k = elim (ltb k N) [ true ↦ spare | false ↦ beyond ]
+
+  own-there : (k : ℕ) → k < N → own k ≡ spare
+  unfolding own
+  own-there k b = rw (own, lt-ltb k N b)
+
+  there : (k : ℕ) → own k ≢ beyond → k < N
+  unfolding own
+  there k ne = go (ltb k N) refl
+    where
+      go : (b : Bool) → ltb k N ≡ b → k < N
+      go true e = ltb-true k N e
+      go false e = absurd (ne (rw (own, e)))
+
+  never : {A : Type 0} (k j : ℕ) → own k ≡ mine j → A
+  unfolding own
+  never {A} k j e = go (ltb k N) refl
+    where
+      go : (b : Bool) → ltb k N ≡ b → A
+      go true q = let e′ : spare ≡ mine j = rw (own, q) at e in let z : _≡_ {A = ℕ} 0 1 = cc in absurd (omega arith)
+      go false q = let e′ : beyond ≡ mine j = rw (own, q) at e in let z : _≡_ {A = ℕ} 0 1 = cc in absurd (omega arith)
+
+  free : List ℕ
+  free = counting N 0
+
+  in-free-there : (k : ℕ) → List·Memᴰ k free → k < N
+  unfolding free
+  in-free-there k m = let t = in-counting N 0 k m in let b = t .1 in omega arith
+
+  linked : Linked (link n h) 1 free
+  unfolding free link
+  linked = go N refl
+    where
+      next : (i : ℕ) → suc i < N → at h (i * 2 ^ n) ≡ suc (suc i)
+      next i b = fresh-next n big N 0 i b ∙ ap (λ x. suc (suc x)) (zero-add i)
+
+      go : (m : ℕ) → N ≡ m → Linked (link n h) 1 (counting m 0)
+      go zero e = let b = some-pages in absurd (omega arith)
+      go (suc m) e = counting-linked (link n h) N next (λ i q. fresh-last n big N 0 i q) m 0 (omega arith)
+
+  last-is : N ≡ lastLink free
+  unfolding free
+  last-is = go N refl
+    where
+      go : (m : ℕ) → N ≡ m → N ≡ lastLink (counting m 0)
+      go zero e = let b = some-pages in absurd (omega arith)
+      go (suc m) e = let q : N ≡ suc (0 + m) = omega arith in q ∙ sym (counting-last m 0)
+
+  cleans : (k : ℕ) → k < N → Clean n h k
+  cleans k b =
+      record {
+        rest = λ x p q.
+            let e : x ≡ k * 2 ^ n + (x - k * 2 ^ n) = omega arith in
+            ap (at h) e ∙ fresh-zero n big N 0 k (x - k * 2 ^ n) b (omega arith) (omega arith);
+      }
+
+  laid : Layout n N 0 own (λ k. 0) (λ j. []) free (begun (setUpStore n s))
+  unfolding free
+  laid =
+      record {
+        size = fresh-length n big N 0;
+        big = size .0;
+        rows = zero-le;
+        known = there;
+        free-own = λ k m. own-there k (in-free-there k m);
+        free-once = linked-once linked;
+        free-links = linked;
+        free-last = last-is;
+        free-count = sym (counting-length N 0);
+        free-clean = λ k o. cleans k (there k (λ q. let z : spare ≡ beyond = sym o ∙ q in let w : _≡_ {A = ℕ} 0 1 = cc in omega arith));
+        mine-own = λ j k b m. absurd (omega arith);
+        mine-once = λ j b. absurd (omega arith);
+        mine-links = λ j b. absurd (omega arith);
+        mine-body = λ j k o. never k j o;
+        mine-top = λ j b. absurd (omega arith);
+      }
+
+  one-word : wordOf 1 ≡ number
+  unfolding wordOf
+  one-word = refl
+
+  abbrev ones : List ℕ
+  ones = replicate (length (s .roots)) 1
+
+  root : (i : ℕ) → i < length ones → Good n 0 h (s .consts) (at ones i)
+  root i b =
+      let e = length-replicate {A = ℕ} (length (s .roots)) 1 in
+      rw (getD-replicate {A = ℕ} (length (s .roots)) i 1 0 (omega arith)) (a-number one-word)
+
+  pub set-up-sound : Sound (setUpStore n s)
+  unfolding free
+  set-up-sound =
+      let p : pageCount n h ≡ N = ap (λ x. x / 2 ^ n) long in
+      record {
+        within =
+            record {
+              paged = rw long paged;
+              two = rw long (within .two);
+              table = length-replicate (length (s .table)) 0 ∙ within .table;
+              roots = rw (length-replicate {A = ℕ} (length (s .roots)) 1) (within .roots);
+              consts = within .consts;
+            };
+        own = own;
+        fin = λ k. 0;
+        pages = λ j. [];
+        free = free;
+        regions = zero-le;
+        past = λ x a b. let t = within .table in getD-replicate (length (s .table)) x 0 0 (omega arith);
+        idle = λ j b. absurd (omega arith);
+        laid = rw p laid;
+        chained = λ k b. let b′ : k < N = rw p at b in in-free (own-there k b′) (counting-in N 0 k zero-le (omega arith));
+        fields = λ j k a l i b m st x r q. absurd (omega arith);
+        roots = root;
+        consts = consts;
+      }

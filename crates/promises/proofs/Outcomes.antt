@@ -1,0 +1,528 @@
+-- What each call's definition says of its outcome: it is determined, it refuses by the first of its tests that holds, and a refusal leaves
+-- every lent word and the record as they were. Each call is a row of tests with one rest.
+use Prim.Native.Nat.{ℕ, zero, suc, _+_, _-_, _*_, _/_, _%_, _^_}
+use native.Mathlib.Omega.{arith}
+use mathlib.Core.Path.{_≡_, refl, sym, ap, _∙_}
+use mathlib.Core.Logic.{_⊎_, inl, inr}
+use mathlib.Core.Bool.{Bool, true, false, _&&_, _||_, not}
+use mathlib.Core.Option.{Option, none, some}
+use mathlib.Core.List.{List, [], _∷_}
+use lib.ListN.{length}
+use lib.IntN.{ℤ, pos, negsuc}
+use lib.Dec.{leb, ltb, eqb}
+use borrow.Author.Tests.{eqb-false}
+use Rattle.laws.specs.Choice.{_⇒_∣_}
+use Rattle.laws.specs.Lists.{at}
+use Rattle.rules.specs.declared.Control.{Control}
+use Rattle.rules.specs.declared.Kind.{Kind}
+use Rattle.rules.specs.declared.Refusal.{Refusal}
+use Rattle.rules.specs.declared.Plain.{Plain}
+use Rattle.rules.specs.declared.Valued.{Valued}
+use Rattle.rules.specs.declared.Told.{Told}
+use Rattle.rules.specs.declared.Opened.{Opened}
+use Rattle.rules.specs.declared.Worded.{Worded}
+use Rattle.rules.specs.declared.Numbered.{Numbered}
+use Rattle.rules.specs.Memory.{pageWords, Store, pageCount, row, endOf, topOf}
+use Rattle.rules.specs.Words.{Word, number, inHeap, inConst, wordOf, pointerAddress, isRecord, goodHeap, goodConst, goodIn}
+use Rattle.rules.specs.Audit.{goodWord}
+use Rattle.rules.specs.Refusals.{Outcome, outcome, refused, withinLimits, commonTest, unbroken}
+use Rattle.rules.specs.Pages.{Run, begun, takePage, room, place}
+use Rattle.rules.specs.Calls.{lookIn, headerIn, fieldsIn, wordOfNumber, numberOfWord, setUp, pushOn, push, popOn, popTop, pop, headerFor, allocateOn, allocateIn, allocate, fetch, isThere, fetchRefusal, assignAt, assignBy, assign, setRoot, ends, stops, isNumber, stepInto, walkFrom, walkSays, walk, audit, due, usedWords, pageByNumber, pageRefusal}
+use Rattle.rules.specs.Collection.{Ended, finished, lacksPage, unfinished, freshen, evacuateAll, workStack, leaves, ending, collected, collect}
+use Rattle.rules.specs.Image.{Written, writeText, writeImage, Frames, frames, malformed, readText, storeOf, sameLengths, readStore, readOn, readImage}
+use Rattle.rules.proofs.Limits.{admits}
+use Rattle.facts.specs.Observed.{Demand3}
+use Rattle.facts.proofs.Passing.{meaning}
+use Rattle.facts.proofs.Sound.{Sound}
+use Rattle.working.proofs.Running.{Refusing as LacksPage}
+use Rattle.working.proofs.Collecting.{leaving, collects}
+use Rattle.promises.proofs.Ordered.{Lawful, is-done, tested, stopped, passed, after-admission, after-audit, onPlain, onValued, onOpened, onText, toPlain, toValued, toTold, toWorded, toNumbered}
+use Rattle.promises.specs.Order.{Test, test, numbers, whyPlain, whyValued, setUpTests, noPage, badLink, pushTests, popTests, allocateTests, fetchTests, isConst, assignTests, setRootTests, stepTests, stepNumbers, walkTests, auditTests, dueTests, usedTests, pageTests, lacks, collectTests, writeTests, isMalformed, faultLine, wordsOf, readTests, wordTests, numberTests}
+
+-- ---- determined
+
+-- two outcomes are one: the answer, and every lent word
+pub record SameOutcome {A : Type 0} (o p : Outcome A) : Type 0 where
+  pub answer : o .answer ≡ p .answer
+  pub heap : o .heap ≡ p .heap
+  pub table : o .table ≡ p .table
+  pub roots : o .roots ≡ p .roots
+  pub consts : o .consts ≡ p .consts
+
+-- a contract is the equation of the outcome with the call's definition d
+pub determined : {A : Type 0} (d o p : Outcome A) → o ≡ d → p ≡ d → SameOutcome o p
+determined {A} d o p e q =
+    let t : o ≡ p = e ∙ sym q in
+    record {
+      answer = ap (λ (x : Outcome A). x .answer) t;
+      heap = ap (λ (x : Outcome A). x .heap) t;
+      table = ap (λ (x : Outcome A). x .table) t;
+      roots = ap (λ (x : Outcome A). x .roots) t;
+      consts = ap (λ (x : Outcome A). x .consts) t;
+    }
+
+abbrev plain : Outcome Plain → Option Refusal
+plain o = whyPlain (o .answer)
+
+-- ---- the calls
+
+pub set-up-lawful : (n : ℕ) (heap table roots consts : List ℕ)
+    → Lawful (onOpened heap table roots consts) (setUpTests n heap table roots consts) (setUp n heap table roots consts)
+unfolding setUp
+set-up-lawful n heap table roots consts =
+    tested (onOpened heap table roots consts) _ Refusal.Limits [] _ (λ e. is-done (onOpened heap table roots consts) _ refl)
+
+-- a page is there where the count is not 0
+page-free : (s : Store) → withinLimits s ≡ true → commonTest s ≡ true → eqb (s .ctl .count) 0 ≡ false → (k : ℕ) × (s .ctl .first ≡ suc k)
+page-free s l c e = go (s .ctl .first) refl
+  where
+    go : (f : ℕ) → s .ctl .first ≡ f → (k : ℕ) × (s .ctl .first ≡ suc k)
+    go zero q =
+        let a = admits (length (s .heap)) (length (s .table)) (length (s .roots)) (length (s .consts)) (s .ctl) l c in
+        let ne = eqb-false (s .ctl .count) 0 e in
+        let b = a .some-page (omega arith) in
+        absurd (omega arith)
+    go (suc k) q = (k, q)
+
+pub push-lawful : (s : Store) → Lawful (onPlain s) (pushTests s) (push s)
+unfolding push pushOn takePage
+push-lawful s =
+    after-admission (onPlain s) s _ _
+    (λ l c.
+    tested (onPlain s) (leb 64 (s .ctl .regions)) Refusal.RegionsFull _ _
+    (λ full.
+    tested (onPlain s) (noPage s) Refusal.NoPage _ _
+    (λ some-page.
+    tested (onPlain s) (badLink s) (Refusal.Broken 0) [] _
+    (λ ok.
+    is-done (onPlain s) _ (let p = page-free s l c some-page in rw (pushOn, takePage, p .1))))))
+
+pub pop-lawful : (s : Store) → Lawful (onPlain s) (popTests s) (pop s)
+unfolding pop popTop popOn
+pop-lawful s =
+    after-audit (onPlain s) s _ _
+    (λ l c b.
+    tested (onPlain s) (eqb (s .ctl .regions) 0) Refusal.NoRegion _ _
+    (λ some-region. tested (onPlain s) _ Refusal.Held [] _ (λ free. is-done (onPlain s) _ refl)))
+
+-- where a value fits, or a page is there, it is placed
+allocated : (s : Store) (j : ℕ) (ws : List ℕ) → leb (topOf (s .table) j + length ws) (endOf (s .table) j) ≡ true → whyValued (allocateOn s (place (s .ctl .n) j ws (begun s)) .answer) ≡ none
+unfolding allocateOn place room
+allocated s j ws e = rw (place, room, e, allocateOn)
+
+allocated-in-page : (s : Store) (j : ℕ) (ws : List ℕ) (k : ℕ) → leb (topOf (s .table) j + length ws) (endOf (s .table) j) ≡ false → s .ctl .first ≡ suc k
+    → whyValued (allocateOn s (place (s .ctl .n) j ws (begun s)) .answer) ≡ none
+unfolding allocateOn place room takePage
+allocated-in-page s j ws k e q = rw (place, room, e, takePage, q, allocateOn)
+
+allocate-in : (s : Store) (j : ℕ) (value : List ℕ) → withinLimits s ≡ true → commonTest s ≡ true
+    → Lawful (onValued s)
+    (test (not (leb (topOf (s .table) j + length value) (endOf (s .table) j)) && noPage s) Refusal.NoPage
+    ∷ test (not (leb (topOf (s .table) j + length value) (endOf (s .table) j)) && badLink s) (Refusal.Broken 0)
+    ∷ [])
+    (allocateIn s j value)
+unfolding allocateIn
+allocate-in s j value l c = go (leb (topOf (s .table) j + length value) (endOf (s .table) j)) refl
+  where
+    go : (b : Bool) → leb (topOf (s .table) j + length value) (endOf (s .table) j) ≡ b
+        → Lawful (onValued s)
+        (test (not (leb (topOf (s .table) j + length value) (endOf (s .table) j)) && noPage s) Refusal.NoPage
+        ∷ test (not (leb (topOf (s .table) j + length value) (endOf (s .table) j)) && badLink s) (Refusal.Broken 0)
+        ∷ [])
+        (allocateIn s j value)
+    go true e =
+        rw e
+        (passed (onValued s) Refusal.NoPage _ _
+        (passed (onValued s) (Refusal.Broken 0) [] _ (is-done (onValued s) _ (allocated s j value e))))
+    go false e =
+        rw e
+        (tested (onValued s) (noPage s) Refusal.NoPage _ _
+        (λ some-page.
+        tested (onValued s) (badLink s) (Refusal.Broken 0) [] _
+        (λ ok. let p = page-free s l c some-page in is-done (onValued s) _ (allocated-in-page s j value (p .0) e (p .1)))))
+
+pub allocate-lawful : (s : Store) (j : ℕ) (kind : Kind) (ws : List ℕ) → Lawful (onValued s) (allocateTests s j kind ws) (allocate s j kind ws)
+unfolding allocate
+allocate-lawful s j kind ws =
+    after-admission (onValued s) s _ _
+    (λ l c.
+    tested (onValued s) (leb (s .ctl .regions) j) Refusal.NoRegion _ _
+    (λ e₁.
+    tested (onValued s) _ (Refusal.Broken 0) _ _
+    (λ e₂.
+    tested (onValued s) (ltb (2 ^ s .ctl .n) (length ws + 3)) Refusal.TooLong _ _
+    (λ e₃. tested (onValued s) _ Refusal.NotGood _ _ (λ e₄. allocate-in s j (headerFor kind (length ws) ∷ ws) l c)))))
+
+pub fetch-lawful : (s : Store) (w : ℕ) → Lawful (toPlain (s .ctl)) (fetchTests s w) (fetchRefusal s w)
+unfolding fetchRefusal
+fetch-lawful s w =
+    after-admission (toPlain (s .ctl)) s _ _
+    (λ l c. tested (toPlain (s .ctl)) _ Refusal.NotGood [] _ (λ e. is-done (toPlain (s .ctl)) _ refl))
+
+-- the part that a fetch hands back is empty exactly when the call of its own refuses
+pub fetch-empty : (s : Store) (w : ℕ) (r : Refusal) → fetchRefusal s w ≡ Plain.Refused r (s .ctl) → fetch s w ≡ []
+unfolding fetch fetchRefusal
+fetch-empty s w r e = go (withinLimits s) refl (commonTest s) refl (lookIn s w) refl
+  where
+    go : (a : Bool) → withinLimits s ≡ a → (b : Bool) → commonTest s ≡ b → (v : List ℕ) → lookIn s w ≡ v → fetch s w ≡ []
+    go false p b q v x = rw p
+    go true p false q v x = rw (p, q)
+    go true p true q [] x = rw (p, q, x)
+    go true p true q (h ∷ ws) x = let z : Plain.Done (s .ctl) ≡ Plain.Refused r (s .ctl) = rw (p, q, x) at e in let w : _≡_ {A = ℕ} 0 1 = cc in absurd (omega arith)
+
+-- and there is a value in it where it does not
+pub fetch-there : (s : Store) (w : ℕ) → fetchRefusal s w ≡ Plain.Done (s .ctl) → isThere (fetch s w) ≡ true
+unfolding fetch fetchRefusal
+fetch-there s w e = go (withinLimits s) refl (commonTest s) refl (lookIn s w) refl
+  where
+    no-way : {A : Type 0} {r : Refusal} → Plain.Refused r (s .ctl) ≡ Plain.Done (s .ctl) → A
+    no-way z = let q : _≡_ {A = ℕ} 0 1 = cc in absurd (omega arith)
+
+    go : (a : Bool) → withinLimits s ≡ a → (b : Bool) → commonTest s ≡ b → (v : List ℕ) → lookIn s w ≡ v → isThere (fetch s w) ≡ true
+    go false p b q v x = no-way (rw p at e)
+    go true p false q v x = no-way (rw (p, q) at e)
+    go true p true q [] x = no-way (rw (p, q, x) at e)
+    go true p true q (h ∷ ws) x = rw (p, q, x)
+
+-- ---- assigning a field
+
+heap-address : (w a : ℕ) → wordOf w ≡ inHeap a → a ≡ pointerAddress w
+unfolding wordOf
+heap-address w a e = go (w % 4) refl
+  where
+    go : (x : ℕ) → w % 4 ≡ x → a ≡ pointerAddress w
+    go zero q = let e′ : inHeap (w / 4) ≡ inHeap a = rw q at e in cc
+    go (suc zero) q = let e′ : number ≡ inHeap a = rw q at e in cc
+    go (suc (suc zero)) q = let e′ : inConst (w / 4) ≡ inHeap a = rw q at e in cc
+    go (suc (suc (suc x))) q = let e′ : number ≡ inHeap a = rw q at e in cc
+
+pub assign-lawful : (s : Store) (w i x : ℕ) → Lawful (onPlain s) (assignTests s w i x) (assign s w i x)
+unfolding assign assignBy assignAt goodIn
+assign-lawful s w i x =
+    after-admission (onPlain s) s _ _ (λ l c. go (wordOf w) refl)
+  where
+    rest : List Test
+    rest =
+        test (not (goodWord s w)) Refusal.NotGood
+        ∷ test (isConst (wordOf w)) Refusal.Constant
+        ∷ test (isNumber (wordOf w) || not (isRecord (at (s .heap) (pointerAddress w)))) Refusal.NoFields
+        ∷ test (leb (at (s .heap) (pointerAddress w) / 8) i) Refusal.NoSuch
+        ∷ test (not (goodWord s x)) Refusal.NotGood
+        ∷ []
+
+    go : (v : Word) → wordOf w ≡ v → Lawful (onPlain s) rest (assignBy s (wordOf w) i x)
+    go number e =
+        rw (e, goodIn)
+        (passed (onPlain s) Refusal.NotGood _ _
+        (passed (onPlain s) Refusal.Constant _ _
+        (stopped (onPlain s) Refusal.NoFields _)))
+    go (inHeap a) e =
+        rw (e, goodIn, ← heap-address w a e)
+        (tested (onPlain s) (not (goodHeap (s .ctl .n) (s .ctl .regions) (s .heap) a)) Refusal.NotGood _ _
+        (λ q.
+        passed (onPlain s) Refusal.Constant _ _
+        (tested (onPlain s) (not (isRecord (at (s .heap) a))) Refusal.NoFields _ _
+        (λ q.
+        tested (onPlain s) (leb (at (s .heap) a / 8) i) Refusal.NoSuch _ _
+        (λ q. tested (onPlain s) (not (goodWord s x)) Refusal.NotGood [] _ (λ q. is-done (onPlain s) _ refl))))))
+    go (inConst a) e =
+        rw (e, goodIn)
+        (tested (onPlain s) (not (goodConst (s .consts) a)) Refusal.NotGood _ _
+        (λ q. stopped (onPlain s) Refusal.Constant _))
+
+pub set-root-lawful : (s : Store) (i w : ℕ) → Lawful (onPlain s) (setRootTests s i w) (setRoot s i w)
+unfolding setRoot
+set-root-lawful s i w =
+    after-admission (onPlain s) s _ _
+    (λ l c.
+    tested (onPlain s) (leb (length (s .roots)) i) Refusal.NoSuch _ _
+    (λ e₁. tested (onPlain s) (not (goodWord s w)) Refusal.NotGood [] _ (λ e₂. is-done (onPlain s) _ refl)))
+
+-- ---- walking a path
+
+-- a walk that is at the word w: each step 7, 9, 10, the final word 7
+steps-lawful : (c : Control) (view : ℕ → List ℕ) (w : ℕ) (path : List ℕ) → Lawful (toValued c) (stepTests view w path) (walkSays c (walkFrom view w path))
+unfolding stepTests walkFrom stepInto
+steps-lawful c view w [] = go (isNumber (wordOf w)) refl
+  where
+    go : (b : Bool) → isNumber (wordOf w) ≡ b → Lawful (toValued c) (stepTests view w []) (walkSays c (walkFrom view w []))
+    go true e =
+        rw (stepTests, walkFrom, e)
+        (passed (toValued c) Refusal.NotGood [] _ (is-done (toValued c) (Valued.Done w c) refl))
+    go false e = rw (stepTests, walkFrom, e) (last (isThere (view w)) refl)
+      where
+        last : (b : Bool) → isThere (view w) ≡ b → Lawful (toValued c) (test (not (isThere (view w))) Refusal.NotGood ∷ []) (walkSays c (not (isThere (view w)) ⇒ stops Refusal.NotGood ∣ ends w))
+        last true q = rw q (passed (toValued c) Refusal.NotGood [] _ (is-done (toValued c) (Valued.Done w c) refl))
+        last false q = rw q (stopped (toValued c) Refusal.NotGood [])
+steps-lawful c view w (f ∷ fs) = go (isNumber (wordOf w)) refl (λ x. steps-lawful c view x fs)
+  where
+    into : (a : Bool) → isThere (view w) ≡ a → (b : Bool) → isRecord (headerIn (view w)) ≡ b → (d : Bool) → leb (fieldsIn (view w)) f ≡ d
+        → Lawful (toValued c) (stepTests view (at (view w) (suc f)) fs) (walkSays c (walkFrom view (at (view w) (suc f)) fs))
+        → Lawful (toValued c)
+        (test (not (isThere (view w))) Refusal.NotGood ∷ test (not (isRecord (headerIn (view w)))) Refusal.NoFields ∷ test (leb (fieldsIn (view w)) f) Refusal.NoSuch
+        ∷ stepTests view (at (view w) (suc f)) fs)
+        (walkSays c (stepInto (view w) f (λ x. walkFrom view x fs)))
+    into false p b q d r rest = rw p (stopped (toValued c) Refusal.NotGood _)
+    into true p false q d r rest =
+        rw (p, q)
+        (passed (toValued c) Refusal.NotGood _ _
+        (stopped (toValued c) Refusal.NoFields _))
+    into true p true q true r rest =
+        rw (p, q, r)
+        (passed (toValued c) Refusal.NotGood _ _
+        (passed (toValued c) Refusal.NoFields _ _
+        (stopped (toValued c) Refusal.NoSuch _)))
+    into true p true q false r rest =
+        rw (p, q, r)
+        (passed (toValued c) Refusal.NotGood _ _
+        (passed (toValued c) Refusal.NoFields _ _
+        (passed (toValued c) Refusal.NoSuch _ _ (rest))))
+
+    go : (b : Bool) → isNumber (wordOf w) ≡ b
+        → ((x : ℕ) → Lawful (toValued c) (stepTests view x fs) (walkSays c (walkFrom view x fs)))
+        → Lawful (toValued c) (stepTests view w (f ∷ fs)) (walkSays c (walkFrom view w (f ∷ fs)))
+    go true e rest =
+        rw (stepTests, walkFrom, e)
+        (passed (toValued c) Refusal.NotGood _ _
+        (stopped (toValued c) Refusal.NoFields _))
+    go false e rest =
+        rw (stepTests, walkFrom, e)
+        (into (isThere (view w)) refl (isRecord (headerIn (view w))) refl (leb (fieldsIn (view w)) f) refl (rest (at (view w) (suc f))))
+
+pub walk-lawful : (s : Store) (i : ℕ) (path : List ℕ) → Lawful (toValued (s .ctl)) (walkTests s i path) (walk s i path)
+unfolding walk
+walk-lawful s i path =
+    after-admission (toValued (s .ctl)) s _ _
+    (λ l c. tested (toValued (s .ctl)) (leb (length (s .roots)) i) Refusal.NoSuch _ _ (λ e. steps-lawful (s .ctl) (lookIn s) (at (s .roots) i) path))
+
+-- ---- the others
+
+pub audit-lawful : (s : Store) → Lawful (toPlain (s .ctl)) (auditTests s) (audit s)
+unfolding audit
+audit-lawful s = after-audit (toPlain (s .ctl)) s [] _ (λ l c b. is-done (toPlain (s .ctl)) _ refl)
+
+pub due-lawful : (s : Store) → Lawful (toTold (s .ctl)) (dueTests s) (due s)
+unfolding due
+due-lawful s = after-admission (toTold (s .ctl)) s [] _ (λ l c. is-done (toTold (s .ctl)) _ refl)
+
+pub used-lawful : (s : Store) (j : ℕ) → Lawful (toValued (s .ctl)) (usedTests s j) (usedWords s j)
+unfolding usedWords
+used-lawful s j =
+    after-audit (toValued (s .ctl)) s _ _
+    (λ l c b.
+    tested (toValued (s .ctl)) (leb (s .ctl .regions) j) Refusal.NoRegion [] _ (λ e. is-done (toValued (s .ctl)) _ refl))
+
+pub page-lawful : (s : Store) (k : ℕ) → Lawful (toPlain (s .ctl)) (pageTests s k) (pageRefusal s k)
+unfolding pageRefusal
+page-lawful s k =
+    after-admission (toPlain (s .ctl)) s _ _
+    (λ l c.
+    tested (toPlain (s .ctl)) (leb (pageCount (s .ctl .n) (s .heap)) k) Refusal.NoSuch [] _ (λ e. is-done (toPlain (s .ctl)) _ refl))
+
+pub page-empty : (s : Store) (k : ℕ) (r : Refusal) → pageRefusal s k ≡ Plain.Refused r (s .ctl) → pageByNumber s k ≡ []
+unfolding pageByNumber pageRefusal
+page-empty s k r e = go (withinLimits s) refl (commonTest s) refl (leb (pageCount (s .ctl .n) (s .heap)) k) refl
+  where
+    go : (a : Bool) → withinLimits s ≡ a → (b : Bool) → commonTest s ≡ b → (v : Bool) → leb (pageCount (s .ctl .n) (s .heap)) k ≡ v → pageByNumber s k ≡ []
+    go false p b q v x = rw p
+    go true p false q v x = rw (p, q)
+    go true p true q true x = rw (p, q, x)
+    go true p true q false x = let z : Plain.Done (s .ctl) ≡ Plain.Refused r (s .ctl) = rw (p, q, x) at e in let w : _≡_ {A = ℕ} 0 1 = cc in absurd (omega arith)
+
+pub page-there : (s : Store) (k : ℕ) → pageRefusal s k ≡ Plain.Done (s .ctl) → pageByNumber s k ≡ pageWords (s .ctl .n) (s .heap) k
+unfolding pageByNumber pageRefusal
+page-there s k e = go (withinLimits s) refl (commonTest s) refl (leb (pageCount (s .ctl .n) (s .heap)) k) refl
+  where
+    no-way : {A : Type 0} {r : Refusal} → Plain.Refused r (s .ctl) ≡ Plain.Done (s .ctl) → A
+    no-way z = let q : _≡_ {A = ℕ} 0 1 = cc in absurd (omega arith)
+
+    go : (a : Bool) → withinLimits s ≡ a → (b : Bool) → commonTest s ≡ b → (v : Bool) → leb (pageCount (s .ctl .n) (s .heap)) k ≡ v
+        → pageByNumber s k ≡ pageWords (s .ctl .n) (s .heap) k
+    go false p b q v x = no-way (rw p at e)
+    go true p false q v x = no-way (rw (p, q) at e)
+    go true p true q true x = no-way (rw (p, q, x) at e)
+    go true p true q false x = rw (p, q, x)
+
+-- the collection: on a heap that passes its fuel does not run out
+pub collect-lawful : (s : Store) → Lawful (onPlain s) (collectTests s) (collect s)
+unfolding collect collected lacks ending leaves
+collect-lawful s =
+    after-audit (onPlain s) s _ _
+    (λ l c b. fresh (collects s (meaning s .0 (record { limits = l; common = c; unbroken = b }))) (freshen (s .ctl .n) (s .ctl .regions) 0 (begun s)) refl)
+  where
+    Ends : Sound s → Type 0
+    Ends S = ((collected s ≡ refused s Refusal.NoPage) × LacksPage s S) ⊎ ((s′ : Store) × (collected s ≡ leaving s′) × Sound s′ × Demand3 s s′)
+
+    none-left : lacks s ≡ true → collected s ≡ refused s Refusal.NoPage → Lawful (onPlain s) (test (lacks s) Refusal.NoPage ∷ []) (collected s)
+    none-left e q = rw (e, q) (stopped (onPlain s) Refusal.NoPage [])
+
+    never : {A : Type 0} {S : Sound s} → Ends S → collected s ≡ refused s (Refusal.Broken 0) → A
+    never (inl u) e =
+        let q : plain (refused s Refusal.NoPage) ≡ plain (refused s (Refusal.Broken 0)) = ap plain (sym (u .0) ∙ e) in
+        let z : _≡_ {A = ℕ} 0 1 = cc in
+        absurd (omega arith)
+    never (inr u) e =
+        let q : plain (leaving (u .0)) ≡ plain (refused s (Refusal.Broken 0)) = ap plain (sym (u .1) ∙ e) in
+        let z : _≡_ {A = ℕ} 0 1 = cc in
+        absurd (omega arith)
+
+    worked : {S : Sound s} → Ends S → (r : Run) → freshen (s .ctl .n) (s .ctl .regions) 0 (begun s) ≡ some r → (p : List ℕ × Run) → evacuateAll (s .ctl .n) (s .roots) r ≡ some p
+        → (e : Ended) → workStack (s .ctl .n) (p .1) ≡ e → Lawful (onPlain s) (test (lacks s) Refusal.NoPage ∷ []) (collected s)
+    worked E r q p x (finished t) y =
+        let f : lacks s ≡ false = rw (lacks, q, x, y) in
+        rw (f, collected, q, x, y) (passed (onPlain s) Refusal.NoPage [] _ (is-done (onPlain s) _ refl))
+    worked E r q p x lacksPage y = none-left (rw (lacks, q, x, y)) (rw (collected, q, x, y))
+    worked E r q p x unfinished y = never E (rw (collected, q, x, y))
+
+    evacuated : {S : Sound s} → Ends S → (r : Run) → freshen (s .ctl .n) (s .ctl .regions) 0 (begun s) ≡ some r → (o : Option (List ℕ × Run)) → evacuateAll (s .ctl .n) (s .roots) r ≡ o
+        → Lawful (onPlain s) (test (lacks s) Refusal.NoPage ∷ []) (collected s)
+    evacuated E r q none x = none-left (rw (lacks, q, x)) (rw (collected, q, x))
+    evacuated E r q (some p) x = worked E r q p x (workStack (s .ctl .n) (p .1)) refl
+
+    fresh : {S : Sound s} → Ends S → (o : Option Run) → freshen (s .ctl .n) (s .ctl .regions) 0 (begun s) ≡ o → Lawful (onPlain s) (test (lacks s) Refusal.NoPage ∷ []) (collected s)
+    fresh E none q = none-left (rw (lacks, q)) (rw (collected, q))
+    fresh E (some r) q = evacuated E r q (evacuateAll (s .ctl .n) (s .roots) r) refl
+
+pub write-lawful : (s : Store) (bytes : List ℕ) → Lawful (onText s bytes) (writeTests s bytes) (writeImage s bytes)
+unfolding writeImage writeText
+write-lawful s bytes =
+    after-admission (onText s bytes) s _ _
+    (λ l c.
+    tested (onText s bytes) _ (Refusal.Broken 0) _ _
+    (λ e₁. tested (onText s bytes) _ Refusal.Limits [] _ (λ e₂. is-done (onText s bytes) _ refl)))
+
+pub read-lawful : (text heap table roots consts : List ℕ)
+    → Lawful (onOpened heap table roots consts) (readTests text heap table roots consts) (readImage text heap table roots consts)
+unfolding readImage readStore
+read-lawful text heap table roots consts = go (readText text)
+  where
+    go : (fs : Frames)
+        → Lawful (onOpened heap table roots consts)
+        (test (isMalformed fs) (Refusal.Malformed (faultLine fs)) ∷ test (not (sameLengths (storeOf (wordsOf fs)) heap table roots consts)) Refusal.Limits ∷ [])
+        (readOn fs heap table roots consts)
+    go (frames fs) =
+        passed (onOpened heap table roots consts) (Refusal.Malformed 0) _ _
+        (tested (onOpened heap table roots consts) (not (sameLengths (storeOf fs) heap table roots consts)) Refusal.Limits [] _
+        (λ e. is-done (onOpened heap table roots consts) _ refl))
+    go (malformed line) =
+        stopped (onOpened heap table roots consts) (Refusal.Malformed line) _
+
+pub word-lawful : (i : ℤ) → Lawful toWorded (wordTests i) (wordOfNumber i)
+word-lawful (pos i) = go (ltb i (2 ^ 30))
+  where
+    go : (b : Bool) → Lawful toWorded (test (not b) Refusal.NoNumber ∷ []) (b ⇒ Worded.Done (2 * i + 1) ∣ Worded.Refused Refusal.NoNumber)
+    go true = passed toWorded Refusal.NoNumber [] _ (is-done toWorded (Worded.Done (2 * i + 1)) refl)
+    go false = stopped toWorded Refusal.NoNumber []
+word-lawful (negsuc i) = go (ltb i (2 ^ 30))
+  where
+    go : (b : Bool) → Lawful toWorded (test (not b) Refusal.NoNumber ∷ []) (b ⇒ Worded.Done (2 ^ 32 - (2 * i + 1)) ∣ Worded.Refused Refusal.NoNumber)
+    go true = passed toWorded Refusal.NoNumber [] _ (is-done toWorded (Worded.Done (2 ^ 32 - (2 * i + 1))) refl)
+    go false = stopped toWorded Refusal.NoNumber []
+
+pub number-lawful : (w : ℕ) → Lawful toNumbered (numberTests w) (numberOfWord w)
+unfolding numberOfWord
+number-lawful w = tested toNumbered (eqb (w % 2) 0) Refusal.NoNumber [] _ (λ e. go (ltb w (2 ^ 31)))
+  where
+    go : (b : Bool) → Lawful toNumbered [] (b ⇒ Numbered.Done (pos (w / 2)) ∣ Numbered.Done (negsuc ((2 ^ 32 - 1 - w) / 2)))
+    go true = is-done toNumbered _ refl
+    go false = is-done toNumbered _ refl
+
+-- ---- the numbers are those that document 01 lists, in its order
+
+step-numbers : (view : ℕ → List ℕ) (w : ℕ) (path : List ℕ) → numbers (stepTests view w path) ≡ stepNumbers (length path)
+unfolding numbers stepTests stepNumbers
+step-numbers view w [] = refl
+step-numbers view w (f ∷ fs) = ap (λ r. 7 ∷ 9 ∷ 10 ∷ r) (step-numbers view (at (view w) (suc f)) fs)
+
+pub record Numbers : Type 0 where
+  pub of-set-up : (n : ℕ) (heap table roots consts : List ℕ) → numbers (setUpTests n heap table roots consts) ≡ 1 ∷ []
+  pub of-push : (s : Store) → numbers (pushTests s) ≡ 1 ∷ 2 ∷ 3 ∷ 4 ∷ 2 ∷ []
+  pub of-pop : (s : Store) → numbers (popTests s) ≡ 1 ∷ 2 ∷ 2 ∷ 5 ∷ 6 ∷ []
+  pub of-allocate : (s : Store) (j : ℕ) (kind : Kind) (ws : List ℕ) → numbers (allocateTests s j kind ws) ≡ 1 ∷ 2 ∷ 5 ∷ 2 ∷ 8 ∷ 7 ∷ 4 ∷ 2 ∷ []
+  pub of-fetch : (s : Store) (w : ℕ) → numbers (fetchTests s w) ≡ 1 ∷ 2 ∷ 7 ∷ []
+  pub of-assign : (s : Store) (w i x : ℕ) → numbers (assignTests s w i x) ≡ 1 ∷ 2 ∷ 7 ∷ 12 ∷ 9 ∷ 10 ∷ 7 ∷ []
+  pub of-set-root : (s : Store) (i w : ℕ) → numbers (setRootTests s i w) ≡ 1 ∷ 2 ∷ 10 ∷ 7 ∷ []
+  pub of-walk : (s : Store) (i : ℕ) (path : List ℕ) → numbers (walkTests s i path) ≡ 1 ∷ 2 ∷ 10 ∷ stepNumbers (length path)
+  pub of-audit : (s : Store) → numbers (auditTests s) ≡ 1 ∷ 2 ∷ 2 ∷ []
+  pub of-collect : (s : Store) → numbers (collectTests s) ≡ 1 ∷ 2 ∷ 2 ∷ 4 ∷ []
+  pub of-due : (s : Store) → numbers (dueTests s) ≡ 1 ∷ 2 ∷ []
+  pub of-used-words : (s : Store) (j : ℕ) → numbers (usedTests s j) ≡ 1 ∷ 2 ∷ 2 ∷ 5 ∷ []
+  pub of-page : (s : Store) (k : ℕ) → numbers (pageTests s k) ≡ 1 ∷ 2 ∷ 10 ∷ []
+  pub of-write : (s : Store) (bytes : List ℕ) → numbers (writeTests s bytes) ≡ 1 ∷ 2 ∷ 2 ∷ 1 ∷ []
+  pub of-read : (text heap table roots consts : List ℕ) → numbers (readTests text heap table roots consts) ≡ 14 ∷ 1 ∷ []
+  pub of-word : (i : ℤ) → numbers (wordTests i) ≡ 13 ∷ []
+  pub of-number : (w : ℕ) → numbers (numberTests w) ≡ 13 ∷ []
+
+pub the-numbers : Numbers
+unfolding numbers
+the-numbers =
+    record {
+      of-set-up = λ n heap table roots consts. refl;
+      of-push = λ s. refl;
+      of-pop = λ s. refl;
+      of-allocate = λ s j kind ws. refl;
+      of-fetch = λ s w. refl;
+      of-assign = λ s w i x. refl;
+      of-set-root = λ s i w. refl;
+      of-walk = λ s i path. ap (λ r. 1 ∷ 2 ∷ 10 ∷ r) (step-numbers (lookIn s) (at (s .roots) i) path);
+      of-audit = λ s. refl;
+      of-collect = λ s. refl;
+      of-due = λ s. refl;
+      of-used-words = λ s j. refl;
+      of-page = λ s k. refl;
+      of-write = λ s bytes. refl;
+      of-read = λ text heap table roots consts. refl;
+      of-word = λ i. refl;
+      of-number = λ w. refl;
+    }
+
+-- ---- each call is determined: two outcomes that satisfy its contract are one
+
+-- an answer alone, or a part handed back
+same : {A : Type 0} {d r q : A} → r ≡ d → q ≡ d → r ≡ q
+same e f = e ∙ sym f
+
+pub record Determined : Type 0 where
+  pub by-set-up : (n : ℕ) (heap table roots consts : List ℕ) (o p : Outcome Opened) → o ≡ setUp n heap table roots consts → p ≡ setUp n heap table roots consts → SameOutcome o p
+  pub by-push : (s : Store) (o p : Outcome Plain) → o ≡ push s → p ≡ push s → SameOutcome o p
+  pub by-pop : (s : Store) (o p : Outcome Plain) → o ≡ pop s → p ≡ pop s → SameOutcome o p
+  pub by-allocate : (s : Store) (j : ℕ) (kind : Kind) (ws : List ℕ) (o p : Outcome Valued) → o ≡ allocate s j kind ws → p ≡ allocate s j kind ws → SameOutcome o p
+  pub by-fetch : (s : Store) (w : ℕ) (v u : List ℕ) → v ≡ fetch s w → u ≡ fetch s w → v ≡ u
+  pub by-fetch-refusal : (s : Store) (w : ℕ) (r q : Plain) → r ≡ fetchRefusal s w → q ≡ fetchRefusal s w → r ≡ q
+  pub by-assign : (s : Store) (w i x : ℕ) (o p : Outcome Plain) → o ≡ assign s w i x → p ≡ assign s w i x → SameOutcome o p
+  pub by-set-root : (s : Store) (i w : ℕ) (o p : Outcome Plain) → o ≡ setRoot s i w → p ≡ setRoot s i w → SameOutcome o p
+  pub by-walk : (s : Store) (i : ℕ) (path : List ℕ) (r q : Valued) → r ≡ walk s i path → q ≡ walk s i path → r ≡ q
+  pub by-audit : (s : Store) (r q : Plain) → r ≡ audit s → q ≡ audit s → r ≡ q
+  pub by-collect : (s : Store) (o p : Outcome Plain) → o ≡ collect s → p ≡ collect s → SameOutcome o p
+  pub by-due : (s : Store) (r q : Told) → r ≡ due s → q ≡ due s → r ≡ q
+  pub by-used-words : (s : Store) (j : ℕ) (r q : Valued) → r ≡ usedWords s j → q ≡ usedWords s j → r ≡ q
+  pub by-page : (s : Store) (k : ℕ) (v u : List ℕ) → v ≡ pageByNumber s k → u ≡ pageByNumber s k → v ≡ u
+  pub by-page-refusal : (s : Store) (k : ℕ) (r q : Plain) → r ≡ pageRefusal s k → q ≡ pageRefusal s k → r ≡ q
+  pub by-word : (i : ℤ) (r q : Worded) → r ≡ wordOfNumber i → q ≡ wordOfNumber i → r ≡ q
+  pub by-number : (w : ℕ) (r q : Numbered) → r ≡ numberOfWord w → q ≡ numberOfWord w → r ≡ q
+  pub by-write : (s : Store) (bytes : List ℕ) (o p : Written) → o ≡ writeImage s bytes → p ≡ writeImage s bytes → (o .answer ≡ p .answer) × (o .bytes ≡ p .bytes)
+  pub by-read : (text heap table roots consts : List ℕ) (o p : Outcome Opened) → o ≡ readImage text heap table roots consts → p ≡ readImage text heap table roots consts → SameOutcome o p
+
+pub all-determined : Determined
+all-determined =
+    record {
+      by-set-up = λ n heap table roots consts. determined (setUp n heap table roots consts);
+      by-push = λ s. determined (push s);
+      by-pop = λ s. determined (pop s);
+      by-allocate = λ s j kind ws. determined (allocate s j kind ws);
+      by-fetch = λ s w v u. same;
+      by-fetch-refusal = λ s w r q. same;
+      by-assign = λ s w i x. determined (assign s w i x);
+      by-set-root = λ s i w. determined (setRoot s i w);
+      by-walk = λ s i path r q. same;
+      by-audit = λ s r q. same;
+      by-collect = λ s. determined (collect s);
+      by-due = λ s r q. same;
+      by-used-words = λ s j r q. same;
+      by-page = λ s k v u. same;
+      by-page-refusal = λ s k r q. same;
+      by-word = λ i r q. same;
+      by-number = λ w r q. same;
+      by-write = λ s bytes o p e f. let t : o ≡ p = same e f in (ap (λ (x : Written). x .answer) t, ap (λ (x : Written). x .bytes) t);
+      by-read = λ text heap table roots consts. determined (readImage text heap table roots consts);
+    }

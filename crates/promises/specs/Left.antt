@@ -1,0 +1,21 @@
+-- What a call leaves: every lent word, and the control record that it returns.
+use Rattle.rules.specs.declared.Control.{Control}
+use Rattle.rules.specs.declared.Plain.{Plain}
+use Rattle.rules.specs.declared.Valued.{Valued}
+use Rattle.rules.specs.Memory.{Store, lent}
+use Rattle.rules.specs.Refusals.{Outcome}
+
+abbrev pub recordPlain : Plain → Control
+recordPlain (Plain.Done c) = c
+recordPlain (Plain.Refused r c) = c
+
+abbrev pub recordValued : Valued → Control
+recordValued (Valued.Done w c) = c
+recordValued (Valued.Refused r c) = c
+
+-- the store after a call that may change it
+abbrev pub leftPlain : Outcome Plain → Store
+leftPlain o = lent (o .heap) (o .table) (o .roots) (o .consts) (recordPlain (o .answer))
+
+abbrev pub leftValued : Outcome Valued → Store
+leftValued o = lent (o .heap) (o .table) (o .roots) (o .consts) (recordValued (o .answer))

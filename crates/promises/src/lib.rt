@@ -1,0 +1,1 @@
+// The demands as theorems about the definitions. There is no code here.

@@ -1,0 +1,25 @@
+-- `regions::end_of` meets its contract: the row lies inside the table.
+use borrow.Author.Needs.{needs}
+use Prim.Native.Nat.{_+_, _*_}
+use mathlib.Core.Path.{refl}
+use native.Mathlib.Omega.{arith}
+use Rattle.regions.proofs.end_of.Statement.{statement}
+use Rattle.regions.proofs.end_of.Tie as tie
+
+mul-row : tie.Need-mul-row
+mul-row c = search needs
+
+mul-t4 : tie.Need-mul-t4
+mul-t4 c = search needs
+
+shared-slice-read-t6 : tie.Need-shared-slice-read-t6
+shared-slice-read-t6 c = search needs
+
+cast-t7 : tie.Need-cast-t7
+cast-t7 c = omega (arith, c .shared-slice-known .given (4 * c .before .before .args .j .0))
+
+returns : tie.Need-returns
+returns c = (refl, omega (arith, c .shared-slice-known .given (4 * c .before .before .args .j .0)))
+
+pub end-of-spec : {M : Type 1} → statement M
+end-of-spec = tie.close (tie.spec mul-row mul-t4 shared-slice-read-t6 cast-t7 returns)

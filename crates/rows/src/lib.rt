@@ -1,0 +1,59 @@
+// The rows of the region table, read by name, and the addresses of the pages that links name.
+ghost use mathlib.Core.Path.{_≡_};
+ghost use Prim.Native.Nat.{_+_, _-_, _*_, _/_, _^_, _≤_, _<_};
+ghost use lib.ListN.{length};
+ghost use Rattle.rules.specs.Memory.{pageAddress, linkPage, endOf, firstOf, topOf, statusOf, firstLink};
+use rules::Address;
+use rules::Region;
+use rules::address_page;
+use rules::link_page;
+use rules::page_address;
+use rules::page_link;
+
+// e: the address just past the region's last page.
+pub fn end_of(table: &[u32], j: Region) -> Address
+    requires { ⌜ (length (now table) ≡ 256) × (j .0 < 64) ⌝ }
+    ensures { λ r. ⌜ (r .0 ≡ endOf (now (table .entry)) (j .0)) × (r .0 < 4294967296) ⌝ }
+{
+    Address(table[4 * j.0] as usize)
+}
+
+// fp: the address of the region's first page.
+pub fn first_of(table: &[u32], j: Region) -> Address
+    requires { ⌜ (length (now table) ≡ 256) × (j .0 < 64) ⌝ }
+    ensures { λ r. ⌜ (r .0 ≡ firstOf (now (table .entry)) (j .0)) × (r .0 < 4294967296) ⌝ }
+{
+    Address(table[4 * j.0 + 1] as usize)
+}
+
+// a: the first unused address in the region's last page.
+pub fn top_of(table: &[u32], j: Region) -> Address
+    requires { ⌜ (length (now table) ≡ 256) × (j .0 < 64) ⌝ }
+    ensures { λ r. ⌜ (r .0 ≡ topOf (now (table .entry)) (j .0)) × (r .0 < 4294967296) ⌝ }
+{
+    Address(table[4 * j.0 + 2] as usize)
+}
+
+// b: 0 between calls.
+pub fn status_of(table: &[u32], j: Region) -> u32
+    requires { ⌜ (length (now table) ≡ 256) × (j .0 < 64) ⌝ }
+    ensures { λ r. ⌜ r ≡ statusOf (now (table .entry)) (j .0) ⌝ }
+{
+    table[4 * j.0 + 3]
+}
+
+// The link to the region's first page.
+pub fn first_link(table: &[u32], j: Region, n: u32) -> u32
+    requires { ⌜ (length (now table) ≡ 256) × (j .0 < 64) × (4 ≤ n) × (n ≤ 8) ⌝ }
+    ensures { λ r. ⌜ r ≡ firstLink n (now (table .entry)) (j .0) ⌝ }
+{
+    page_link(address_page(first_of(table, j), n))
+}
+
+// The address of the page that a link names.
+pub fn link_address(link: u32, n: u32) -> Address
+    requires { ⌜ (0 < link) × (link ≤ 65536) × (n ≤ 8) ⌝ }
+    ensures { λ r. ⌜ r .0 ≡ pageAddress n (linkPage link) ⌝ }
+{
+    page_address(link_page(link), n)
+}

@@ -1,0 +1,120 @@
+-- What a good pointer names: the value lies inside its memory, since the stepping that lands on it tests that; and the turn laws of `look`.
+use Prim.Native.Nat.{ℕ, zero, suc, _+_, _-_, _*_, _/_, _%_, _^_, _<_}
+use mathlib.Core.Path.{_≡_, refl, sym, ap, _∙_}
+use mathlib.Core.Bool.{Bool, true, false}
+use mathlib.Core.List.{List, [], _∷_}
+use native.Mathlib.Omega.{arith}
+use native.Mathlib.Decide.{decLe}
+use lib.Dec.{leb}
+use lib.ListN.{length, take, drop}
+use Rattle.laws.specs.Lists.{at}
+use Rattle.rules.specs.Calls.{isThere}
+use Rattle.rules.specs.Memory.{origin}
+use Rattle.rules.specs.Refusals.{Paged}
+use Rattle.rules.specs.Words.{number, inHeap, inConst, wordOf, fits, pageVals, standsAt, goodOn, goodHeap, goodConst, valueAt, look}
+use Rattle.rules.proofs.Chains.{page-vals}
+use Rattle.rules.proofs.Good.{good-out, const-go}
+use Rattle.rules.proofs.Headers.{fits-more, fits-words}
+use Rattle.rules.proofs.Limits.{in-page}
+use Rattle.rules.proofs.Stepping.{stands-fits}
+
+-- ---- what a word is
+
+pub word-is-number : (w : ℕ) → w % 2 ≡ 1 → wordOf w ≡ number
+unfolding wordOf
+word-is-number w odd = go (w % 4) refl
+  where
+    go : (x : ℕ) → w % 4 ≡ x → wordOf w ≡ number
+    go zero e = absurd (omega arith)
+    go (suc zero) e = rw (wordOf, e)
+    go (suc (suc zero)) e = absurd (omega arith)
+    go (suc (suc (suc x))) e = rw (wordOf, e)
+
+-- over code that has the address as a
+pub word-is-const : (w a : ℕ) → a ≡ w / 4 → w % 4 ≡ 2 → wordOf w ≡ inConst a
+unfolding wordOf
+word-is-const w a q e = rw (wordOf, e, q)
+
+pub word-is-heap : (w a : ℕ) → a ≡ w / 4 → (w % 2 ≡ 1 → ⊥) → (w % 4 ≡ 2 → ⊥) → wordOf w ≡ inHeap a
+unfolding wordOf
+word-is-heap w a q even ne = go (w % 4) refl
+  where
+    go : (x : ℕ) → w % 4 ≡ x → wordOf w ≡ inHeap a
+    go zero e = rw (wordOf, e, q)
+    go (suc zero) e = absurd (omega arith)
+    go (suc (suc zero)) e = absurd (ne e)
+    go (suc (suc (suc x))) e = absurd (omega arith)
+
+-- ---- the value that a good pointer names
+
+-- a good pointer's value fits into its memory
+module _ (n R : ℕ) (h : List ℕ) (a : ℕ) where
+  good-stands : goodHeap n R h a ≡ true → standsAt a (pageVals n h (a / 2 ^ n)) ≡ true
+  unfolding goodHeap goodOn
+  good-stands t = go (leb 1 (origin n h (a / 2 ^ n))) refl (leb (origin n h (a / 2 ^ n)) R) refl
+    where
+      go : (p : Bool) → leb 1 (origin n h (a / 2 ^ n)) ≡ p → (q : Bool) → leb (origin n h (a / 2 ^ n)) R ≡ q → standsAt a (pageVals n h (a / 2 ^ n)) ≡ true
+      go true e true f = rw (e, f, goodOn) at t
+      go true e false f = let x : false ≡ true = rw (e, f, goodOn) at t in let z : _≡_ {A = ℕ} 0 1 = cc in absurd (omega arith)
+      go false e q f = let x : false ≡ true = rw (e, goodOn) at t in let z : _≡_ {A = ℕ} 0 1 = cc in absurd (omega arith)
+
+  pub good-fits : Paged n (length h) → goodHeap n R h a ≡ true → (a < length h) × (fits (at h a) (length h - (a + 1)) ≡ true)
+  good-fits g t = go (decLe (suc a) (length h))
+    where
+      go : Dec (a < length h) → (a < length h) × (fits (at h a) (length h - (a + 1)) ≡ true)
+      go (no f) =
+          let x : false ≡ true = sym (good-out n R h a g (omega arith)) ∙ t in
+          let z : _≡_ {A = ℕ} 0 1 = cc in
+          absurd (omega arith)
+      go (yes b) =
+          let i = in-page n (length h) (2 ^ n) (a / 2 ^ n * 2 ^ n) a refl refl g b in
+          let s = stands-fits (2 ^ n) a h (a / 2 ^ n * 2 ^ n + 2) (a / 2 ^ n * 2 ^ n + 2 ^ n) (omega arith) (i .ends) (rw (page-vals n h (a / 2 ^ n)) at (good-stands t)) in
+          (b, fits-more (at h a) (a / 2 ^ n * 2 ^ n + 2 ^ n - (a + 1)) (length h - (a + 1)) (s .1) (omega (arith, i .ends)))
+
+pub const-fits : (k : List ℕ) (a : ℕ) → goodConst k a ≡ true → (a < length k) × (fits (at k a) (length k - (a + 1)) ≡ true)
+const-fits k a t = stands-fits (length k) a k 0 (length k) (omega arith) (omega arith) (sym (const-go k a) ∙ t)
+
+-- the part of memory that a value is, by its end
+pub value-part : (m : List ℕ) (a k : ℕ) → fits (at m a) k ≡ true → take (a + 1 + at m a / 8 - a) (drop a m) ≡ valueAt m a
+unfolding valueAt
+value-part m a k t =
+    let q : a + 1 + at m a / 8 - a ≡ suc (at m a / 8) = omega arith in
+    ap (λ l. take l (drop a m)) (q ∙ sym (fits-words (at m a) k t))
+
+-- ---- a word's value, over code that has its address as a
+
+module _ (n R : ℕ) (h k : List ℕ) (w a : ℕ) (q : a ≡ w / 4) where
+  pub look-heap : w % 4 ≡ 0 → goodHeap n R h a ≡ true → look n R h k w ≡ valueAt h a
+  unfolding look wordOf
+  look-heap e t = rw (look, e, ← q, t)
+
+  pub look-no-heap : w % 4 ≡ 0 → goodHeap n R h a ≡ false → look n R h k w ≡ []
+  unfolding look wordOf
+  look-no-heap e t = rw (look, e, ← q, t)
+
+  pub look-const : w % 4 ≡ 2 → goodConst k a ≡ true → look n R h k w ≡ valueAt k a
+  unfolding look wordOf
+  look-const e t = rw (look, e, ← q, t)
+
+  pub look-no-const : w % 4 ≡ 2 → goodConst k a ≡ false → look n R h k w ≡ []
+  unfolding look wordOf
+  look-no-const e t = rw (look, e, ← q, t)
+
+pub look-number : (n R : ℕ) (h k : List ℕ) (w : ℕ) → (w % 4 ≡ 0 → ⊥) → (w % 4 ≡ 2 → ⊥) → look n R h k w ≡ []
+unfolding look wordOf
+look-number n R h k w a b = go (w % 4) refl
+  where
+    go : (x : ℕ) → w % 4 ≡ x → look n R h k w ≡ []
+    go zero e = absurd (a e)
+    go (suc zero) e = rw (look, e)
+    go (suc (suc zero)) e = absurd (b e)
+    go (suc (suc (suc x))) e = rw (look, e)
+
+-- a value is there if it has words
+pub there-none : (v : List ℕ) → length v ≡ 0 → isThere v ≡ false
+there-none [] e = refl
+there-none (h ∷ ws) e = absurd (omega arith)
+
+pub there-some : (v : List ℕ) → (length v ≡ 0 → ⊥) → isThere v ≡ true
+there-some [] e = absurd (e refl)
+there-some (h ∷ ws) e = refl

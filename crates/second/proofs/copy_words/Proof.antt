@@ -1,0 +1,60 @@
+-- `second::copy_words` is safe and ends: the place never passes the count, and storing keeps the length.
+use Prim.Native.Nat.{_-_, _≤_}
+use mathlib.Core.Path.{_≡_}
+use lib.ListN.{length}
+use borrow.Author.Needs.{needs}
+use Rattle.second.proofs.copy_words.Statement.{statement}
+use Rattle.second.proofs.copy_words.Tie as tie
+
+abbrev Inv-loop : tie.InvT-loop
+Inv-loop heap new-heap₀ a b m i₀ new-heap i = (length new-heap ≡ length new-heap₀) × (i ≤ m)
+
+abbrev μ-loop : tie.MeasureT-loop
+μ-loop heap new-heap₀ a b m i₀ new-heap i = m - i
+
+loop-holds : tie.Need-loop-holds Inv-loop μ-loop
+loop-holds c = search needs
+
+add-set : tie.Need-add-set Inv-loop μ-loop
+add-set c = search needs
+
+add-get : tie.Need-add-get Inv-loop μ-loop
+add-get c = search needs
+
+get-requires : tie.Need-get-requires Inv-loop μ-loop
+get-requires c κs = search needs
+
+set-requires : tie.Need-set-requires Inv-loop μ-loop
+set-requires c κs = search needs
+
+add-i : tie.Need-add-i Inv-loop μ-loop
+add-i c = search needs
+
+loop-less : tie.Need-loop-less Inv-loop μ-loop
+loop-less c = search needs
+
+loop-again : tie.Need-loop-again Inv-loop μ-loop
+loop-again c = search needs
+
+same-length : tie.Need-same-length Inv-loop μ-loop
+same-length c = search needs
+
+returns : tie.Need-returns Inv-loop μ-loop
+returns c = search needs
+
+pub copy-words-spec : {M : Type 1} → statement M
+copy-words-spec =
+    tie.close
+    (tie.spec
+    Inv-loop
+    μ-loop
+    loop-holds
+    add-set
+    add-get
+    get-requires
+    set-requires
+    add-i
+    loop-less
+    loop-again
+    same-length
+    returns)

@@ -1,0 +1,64 @@
+-- `second::first_pages` is safe and ends: the region grows up to the number of regions.
+use Prim.Native.Nat.{_-_, _≤_}
+use mathlib.Core.Path.{_≡_}
+use lib.ListN.{length}
+use borrow.Author.Needs.{needs}
+use Rattle.second.proofs.first_pages.Statement.{statement}
+use Rattle.second.proofs.first_pages.Tie as tie
+
+abbrev Inv-loop : tie.InvT-loop
+Inv-loop new-heap₀ free book₀ n regions j₀ new-heap book j = (length new-heap ≡ length new-heap₀) × (length book ≡ length book₀) × (j ≤ regions)
+
+abbrev μ-loop : tie.MeasureT-loop
+μ-loop new-heap₀ free book₀ n regions j₀ new-heap book j = regions - j
+
+loop-holds : tie.Need-loop-holds Inv-loop μ-loop
+loop-holds c = search needs
+
+first-page-requires : tie.Need-first-page-requires Inv-loop μ-loop
+first-page-requires c κs = search needs
+
+same-length : tie.Need-same-length Inv-loop μ-loop
+same-length c = search needs
+
+same-length-2 : tie.Need-same-length-2 Inv-loop μ-loop
+same-length-2 c = search needs
+
+returns : tie.Need-returns Inv-loop μ-loop
+returns c = search needs
+
+add-j : tie.Need-add-j Inv-loop μ-loop
+add-j c = search needs
+
+loop-less : tie.Need-loop-less Inv-loop μ-loop
+loop-less c = search needs
+
+loop-again : tie.Need-loop-again Inv-loop μ-loop
+loop-again c = search needs
+
+same-length-3 : tie.Need-same-length-3 Inv-loop μ-loop
+same-length-3 c = search needs
+
+same-length-4 : tie.Need-same-length-4 Inv-loop μ-loop
+same-length-4 c = search needs
+
+returns-2 : tie.Need-returns-2 Inv-loop μ-loop
+returns-2 c = search needs
+
+pub first-pages-spec : {M : Type 1} → statement M
+first-pages-spec =
+    tie.close
+    (tie.spec
+    Inv-loop
+    μ-loop
+    loop-holds
+    first-page-requires
+    same-length
+    same-length-2
+    returns
+    add-j
+    loop-less
+    loop-again
+    same-length-3
+    same-length-4
+    returns-2)

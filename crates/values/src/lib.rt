@@ -1,0 +1,175 @@
+// Headers, good pointers, the value that a pointer names, and whole numbers.
+use pages::body_address;
+use pages::page_end;
+use rules::Address;
+use rules::Numbered;
+use rules::Refusal;
+use rules::Worded;
+use rules::address_page;
+use rules::page_address;
+use rules::pointer_address;
+ghost use mathlib.Core.Path.{_≡_};
+ghost use mathlib.Core.Bool.{true};
+ghost use mathlib.Core.List.{[]};
+ghost use Prim.Native.Nat.{_+_, _-_, _≤_, _<_};
+ghost use lib.ListN.{length};
+ghost use Rattle.laws.specs.Lists.{at};
+ghost use Rattle.rules.specs.Calls.{wordOfNumber, numberOfWord};
+ghost use Rattle.rules.specs.Refusals.{Paged};
+ghost use Rattle.rules.specs.Words.{fits as fitsIn, isRecord, valsIn, standsAt, goodHeap, goodConst, goodIn, valueAt, look as lookOf};
+
+// Whether h is the header of a value that fits into the m words that follow it.
+pub fn fits(h: u32, m: usize) -> bool
+    ensures { λ r. ⌜ r ≡ fitsIn h m ⌝ }
+{
+    if h % 8 == 1 {
+        return (h / 8) as usize <= m;
+    }
+    if h % 8 == 3 {
+        return (h / 8) as usize <= m;
+    }
+    false
+}
+
+// Whether h is a record's header.
+pub fn is_record(h: u32) -> bool
+    ensures { λ r. ⌜ r ≡ isRecord h ⌝ }
+{
+    h % 8 == 1
+}
+
+// Whether stepping by headers, from one address up to another, lands on address a.
+pub fn stands(words: &[u32], start: Address, end: Address, a: Address) -> bool
+    requires { ⌜ (end .0 ≤ length (now words)) × (length (now words) ≤ 65536) ⌝ }
+    ensures { λ r. ⌜ r ≡ standsAt (a .0) (valsIn (now (words .entry)) (start .0) (end .0)) ⌝ }
+{
+    let goal = a.0;
+    let stop = end.0;
+    let mut at = start.0;
+    while at < stop {
+        let h = words[at];
+        if !fits(h, stop - (at + 1)) {
+            return false;
+        }
+        if goal == at {
+            return true;
+        }
+        at = at + 1 + (h / 8) as usize;
+    }
+    false
+}
+
+// Whether a pointer to heap address a is good.
+pub fn good_heap(heap: &[u32], n: u32, regions: u32, a: Address) -> bool
+    requires { ⌜ Paged n (length (now heap)) ⌝ }
+    ensures { λ r. ⌜ r ≡ goodHeap n regions (now (heap .entry)) (a .0) ⌝ }
+{
+    if heap.len() <= a.0 {
+        return false;
+    }
+    let page = address_page(a, n);
+    let base = page_address(page, n);
+    let at = base.0;
+    let origin = heap[at + 1];
+    if origin < 1 {
+        return false;
+    }
+    if regions < origin {
+        return false;
+    }
+    let start = body_address(page, n);
+    let end = page_end(page, n);
+    stands(heap, start, end, a)
+}
+
+// Whether a pointer to constant address a is good.
+pub fn good_const(consts: &[u32], a: Address) -> bool
+    requires { ⌜ length (now consts) ≤ 65535 ⌝ }
+    ensures { λ r. ⌜ r ≡ goodConst (now (consts .entry)) (a .0) ⌝ }
+{
+    stands(consts, Address(0), Address(consts.len()), a)
+}
+
+// Whether a word is a number or a good pointer.
+pub fn good_word(heap: &[u32], consts: &[u32], n: u32, regions: u32, w: u32) -> bool
+    requires { ⌜ Paged n (length (now heap)) × (length (now consts) ≤ 65535) ⌝ }
+    ensures { λ r. ⌜ r ≡ goodIn n regions (now (heap .entry)) (now (consts .entry)) w ⌝ }
+{
+    if w % 4 == 0 {
+        return good_heap(heap, n, regions, pointer_address(w));
+    }
+    if w % 4 == 2 {
+        return good_const(consts, pointer_address(w));
+    }
+    true
+}
+
+// The part of no words.
+pub fn nothing<'a>(memory: &'a [u32]) -> &'a [u32]
+    ensures { λ r. ⌜ now r ≡ [] ⌝ }
+{
+    &memory[0..0]
+}
+
+// The value at address a, which fits: its header and words.
+pub fn value_at<'a>(memory: &'a [u32], a: Address) -> &'a [u32]
+    requires { ⌜ (a .0 < length (now memory)) × (fitsIn (at (now memory) (a .0)) (length (now memory) - (a .0 + 1)) ≡ true) ⌝ }
+    ensures { λ r. ⌜ now r ≡ valueAt (now (memory .entry)) (a .0) ⌝ }
+{
+    let start = a.0;
+    let end = start + 1 + (memory[start] / 8) as usize;
+    &memory[start..end]
+}
+
+// The value that a word points to, in the heap or in the constants; no words where it is no good pointer.
+pub fn look<'a>(heap: &'a [u32], consts: &'a [u32], n: u32, regions: u32, w: u32) -> &'a [u32]
+    requires { ⌜ Paged n (length (now heap)) × (length (now consts) ≤ 65535) ⌝ }
+    ensures { λ r. ⌜ now r ≡ lookOf n regions (now (heap .entry)) (now (consts .entry)) w ⌝ }
+{
+    let a = pointer_address(w);
+    if w % 4 == 0 {
+        if !good_heap(heap, n, regions, a) {
+            return nothing(heap);
+        }
+        return value_at(heap, a);
+    }
+    if w % 4 == 2 {
+        if !good_const(consts, a) {
+            return nothing(consts);
+        }
+        return value_at(consts, a);
+    }
+    nothing(heap)
+}
+
+// A whole number as a word. Below 0 the bits of i turned over are -1 - i, which is counted from 0 again.
+pub fn word_of_number(i: i32) -> Worded
+    ensures { λ r. ⌜ r ≡ wordOfNumber i ⌝ }
+{
+    if i < 0 {
+        let below = !i as u32;
+        if below < 1073741824 {
+            return Worded::Done(4294967295 - 2 * below);
+        }
+        return Worded::Refused(Refusal::NoNumber);
+    }
+    let above = i as u32;
+    if above < 1073741824 {
+        return Worded::Done(2 * above + 1);
+    }
+    Worded::Refused(Refusal::NoNumber)
+}
+
+// A word as a whole number.
+pub fn number_of_word(w: u32) -> Numbered
+    ensures { λ r. ⌜ r ≡ numberOfWord w ⌝ }
+{
+    if w % 2 == 0 {
+        return Numbered::Refused(Refusal::NoNumber);
+    }
+    if w < 2147483648 {
+        return Numbered::Done((w / 2) as i32);
+    }
+    let below = ((4294967295 - w) / 2) as i32;
+    Numbered::Done(!below)
+}

@@ -1,0 +1,143 @@
+-- Used words. On a sound heap a region's used words are what its pages hold; after a collection that is the words of the values that a root
+-- reaches, each once, and so no more than before.
+use Prim.Native.Nat.{ℕ, suc, _+_, _*_, _^_, _≤_, _<_}
+use native.Mathlib.Nat.{mul-le-mul-right}
+use native.Mathlib.Omega.{arith}
+use native.Mathlib.Decide.{ℕ-discrete}
+use mathlib.Core.Path.{_≡_, refl, ap}
+use mathlib.Core.Logic.{_⊎_, inl, inr}
+use mathlib.Core.List.{List, [], _∷_, _++_, List·Memᴰ, List·Memᴰ·head, List·Memᴰ·tail, List·Memᴰ·cases-cons, List·Memᴰ·not-nil, Memᴰ·append-left, Memᴰ·append-right}
+use lib.ListN.{length, drop, length-drop}
+use lib.Seq.{length-take-le}
+use borrow.Author.Tests.{eq-eqb}
+use Rattle.laws.specs.Lists.{at}
+use Rattle.laws.specs.Sums.{sumOver}
+use Rattle.laws.proofs.Once.{Once}
+use Rattle.laws.proofs.Sums.{sum-append, once-sum}
+use Rattle.rules.specs.Memory.{Store}
+use Rattle.rules.specs.Words.{usedOf, pageVals}
+use Rattle.rules.specs.Audit.{usedOn, usedBy}
+use Rattle.facts.specs.View.{seen}
+use Rattle.facts.proofs.Steps.{Stands, Steps, here, over, steps-le, steps-then, apart}
+use Rattle.facts.proofs.Laid.{mine}
+use Rattle.facts.specs.Observed.{wordsAt}
+use Rattle.facts.proofs.Looked.{page-holds, page-ends, look-at, home-at}
+use Rattle.facts.proofs.Filled.{vals-used}
+use Rattle.facts.proofs.Framed.{below-end}
+use Rattle.facts.proofs.Sound.{Sound}
+use Rattle.facts.proofs.Passing.{pages-are}
+use Rattle.working.proofs.Owned.{mine≢beyond}
+use Rattle.working.proofs.Invariant.{filledTo}
+
+module _ (s : Store) (S : Sound s) where
+  abbrev n : ℕ
+  n = s .ctl .n
+
+  abbrev R : ℕ
+  R = s .ctl .regions
+
+  big : 2 ≤ 2 ^ n
+  big = let b = S .laid .big in omega arith
+
+  inside : (k j : ℕ) → S .own k ≡ mine j → k * 2 ^ n + 2 ^ n ≤ length (s .heap)
+  inside k j o = let a = S .laid .size in let b = mul-le-mul-right (2 ^ n) (S .laid .known k (λ q. mine≢beyond o q)) in omega arith
+
+  -- a page
+  page-used : (j k : ℕ) → S .own k ≡ mine j → usedOf (pageVals n (s .heap) k) ≡ filledTo n (S .fin) k
+  unfolding pageVals
+  page-used j k o =
+      let B = S .laid .mine-body j k o in
+      let u = vals-used (s .heap) (k * 2 ^ n + 2 ^ n) (B .filled) _ (page-holds n (s .heap) k (inside k j o) big) (page-ends n (s .heap) k (inside k j o) big) (B .rest) in
+      omega arith
+
+  pages-used : (j : ℕ) → j < R → (ks : List ℕ) → ((k : ℕ) → List·Memᴰ k ks → List·Memᴰ k (S .pages j)) → usedOn n (s .heap) ks ≡ sumOver (filledTo n (S .fin)) ks
+  unfolding usedOn sumOver
+  pages-used j jR [] sub = refl
+  pages-used j jR (k ∷ ks) sub =
+      rw (page-used j k (S .laid .mine-own j k jR (sub k (List·Memᴰ·head refl))), pages-used j jR ks (λ x m. sub x (List·Memᴰ·tail m)))
+
+  -- a region
+  pub used-filled : (j : ℕ) → j < R → usedBy n (s .heap) (s .table) j ≡ sumOver (filledTo n (S .fin)) (S .pages j)
+  unfolding usedBy
+  used-filled j jR = rw (pages-are s S j jR) (pages-used j jR (S .pages j) (λ k m. m))
+
+  -- ---- the values of a region
+
+  module _ (j : ℕ) (jR : j < R) where
+    value-words : (k a l : ℕ) → S .own k ≡ mine j → Steps (s .heap) (k * 2 ^ n + 2 ^ n) (k * 2 ^ n + 2) a → Stands (s .heap) (k * 2 ^ n + 2 ^ n) a l
+        → wordsAt (seen s) j (4 * a) ≡ suc l
+    unfolding wordsAt
+    value-words k a l o t st =
+        let w = S .laid .mine-body j k o .whose in
+        let x = inside k j o in
+        let e = st .ends in
+        let d = length-drop a (s .heap) in
+        rw (home-at s k a l big x t st j jR w, eq-eqb (suc j) (suc j) refl, look-at s k a l big x t st j jR w) (length-take-le (suc l) (drop a (s .heap)) (omega arith))
+
+    -- pointers to values, what they sum to, and that all values of these pages are there
+    record Listed (ks : List ℕ) : Type 0 where
+      pub all : List ℕ
+      pub sum : sumOver (wordsAt (seen s) j) all ≡ sumOver (filledTo n (S .fin)) ks
+      pub there : (k a : ℕ) → List·Memᴰ k ks → Steps (s .heap) (k * 2 ^ n + 2 ^ n) (k * 2 ^ n + 2) a → a < S .fin k → List·Memᴰ (4 * a) all
+
+    -- those of page k from c on
+    from : (k : ℕ) → S .own k ≡ mine j → {c f : ℕ} → Steps (s .heap) (k * 2 ^ n + 2 ^ n) (k * 2 ^ n + 2) c → Steps (s .heap) (k * 2 ^ n + 2 ^ n) c f
+        → (vs : List ℕ) × (sumOver (wordsAt (seen s) j) vs + c ≡ f)
+        × ((a : ℕ) → Steps (s .heap) (k * 2 ^ n + 2 ^ n) (k * 2 ^ n + 2) a → c ≤ a → a < f → List·Memᴰ (4 * a) vs)
+    unfolding sumOver
+    from k o to-c here = ([], omega arith, λ a t p q. absurd (omega arith))
+    from k o {c} {f} to-c (over {l = l} st r) =
+        let rest = from k o (steps-then to-c (over st here)) r in
+        let e = rest .1 in
+        let w = value-words k c l o to-c st in
+        (4 * c ∷ rest .0, omega arith, λ a t p q. go a t p q (ℕ-discrete a c) (apart to-c st t) (rest .2))
+      where
+        go : {vs : List ℕ} (a : ℕ) → Steps (s .heap) (k * 2 ^ n + 2 ^ n) (k * 2 ^ n + 2) a → c ≤ a → a < f → Dec (a ≡ c) → (a ≤ c) ⊎ (c + suc l ≤ a)
+            → ((b : ℕ) → Steps (s .heap) (k * 2 ^ n + 2 ^ n) (k * 2 ^ n + 2) b → c + suc l ≤ b → b < f → List·Memᴰ (4 * b) vs) → List·Memᴰ (4 * a) (4 * c ∷ vs)
+        go a t p q (yes e) d rest = List·Memᴰ·head (ap (λ x. 4 * x) e)
+        go a t p q (no ne) (inl u) rest = absurd (ne (omega arith))
+        go a t p q (no ne) (inr u) rest = List·Memᴰ·tail (rest a t u q)
+
+    listed : (ks : List ℕ) → ((k : ℕ) → List·Memᴰ k ks → List·Memᴰ k (S .pages j)) → Listed ks
+    unfolding sumOver
+    listed [] sub = record { all = []; sum = refl; there = λ k a m t q. absurd (List·Memᴰ·not-nil m) }
+    listed (k ∷ ks) sub =
+        let o = S .laid .mine-own j k jR (sub k (List·Memᴰ·head refl)) in
+        let B = S .laid .mine-body j k o in
+        let lo = steps-le (B .filled) in
+        let own = from k o here (B .filled) in
+        let e = own .1 in
+        let rest = listed ks (λ x m. sub x (List·Memᴰ·tail m)) in
+        let e′ = rest .sum in
+        let a = sum-append (wordsAt (seen s) j) (own .0) (rest .all) in
+        record { all = own .0 ++ rest .all; sum = omega arith; there = λ x a m t q. go x a (own .0) (rest .all) (own .2) (rest .there) (List·Memᴰ·cases-cons m) t q }
+      where
+        go : (x a : ℕ) (vs ws : List ℕ) → ((b : ℕ) → Steps (s .heap) (k * 2 ^ n + 2 ^ n) (k * 2 ^ n + 2) b → k * 2 ^ n + 2 ≤ b → b < S .fin k → List·Memᴰ (4 * b) vs)
+            → ((y b : ℕ) → List·Memᴰ y ks → Steps (s .heap) (y * 2 ^ n + 2 ^ n) (y * 2 ^ n + 2) b → b < S .fin y → List·Memᴰ (4 * b) ws)
+            → (x ≡ k) ⊎ List·Memᴰ x ks → Steps (s .heap) (x * 2 ^ n + 2 ^ n) (x * 2 ^ n + 2) a → a < S .fin x → List·Memᴰ (4 * a) (vs ++ ws)
+        go x a vs ws p q (inl e) t u = let t′ : Steps (s .heap) (k * 2 ^ n + 2 ^ n) (k * 2 ^ n + 2) a = rw e at t in Memᴰ·append-left ws (p a t′ (steps-le t′) (rw e at u))
+        go x a vs ws p q (inr m) t u = Memᴰ·append-right vs (q x a m t u)
+
+    -- pointers of which each stands once, and which are to values of the region's pages where they count, take no more than the used words
+    pub used-bound : (xs : List ℕ) → Once xs
+        → ((w : ℕ) → List·Memᴰ w xs → ((k : ℕ) × (a : ℕ) × (l : ℕ) × (w ≡ 4 * a) × List·Memᴰ k (S .pages j) × Steps (s .heap) (k * 2 ^ n + 2 ^ n) (k * 2 ^ n + 2) a × Stands (s .heap) (k * 2 ^ n + 2 ^ n) a l)
+        ⊎ (wordsAt (seen s) j w ≡ 0))
+        → sumOver (wordsAt (seen s) j) xs ≤ usedBy n (s .heap) (s .table) j
+    used-bound xs o f =
+        let L = listed (S .pages j) (λ k m. m) in
+        let b = once-sum (wordsAt (seen s) j) o (L .all) (λ w m. go w (L .all) (L .there) (f w m)) in
+        let e = L .sum in
+        let u = used-filled j jR in
+        omega arith
+      where
+        below : (k a l : ℕ) → List·Memᴰ k (S .pages j) → Steps (s .heap) (k * 2 ^ n + 2 ^ n) (k * 2 ^ n + 2) a → Stands (s .heap) (k * 2 ^ n + 2 ^ n) a l → a < S .fin k
+        below k a l m t st =
+            let B = S .laid .mine-body j k (S .laid .mine-own j k jR m) in
+            let e = below-end (s .heap) (k * 2 ^ n + 2 ^ n) (k * 2 ^ n + 2) (S .fin k) (B .filled) (B .rest) t st in
+            omega arith
+
+        go : (w : ℕ) (all : List ℕ) → ((k a : ℕ) → List·Memᴰ k (S .pages j) → Steps (s .heap) (k * 2 ^ n + 2 ^ n) (k * 2 ^ n + 2) a → a < S .fin k → List·Memᴰ (4 * a) all)
+            → ((k : ℕ) × (a : ℕ) × (l : ℕ) × (w ≡ 4 * a) × List·Memᴰ k (S .pages j) × Steps (s .heap) (k * 2 ^ n + 2 ^ n) (k * 2 ^ n + 2) a × Stands (s .heap) (k * 2 ^ n + 2 ^ n) a l)
+            ⊎ (wordsAt (seen s) j w ≡ 0) → List·Memᴰ w all ⊎ (wordsAt (seen s) j w ≡ 0)
+        go w all there (inr z) = inr z
+        go w all there (inl u) = inl (rw (u .3) (there (u .0) (u .1) (u .4) (u .5) (below (u .0) (u .1) (u .2) (u .4) (u .5) (u .6))))

@@ -1,0 +1,257 @@
+-- What the collection leaves: the old pages are given back, so every page is in a region's chain or free; and what stands in the regions'
+-- pages are the copies, whose fields were all scanned.
+use Prim.Native.Nat.{ℕ, suc, _+_, _*_, _/_, _^_, _≤_, _<_, zero-le}
+use native.Mathlib.Nat.{mul-le-mul-right}
+use native.Mathlib.Omega.{arith}
+use mathlib.Core.Path.{_≡_, refl, sym, ap, _∙_, subst}
+use mathlib.Core.Bool.{true}
+use mathlib.Core.Option.{none, some}
+use mathlib.Core.List.{List, [], _++_, List·Memᴰ, Memᴰ·append-left, Memᴰ·append-right}
+use lib.ListN.{length, length-append}
+use Rattle.laws.specs.Lists.{at}
+use Rattle.laws.specs.Sums.{sumOver}
+use Rattle.laws.proofs.Once.{Once, member?}
+use Rattle.rules.specs.Memory.{Store, lent, pageCount, origin, statusOf}
+use Rattle.rules.specs.Words.{wordOf, rec, headOf, lengthBy, isRecord}
+use Rattle.rules.specs.Pages.{Run, begun, recordAfter, giveBackAll}
+use Rattle.rules.specs.Collection.{fromSpace}
+use Rattle.rules.proofs.Whole.{pages-of, of-pages, pages-once}
+use Rattle.facts.proofs.Steps.{Stands, Steps, steps-le, steps-same, stands-same}
+use Rattle.facts.proofs.Laid.{Owner, old, spare, beyond, mine, Like, Layout}
+use Rattle.facts.proofs.Copied.{to, Rel, num, stay, went}
+use Rattle.rules.proofs.Pointers.{pointer, is-number, record-head}
+use Rattle.facts.proofs.Sound.{Within, InHeap, Good, a-number, to-heap, to-const, Chained, in-free, in-region, Sound}
+use Rattle.facts.proofs.Passing.{pages-are}
+use Rattle.facts.proofs.Framed.{below-end}
+use Rattle.facts.proofs.Given.{spared, spared-in, spared-out, GivenAll, given-all}
+use Rattle.working.proofs.Owned.{old≢mine, mine≢beyond}
+use Rattle.working.proofs.Log.{pointers, Copy}
+use Rattle.working.proofs.Aside.{stack-laid}
+use Rattle.working.proofs.Invariant.{Ghost, Kept, filledTo, Inv}
+use Rattle.working.proofs.Evacuating.{of-pointers}
+use Rattle.working.proofs.Work.{asleep, none-waits}
+use Rattle.working.proofs.Running.{Ran}
+
+module _ (s : Store) (S : Sound s) (roots : List ℕ) (r : Run) (A : Ran s S roots r) where
+  abbrev n : ℕ
+  n = s .ctl .n
+
+  abbrev N : ℕ
+  N = pageCount n (s .heap)
+
+  abbrev R : ℕ
+  R = s .ctl .regions
+
+  abbrev pub g : Ghost
+  g = A .end .ghost
+
+  abbrev pub I : Inv s S (A .end .ghost) r
+  I = A .end .inv
+
+  abbrev ks : List ℕ
+  ks = fromSpace s
+
+  abbrev pub back : Run
+  back = giveBackAll n ks r
+
+  -- the store that the collection leaves
+  abbrev pub left-store : Store
+  left-store = lent (back .heap) (back .table) roots (s .consts) (recordAfter s R back)
+
+  -- ---- the pages given back
+
+  ks-once : Once ks
+  unfolding origin
+  ks-once =
+      pages-once n (s .heap) (s .table) R (λ j b. rw (pages-are s S j b) (S .laid .mine-once j b))
+      (λ j k b m. S .laid .mine-body j k (S .laid .mine-own j k b (rw (pages-are s S j b) at m)) .whose)
+      R 0 (omega arith)
+
+  in-ks : (k : ℕ) → List·Memᴰ k ks → g .own k ≡ old
+  in-ks k m =
+      let t = pages-of n (s .heap) (s .table) R 0 k m in
+      let b : t .0 < R = (let c = t .2 in omega arith) in
+      I .from-space k .1 (t .0, b, rw (pages-are s S (t .0) b) at (t .3))
+
+  of-ks : (k : ℕ) → g .own k ≡ old → List·Memᴰ k ks
+  of-ks k o =
+      let t = I .from-space k .0 o in
+      of-pages n (s .heap) (s .table) R 0 (t .0) k zero-le (let c = t .1 in omega arith) (rw (pages-are s S (t .0) (t .1)) (t .2))
+
+  G : GivenAll n N R (g .own) (g .fin) (g .pages) (g .free) ks r back
+  G = given-all n N R (g .fin) (g .pages) ks ks-once (g .own) (g .free) r (I .laid) in-ks
+
+  abbrev own′ : ℕ → Owner
+  own′ = spared (g .own) ks
+
+  not-back : (k j : ℕ) → g .own k ≡ mine j → List·Memᴰ k ks → ⊥
+  not-back k j o m = old≢mine (in-ks k m) o
+
+  own-mine : (k j : ℕ) → g .own k ≡ mine j → own′ k ≡ mine j
+  own-mine k j o = spared-out (g .own) ks k (not-back k j o) ∙ o
+
+  laid : Layout n N R own′ (g .fin) (g .pages) (g .free ++ ks) (begun left-store)
+  laid = stack-laid n N R own′ (g .fin) (g .pages) (g .free ++ ks) back (G .laid) []
+
+  same-size : length (back .heap) ≡ length (s .heap)
+  same-size = let a = G .laid .size in let b = S .laid .size in omega arith
+
+  same-count : pageCount n (back .heap) ≡ N
+  same-count = ap (λ x. x / 2 ^ n) same-size
+
+  -- ---- the regions' pages
+
+  -- behind the links they are as before the pages were given back
+  pub page-like : (k j : ℕ) → g .own k ≡ mine j → Like n (r .heap) (back .heap) k
+  page-like k j o = G .like k (not-back k j o)
+
+  word-same : (k j x : ℕ) → g .own k ≡ mine j → k * 2 ^ n < x → x < k * 2 ^ n + 2 ^ n → at (r .heap) x ≡ at (back .heap) x
+  word-same k j x o p q = page-like k j o .word x p q
+
+  -- a logged copy, as it stands in the end
+  module _ (a b : ℕ) (m : List·Memᴰ (to a b) (g .log)) where
+    abbrev pub C : Copy n s (Kept s) (g .own) (g .fin) (r .heap) (g .log) (g .count) a b
+    C = I .logged .copies m
+
+    lo : C .into * 2 ^ n + 2 ≤ b
+    lo = steps-le (C .into-steps)
+
+    hi : b + suc (C .len) ≤ C .into * 2 ^ n + 2 ^ n
+    hi = C .into-stands .ends
+
+    pub copy-word : (i : ℕ) → i ≤ C .len → at (back .heap) (b + i) ≡ at (r .heap) (b + i)
+    copy-word i q = let p = lo in let t = hi in sym (word-same (C .into) (C .region) (b + i) (C .into-mine) (omega arith) (omega arith))
+
+    pub copy-steps : Steps (back .heap) (C .into * 2 ^ n + 2 ^ n) (C .into * 2 ^ n + 2) b
+    copy-steps = let t = hi in steps-same (λ x p q. word-same (C .into) (C .region) x (C .into-mine) (omega arith) (omega arith)) (C .into-steps)
+
+    pub copy-stands : Stands (back .heap) (C .into * 2 ^ n + 2 ^ n) b (C .len)
+    copy-stands = let p = lo in let t = hi in stands-same (word-same (C .into) (C .region) b (C .into-mine) (omega arith) (omega arith)) (C .into-stands)
+
+    pub copy-known : C .region < R
+    copy-known = I .owned .mines (C .into) (C .region) (C .into-mine) .0
+
+    pub copy-there : C .into < N
+    copy-there = I .laid .known (C .into) (λ q. mine≢beyond (C .into-mine) q)
+
+    pub copy-inside : C .into * 2 ^ n + 2 ^ n ≤ length (back .heap)
+    copy-inside = let a = mul-le-mul-right (2 ^ n) copy-there in let e = G .laid .size in omega arith
+
+    pub copy-whose : at (back .heap) (C .into * 2 ^ n + 1) ≡ suc (C .region)
+    copy-whose = G .laid .mine-body (C .region) (C .into) (own-mine (C .into) (C .region) (C .into-mine)) .whose
+
+    -- all its fields are scanned
+    pub copy-scanned : (l : ℕ) → headOf (at (r .heap) b) ≡ rec l → l ≤ g .count b
+    copy-scanned =
+        I .pending .scanned m (λ j jR q. let q′ : List·Memᴰ b [] = subst (List·Memᴰ b) (none-waits s S (A .end) j jR) q in elim q′ [ ])
+        (λ q. let z : none ≡ some b = sym (A .end .none-open) ∙ q in let z′ : _≡_ {A = ℕ} 0 1 = cc in omega arith)
+
+    pub copy-good : InHeap n R (back .heap) b
+    copy-good =
+        record {
+          page = C .into;
+          region = C .region;
+          len = C .len;
+          there = rw same-count copy-there;
+          known = copy-known;
+          whose = copy-whose;
+          steps = copy-steps;
+          stands = copy-stands;
+        }
+
+  -- what stands for a word is good
+  pub rel-good : {v w : ℕ} → Rel (Kept s) (pointers (g .log)) v w → Good n R (back .heap) (s .consts) w
+  rel-good {v} (num e) = a-number (is-number v e)
+  rel-good (stay k) = to-const (k .address) (k .word) (k .good)
+  rel-good {v} {w} (went m) = let t = of-pointers (g .log) m in go (t .0) (t .1) (t .3) (t .4)
+    where
+      go : (a b : ℕ) → w ≡ 4 * b → List·Memᴰ (to a b) (g .log) → Good n R (back .heap) (s .consts) w
+      go a b q m = to-heap b (ap wordOf q ∙ pointer b) (copy-good a b m)
+
+  -- every value of a region's page is a copy
+  pub is-copy : (j k b l : ℕ) → g .own k ≡ mine j → Steps (back .heap) (k * 2 ^ n + 2 ^ n) (k * 2 ^ n + 2) b → Stands (back .heap) (k * 2 ^ n + 2 ^ n) b l
+      → (a : ℕ) × List·Memᴰ (to a b) (g .log)
+  is-copy j k b l o t st =
+      let B = I .laid .mine-body j k o in
+      let hi = st .ends in
+      let lo = steps-le t in
+      let t′ : Steps (r .heap) (k * 2 ^ n + 2 ^ n) (k * 2 ^ n + 2) b = steps-same (λ x p q. sym (word-same k j x o (omega arith) (omega arith))) t in
+      let st′ : Stands (r .heap) (k * 2 ^ n + 2 ^ n) b l = stands-same (sym (word-same k j b o (omega arith) (omega arith))) st in
+      let below = below-end (r .heap) (k * 2 ^ n + 2 ^ n) (k * 2 ^ n + 2) (g .fin k) (B .filled) (B .rest) t′ st′ in
+      I .logged .every k j b o t′ (omega arith)
+
+  fields-good : (j k b l i : ℕ) → j < R → List·Memᴰ k (g .pages j) → Steps (back .heap) (k * 2 ^ n + 2 ^ n) (k * 2 ^ n + 2) b → Stands (back .heap) (k * 2 ^ n + 2 ^ n) b l
+      → isRecord (at (back .heap) b) ≡ true → i < l → Good n R (back .heap) (s .consts) (at (back .heap) (b + suc i))
+  unfolding isRecord
+  fields-good j k b l i jR m t st kind i-in =
+      let c = is-copy j k b l (I .laid .mine-own j k jR m) t st in
+      let D = C (c .0) b (c .1) in
+      let w₀ : at (back .heap) b ≡ at (r .heap) b = ap (at (back .heap)) (omega arith) ∙ copy-word (c .0) b (c .1) 0 zero-le ∙ ap (at (r .heap)) (omega arith) in
+      let h : headOf (at (back .heap) b) ≡ rec l = record-head (headOf (at (back .heap) b)) l (st .head) kind in
+      let h′ : headOf (at (r .heap) b) ≡ rec l = ap headOf (sym w₀) ∙ h in
+      let e : D .len ≡ l = (let p = D .into-stands .head in let q : lengthBy (headOf (at (r .heap) b)) ≡ some l = ap lengthBy h′ in cc) in
+      let full = copy-scanned (c .0) b (c .1) l h′ in
+      rw (copy-word (c .0) b (c .1) (suc i) (omega arith)) (rel-good (D .scanned i (omega arith) (omega arith)))
+
+  chained : (k : ℕ) → k < N → Chained R own′ (g .pages) (g .free ++ ks) k
+  chained k b = go (member? k ks)
+    where
+      by : (o : Owner) → g .own k ≡ o → (List·Memᴰ k ks → ⊥) → Chained R own′ (g .pages) (g .free ++ ks) k
+      by old e ne = absurd (ne (of-ks k e))
+      by spare e ne = in-free (spared-out (g .own) ks k ne ∙ e) (Memᴰ·append-left ks (I .owned .spares k e))
+      by beyond e ne = absurd (I .owned .whole k b e)
+      by (mine j) e ne = let t = I .owned .mines k j e in in-region j (t .0) (own-mine k j e) (t .1)
+
+      go : Dec (List·Memᴰ k ks) → Chained R own′ (g .pages) (g .free ++ ks) k
+      go (yes m) = in-free (spared-in (g .own) ks k m) (Memᴰ·append-right (g .free) m)
+      go (no ne) = by (g .own k) refl ne
+
+  -- ---- it passes
+
+  within : Within left-store
+  within =
+      let W = S .within in
+      record {
+        paged =
+            record {
+              low = W .paged .low;
+              high = W .paged .high;
+              size = rw same-size (W .paged .size);
+              whole = rw same-size (W .paged .whole);
+            };
+        two = rw same-size (W .two);
+        table = ap length (G .table) ∙ I .width;
+        roots = rw (← A .count) (W .roots);
+        consts = W .consts;
+      }
+
+  pub left-sound : Sound left-store
+  left-sound =
+      record {
+        within = within;
+        own = own′;
+        fin = g .fin;
+        pages = g .pages;
+        free = g .free ++ ks;
+        regions = S .regions;
+        past = λ x p q. ap (λ t. at t x) (G .table) ∙ I .past-rows x p ∙ S .past x p q;
+        idle = λ j jR. ap (λ t. statusOf t j) (G .table) ∙ asleep s S (A .end) j jR;
+        laid = rw same-count laid;
+        chained = λ k b. chained k (rw same-count at b);
+        fields = fields-good;
+        roots = λ i b. rel-good (A .rels i (rw (A .count) b));
+        consts = S .consts;
+      }
+
+  -- the pages still free, and the old ones
+  pub left-count : left-store .ctl .count ≡ length (g .free) + length (fromSpace s)
+  left-count = G .laid .free-count ∙ length-append (g .free) (fromSpace s)
+
+  -- its chains, and what they hold, are those of the run
+  pub left-pages : (j : ℕ) → left-sound .pages j ≡ g .pages j
+  unfolding left-sound
+  left-pages j = refl
+
+  pub left-filled : (j : ℕ) → sumOver (filledTo n (left-sound .fin)) (left-sound .pages j) ≡ sumOver (filledTo n (g .fin)) (g .pages j)
+  unfolding left-sound
+  left-filled j = refl

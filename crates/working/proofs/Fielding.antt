@@ -1,0 +1,137 @@
+-- One field of a copy set: the invariant after it. No header changes, so every row stays; only how many of the copy's fields are scanned does.
+use Prim.Native.Nat.{ℕ, suc, _+_, _*_, _^_, _≤_, _<_}
+use native.Mathlib.Nat.{mul-le-mul-right}
+use native.Mathlib.Omega.{arith}
+use native.Mathlib.Decide.{ℕ-discrete}
+use mathlib.Core.Path.{_≡_, sym, ap, _∙_}
+use mathlib.Core.Logic.{_≢_, _⊎_, inl, inr}
+use mathlib.Core.Option.{some}
+use mathlib.Core.List.{List·Memᴰ}
+use lib.ListN.{length, set}
+use lib.Seq.{getD-set-other}
+use Rattle.laws.specs.Lists.{at}
+use Rattle.laws.proofs.Lists.{apart as pages-apart}
+use Rattle.rules.specs.Memory.{Store, pageCount}
+use Rattle.rules.specs.Words.{rec, raw, headOf}
+use Rattle.rules.specs.Pages.{Run, withHeap}
+use Rattle.facts.proofs.Steps.{Stands, Steps, steps-le, apart}
+use Rattle.facts.proofs.Laid.{upd, upd-other}
+use Rattle.facts.proofs.Copied.{to, Rel}
+use Rattle.facts.proofs.Sound.{Sound}
+use Rattle.working.proofs.Owned.{mine≢beyond}
+use Rattle.working.proofs.Log.{pointers, Copy}
+use Rattle.working.proofs.Scanned.{scanned-log}
+use Rattle.working.proofs.Fielded.{field-laid}
+use Rattle.working.proofs.Rows.{row-in, row-headers}
+use Rattle.working.proofs.Invariant.{Ghost, Kept, Waits, Pending, Inv}
+
+-- i fields of the copy at d are scanned
+abbrev pub counted : Ghost → ℕ → ℕ → Ghost
+counted g d i =
+    record {
+      own = g .own;
+      fin = g .fin;
+      pages = g .pages;
+      free = g .free;
+      log = g .log;
+      count = upd (g .count) d i;
+      past = g .past;
+      todo = g .todo;
+      cur = g .cur;
+      half = g .half;
+    }
+
+module _ (s : Store) (S : Sound s) (g : Ghost) (r : Run) (I : Inv s S g r) (c d i v : ℕ) (m : List·Memᴰ (to c d) (g .log))
+    (i-in : i < I .logged .copies m .len) (i-next : g .count d ≡ i) (rel : Rel (Kept s) (pointers (g .log)) (at (s .heap) (c + suc i)) v)
+    (kind : ℕ) (head : headOf (at (r .heap) d) ≡ rec kind) (mid : g .half ≡ some d) (gone : (j : ℕ) → j < s .ctl .regions → List·Memᴰ d (g .todo j) → ⊥) where
+  abbrev n : ℕ
+  n = s .ctl .n
+
+  abbrev N : ℕ
+  N = pageCount n (s .heap)
+
+  abbrev R : ℕ
+  R = s .ctl .regions
+
+  abbrev C : Copy n s (Kept s) (g .own) (g .fin) (r .heap) (g .log) (g .count) c d
+  C = I .logged .copies m
+
+  abbrev x : ℕ
+  x = d + suc i
+
+  abbrev r′ : Run
+  r′ = withHeap r (set (r .heap) x v)
+
+  x-in : x < length (r .heap)
+  x-in =
+      let a = C .into-stands .ends in
+      let b = mul-le-mul-right (2 ^ n) (I .laid .known (C .into) (λ q. mine≢beyond (C .into-mine) q)) in
+      let e = I .laid .size in
+      omega arith
+
+  keep : (y : ℕ) → y ≢ x → at (r .heap) y ≡ at (set (r .heap) x v) y
+  keep y ne = sym (getD-set-other (r .heap) x y v 0 ne)
+
+  -- no value of any page has its header there
+  no-header : (k y l : ℕ) → Steps (r .heap) (k * 2 ^ n + 2 ^ n) (k * 2 ^ n + 2) y → Stands (r .heap) (k * 2 ^ n + 2 ^ n) y l → y ≢ x
+  no-header k y l t st e = go (ℕ-discrete k (C .into))
+    where
+      lo : C .into * 2 ^ n + 2 ≤ d
+      lo = steps-le (C .into-steps)
+
+      by : (y ≤ d) ⊎ (d + suc (C .len) ≤ y) → ⊥
+      by (inl q) = omega arith
+      by (inr q) = omega arith
+
+      far : (k * 2 ^ n + 2 ^ n ≤ C .into * 2 ^ n) ⊎ (C .into * 2 ^ n + 2 ^ n ≤ k * 2 ^ n) → ⊥
+      far (inl q) = let a = lo in let b = st .ends in omega arith
+      far (inr q) = let a = steps-le t in let b = C .into-stands .ends in omega arith
+
+      go : Dec (k ≡ C .into) → ⊥
+      go (yes q) = by (apart (C .into-steps) (C .into-stands) (rw q at t))
+      go (no ne) = far (pages-apart (2 ^ n) k (C .into) ne)
+
+  P : Pending n R g r
+  P = I .pending
+
+  waits : (t : _) → Waits R g (r .table) t → Waits R (counted g d (suc i)) (r .table) t
+  waits t W = record { known = W .known; awake = W .awake; other = W .other; rest = W .rest; begins = W .begins }
+
+  pending : Pending n R (counted g d (suc i)) r′
+  pending =
+      record {
+        rows = λ j jR. row-headers (λ y q. let F = row-in (P .rows j jR) q in keep y (no-header (F .page) y (F .len) (F .steps) (F .stands))) (P .rows j jR);
+        untouched = λ j b jR q. upd-other (g .count) d (suc i) b (λ e. gone j jR (rw e at q)) ∙ P .untouched j b jR q;
+        scanned = λ {b = b} q away ne l e.
+            let D = I .logged .copies q in
+            rw (upd-other (g .count) d (suc i) b (λ t. ne (mid ∙ ap some (sym t))))
+            (P .scanned q away ne l (ap headOf (keep b (no-header (D .into) b (D .len) (D .into-steps) (D .into-stands))) ∙ e));
+        raws = λ {b = b} q l e.
+            let D = I .logged .copies q in
+            let e′ : headOf (at (r .heap) b) ≡ raw l = ap headOf (keep b (no-header (D .into) b (D .len) (D .into-steps) (D .into-stands))) ∙ e in
+            upd-other (g .count) d (suc i) b
+            (λ t. let z : rec kind ≡ raw l = sym head ∙ ap (λ y. headOf (at (r .heap) y)) (sym t) ∙ e′ in let z′ : _≡_ {A = ℕ} 0 1 = cc in omega arith)
+            ∙ P .raws q l e′;
+        stacked = λ t q. waits t (P .stacked t q);
+        once = P .once;
+        at-work = P .at-work;
+        idle = P .idle;
+        busy = P .busy;
+      }
+
+  pub field-inv : Inv s S (counted g d (suc i)) r′
+  field-inv =
+      record {
+        laid =
+            field-laid n N R (g .own) (g .fin) (g .pages) (g .free) r (I .laid) (C .into) (C .region) d (C .len) i v (C .into-mine) (C .into-steps) (C .into-stands)
+            (C .into-below) i-in;
+        logged =
+            scanned-log n s (Kept s) (g .own) (g .fin) (r .heap) (g .log) (g .count) (I .logged) c d i v m i-in i-next rel x-in (λ k j o. I .laid .mine-body j k o .inside);
+        pending = pending;
+        from-space = I .from-space;
+        owned = I .owned;
+        tallied = I .tallied;
+        taken = I .taken;
+        width = I .width;
+        past-rows = I .past-rows;
+      }

@@ -1,0 +1,143 @@
+-- Each region takes one fresh page: the state when the regions below j have theirs. The pages of before are old from the start, and no word
+-- of theirs changes.
+use Prim.Native.Nat.{ℕ, _+_, _*_, _^_, _≤_, _<_, zero-le}
+use native.Mathlib.Omega.{arith}
+use mathlib.Core.Path.{_≡_, refl, ap}
+use mathlib.Core.Logic.{_≢_, _↔_}
+use mathlib.Core.List.{List, [], _∷_, List·Memᴰ}
+use lib.ListN.{length}
+use Rattle.laws.specs.Lists.{at}
+use Rattle.rules.specs.Memory.{Store, pageCount, statusOf}
+pub use Rattle.rules.proofs.Rows.{row-width, row-else, row-end, row-first, row-top, row-status}
+use Rattle.rules.specs.Pages.{Run, begun}
+use Rattle.facts.proofs.Laid.{Owner, old, spare, beyond, mine, Layout}
+use Rattle.facts.proofs.Sound.{Chained, in-free, in-region, Sound}
+use Rattle.working.proofs.Owned.{old≢spare, old≢mine, old≢beyond, spare≢mine, spare≢beyond, mine≢beyond, Owned}
+use Rattle.working.proofs.Taken.{taken}
+
+-- ---- the pages of before
+
+abbrev pub aged : Owner → Owner
+aged old = old
+aged spare = spare
+aged beyond = beyond
+aged (mine j) = old
+
+aged-spare : (o : Owner) → aged o ≡ spare → o ≡ spare
+aged-spare old e = e
+aged-spare spare e = e
+aged-spare beyond e = e
+aged-spare (mine j) e = old≢spare refl e
+
+aged-mine : {A : Type 0} {j : ℕ} (o : Owner) → aged o ≡ mine j → A
+aged-mine old e = old≢mine refl e
+aged-mine spare e = spare≢mine refl e
+aged-mine beyond e = mine≢beyond e refl
+aged-mine (mine j) e = old≢mine refl e
+
+aged-beyond : (o : Owner) → aged o ≢ beyond → o ≢ beyond
+aged-beyond old n e = n e
+aged-beyond spare n e = n e
+aged-beyond beyond n e = n e
+aged-beyond (mine j) n e = mine≢beyond refl e
+
+-- ---- the state
+
+-- the regions below j have their fresh page
+pub record Fresh (s : Store) (S : Sound s) (j : ℕ) (r : Run) : Type 0 where
+  pub own : ℕ → Owner
+  pub fin : ℕ → ℕ
+  pub pages : ℕ → List ℕ
+  pub free : List ℕ
+  pub laid : Layout (s .ctl .n) (pageCount (s .ctl .n) (s .heap)) j own fin pages free r
+  pub from-space : (k : ℕ) → (own k ≡ old) ↔ ((i : ℕ) × (i < s .ctl .regions) × List·Memᴰ k (S .pages i))
+  pub owned : Owned (pageCount (s .ctl .n) (s .heap)) j own pages free
+  pub none-yet : (i : ℕ) → j ≤ i → pages i ≡ []
+  pub single : (i : ℕ) → i < j → (k : ℕ) × (pages i ≡ k ∷ []) × (fin k ≡ k * 2 ^ s .ctl .n + 2)
+  pub words : (k x : ℕ) → own k ≡ old → k * 2 ^ s .ctl .n ≤ x → x < k * 2 ^ s .ctl .n + 2 ^ s .ctl .n → at (r .heap) x ≡ at (s .heap) x
+  pub asleep : (i : ℕ) → i < s .ctl .regions → statusOf (r .table) i ≡ 0
+  pub width : length (r .table) ≡ 256
+  pub past-rows : (x : ℕ) → 4 * s .ctl .regions ≤ x → at (r .table) x ≡ at (s .table) x
+  pub taken : length free + j ≡ s .ctl .count
+  pub stack : r .stack ≡ []
+
+module _ (s : Store) (S : Sound s) where
+  abbrev n : ℕ
+  n = s .ctl .n
+
+  abbrev N : ℕ
+  N = pageCount n (s .heap)
+
+  abbrev R : ℕ
+  R = s .ctl .regions
+
+  chained-old : (k : ℕ) → k < N → aged (S .own k) ≡ old → (i : ℕ) × (i < R) × List·Memᴰ k (S .pages i)
+  chained-old k b e = go (S .chained k b)
+    where
+      go : Chained R (S .own) (S .pages) (S .free) k → (i : ℕ) × (i < R) × List·Memᴰ k (S .pages i)
+      go (in-free o m) = old≢spare e (ap aged o)
+      go (in-region j jR o m) = (j, jR, m)
+
+  old-known : (k : ℕ) → aged (S .own k) ≡ old → k < N
+  old-known k e = S .laid .known k (λ q. old≢beyond e (ap aged q))
+
+  whole : (k : ℕ) → k < N → aged (S .own k) ≢ beyond
+  whole k b e = go (S .chained k b)
+    where
+      go : Chained R (S .own) (S .pages) (S .free) k → ⊥
+      go (in-free o m) = spare≢beyond (ap aged o) e
+      go (in-region j jR o m) = old≢beyond (ap aged o) e
+
+  spares : (k : ℕ) → aged (S .own k) ≡ spare → List·Memᴰ k (S .free)
+  spares k e = go (S .chained k (S .laid .known k (λ q. spare≢beyond (aged-spare _ e) q)))
+    where
+      go : Chained R (S .own) (S .pages) (S .free) k → List·Memᴰ k (S .free)
+      go (in-free o m) = m
+      go (in-region j jR o m) = spare≢mine (aged-spare (S .own k) e) o
+
+  -- before the first
+  pub fresh-start : Fresh s S 0 (begun s)
+  fresh-start =
+      record {
+        own = λ k. aged (S .own k);
+        fin = S .fin;
+        pages = λ i. [];
+        free = S .free;
+        laid =
+            record {
+              size = S .laid .size;
+              big = S .laid .big;
+              rows = zero-le;
+              known = λ k ne. S .laid .known k (aged-beyond (S .own k) ne);
+              free-own = λ k m. ap aged (S .laid .free-own k m);
+              free-once = S .laid .free-once;
+              free-links = S .laid .free-links;
+              free-last = S .laid .free-last;
+              free-count = S .laid .free-count;
+              free-clean = λ k o. S .laid .free-clean k (aged-spare (S .own k) o);
+              mine-own = λ i k b m. absurd (omega arith);
+              mine-once = λ i b. absurd (omega arith);
+              mine-links = λ i b. absurd (omega arith);
+              mine-body = λ i k o. aged-mine (S .own k) o;
+              mine-top = λ i b. absurd (omega arith);
+            };
+        from-space = λ k. (λ e. chained-old k (old-known k e) e, λ t. ap aged (S .laid .mine-own (t .0) k (t .1) (t .2)));
+        owned = record { whole = whole; spares = spares; mines = λ k j o. aged-mine (S .own k) o };
+        none-yet = λ i b. refl;
+        single = λ i b. absurd (omega arith);
+        words = λ k x o p q. refl;
+        asleep = S .idle;
+        width = S .within .table;
+        past-rows = λ x p. refl;
+        taken = let c = S .laid .free-count in omega arith;
+        stack = refl;
+      }
+
+  -- no page is a region's yet
+  pub start-own : (k j : ℕ) → fresh-start .own k ≡ mine j → ⊥
+  unfolding fresh-start
+  start-own k j o = aged-mine (S .own k) o
+
+  pub start-free : S .free ≡ fresh-start .free
+  unfolding fresh-start
+  start-free = refl

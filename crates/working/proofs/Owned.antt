@@ -1,0 +1,96 @@
+-- Every page is somebody's, and the numbers of pages and of waiting copies over all regions. A taken page leaves the free list and joins
+-- its region's pages, so what is counted stays.
+use Prim.Native.Nat.{ℕ, zero, suc, _+_, _<_}
+use native.Mathlib.Omega.{arith}
+use native.Mathlib.Decide.{ℕ-discrete}
+use mathlib.Core.Path.{_≡_, refl, sym, ap, _∙_}
+use mathlib.Core.Logic.{_≢_, _⊎_, inl, inr}
+use mathlib.Core.List.{List, [], _∷_, _++_, List·Memᴰ, List·Memᴰ·head, List·Memᴰ·cases-cons, Memᴰ·append-left, Memᴰ·append-right}
+use lib.ListN.{length, length-append}
+pub use Rattle.facts.proofs.Laid.{mine-inj, old≢spare, old≢mine, old≢beyond, spare≢mine, spare≢beyond, mine≢beyond}
+use Rattle.facts.proofs.Laid.{upd, upd-same, upd-other, Owner, spare, beyond, mine}
+
+pub record Owned (N R : ℕ) (own : ℕ → Owner) (pages : ℕ → List ℕ) (free : List ℕ) : Type 0 where
+  pub whole : (k : ℕ) → k < N → own k ≢ beyond
+  pub spares : (k : ℕ) → own k ≡ spare → List·Memᴰ k free
+  pub mines : (k j : ℕ) → own k ≡ mine j → (j < R) × List·Memᴰ k (pages j)
+
+-- the lengths of the first R lists
+unfoldable pub total : (ℕ → List ℕ) → ℕ → ℕ
+total f zero = 0
+total f (suc j) = length (f j) + total f j
+
+pub total-same : (f g : ℕ → List ℕ) (m : ℕ) → ((i : ℕ) → i < m → f i ≡ g i) → total f m ≡ total g m
+unfolding total
+total-same f g zero e = refl
+total-same f g (suc m) e = rw (e m (omega arith), total-same f g m (λ i b. e i (omega arith)))
+
+-- one list has one more
+pub total-snoc : (f : ℕ → List ℕ) (j x m : ℕ) → j < m → total (upd f j (f j ++ x ∷ [])) m ≡ suc (total f m)
+unfolding total
+total-snoc f j x zero b = absurd (omega arith)
+total-snoc f j x (suc m) b = go (ℕ-discrete m j) (λ q. total-snoc f j x m q)
+  where
+    go : Dec (m ≡ j) → (j < m → total (upd f j (f j ++ x ∷ [])) m ≡ suc (total f m)) → total (upd f j (f j ++ x ∷ [])) (suc m) ≡ suc (total f (suc m))
+    go (yes e) rest =
+        let u : upd f j (f j ++ x ∷ []) m ≡ f m ++ x ∷ [] = upd-same f j (f j ++ x ∷ []) m e ∙ ap (λ i. f i ++ x ∷ []) (sym e) in
+        let v : total (upd f j (f j ++ x ∷ [])) m ≡ total f m = total-same _ f m (λ i q. upd-other f j (f j ++ x ∷ []) i (omega arith)) in
+        let l = length-append (f m) (x ∷ []) in
+        rw (u, v) (omega arith)
+    go (no ne) rest =
+        let u : upd f j (f j ++ x ∷ []) m ≡ f m = upd-other f j (f j ++ x ∷ []) m ne in
+        let v = rest (omega arith) in
+        rw (u, v) (omega arith)
+
+-- one list has one less
+pub total-tail : (f : ℕ → List ℕ) (j x : ℕ) (xs : List ℕ) (m : ℕ) → j < m → f j ≡ x ∷ xs → suc (total (upd f j xs) m) ≡ total f m
+unfolding total
+total-tail f j x xs zero b e = absurd (omega arith)
+total-tail f j x xs (suc m) b e = go (ℕ-discrete m j) (λ q. total-tail f j x xs m q e)
+  where
+    go : Dec (m ≡ j) → (j < m → suc (total (upd f j xs) m) ≡ total f m) → suc (total (upd f j xs) (suc m)) ≡ total f (suc m)
+    go (yes q) rest =
+        let u : upd f j xs m ≡ xs = upd-same f j xs m q in
+        let v : total (upd f j xs) m ≡ total f m = total-same _ f m (λ i t. upd-other f j xs i (omega arith)) in
+        let w : f m ≡ x ∷ xs = ap f q ∙ e in
+        rw (u, v, w) (omega arith)
+    go (no ne) rest =
+        let u : upd f j xs m ≡ f m = upd-other f j xs m ne in
+        let v = rest (omega arith) in
+        rw u (omega arith)
+
+-- page k taken for region j
+pub taken-owned : (N R : ℕ) (own : ℕ → Owner) (pages : ℕ → List ℕ) (k : ℕ) (ks : List ℕ) (j : ℕ) → j < R → own k ≡ spare → Owned N R own pages (k ∷ ks)
+    → Owned N R (upd own k (mine j)) (upd pages j (pages j ++ k ∷ [])) ks
+taken-owned N R own pages k ks j jR own-k W = record { whole = whole; spares = spares; mines = mines }
+  where
+    whole : (l : ℕ) → l < N → upd own k (mine j) l ≢ beyond
+    whole l b e = go (ℕ-discrete l k)
+      where
+        go : Dec (l ≡ k) → ⊥
+        go (yes q) = mine≢beyond (upd-same own k (mine j) l q) e
+        go (no ne) = W .whole l b (sym (upd-other own k (mine j) l ne) ∙ e)
+
+    spares : (l : ℕ) → upd own k (mine j) l ≡ spare → List·Memᴰ l ks
+    spares l e = go (ℕ-discrete l k)
+      where
+        by : l ≢ k → (l ≡ k) ⊎ List·Memᴰ l ks → List·Memᴰ l ks
+        by ne (inl q) = absurd (ne q)
+        by ne (inr m) = m
+
+        go : Dec (l ≡ k) → List·Memᴰ l ks
+        go (yes q) = spare≢mine e (upd-same own k (mine j) l q)
+        go (no ne) = by ne (List·Memᴰ·cases-cons (W .spares l (sym (upd-other own k (mine j) l ne) ∙ e)))
+
+    mines : (l i : ℕ) → upd own k (mine j) l ≡ mine i → (i < R) × List·Memᴰ l (upd pages j (pages j ++ k ∷ []) i)
+    mines l i e = go (ℕ-discrete l k)
+      where
+        by : (i < R) × List·Memᴰ l (pages i) → Dec (i ≡ j) → (i < R) × List·Memᴰ l (upd pages j (pages j ++ k ∷ []) i)
+        by t (yes q) = (t .0, rw (upd-same pages j (pages j ++ k ∷ []) i q) (Memᴰ·append-left (k ∷ []) (rw q at (t .1))))
+        by t (no ne) = (t .0, rw (upd-other pages j (pages j ++ k ∷ []) i ne) (t .1))
+
+        go : Dec (l ≡ k) → (i < R) × List·Memᴰ l (upd pages j (pages j ++ k ∷ []) i)
+        go (yes q) =
+            let ij : i ≡ j = mine-inj (sym e ∙ upd-same own k (mine j) l q) in
+            (rw ij jR, rw (upd-same pages j (pages j ++ k ∷ []) i ij) (Memᴰ·append-right (pages j) (List·Memᴰ·head q)))
+        go (no ne) = by (W .mines l i (sym (upd-other own k (mine j) l ne) ∙ e)) (ℕ-discrete i j)

@@ -1,0 +1,118 @@
+-- A collection is refused for want of a page exactly when its working wants more pages than are free: with enough of them the working goes on,
+-- and takes one behind the heap. What a collection that is done took are the pages that its regions then have.
+use Prim.Native.Nat.{ℕ, zero, suc, _+_, _*_, _/_, _^_, _≤_, _<_}
+use native.Mathlib.Nat.{le-div-iff-mul-le}
+use native.Mathlib.Omega.{arith}
+use mathlib.Core.Path.{_≡_, refl, sym, ap, _∙_}
+use mathlib.Core.Logic.{_↔_, _⊎_, inl, inr}
+use mathlib.Core.List.{List}
+use lib.ListN.{length, length-append}
+use Rattle.rules.specs.declared.Refusal.{Refusal}
+use Rattle.rules.specs.declared.Plain.{Plain}
+use Rattle.rules.specs.Memory.{Store, pageCount, regionPages, pagesFrom}
+use Rattle.rules.specs.Pages.{Run}
+use Rattle.rules.specs.Collection.{finished, leaves, ending, collected, fromSpace}
+use Rattle.rules.specs.Refusals.{Outcome, refused}
+use Rattle.facts.proofs.Sound.{Sound}
+use Rattle.facts.proofs.Passing.{pages-are}
+use Rattle.working.specs.Unbounded.{unbounded, wanted, Pages}
+use Rattle.working.proofs.Owned.{total, total-same}
+use Rattle.working.proofs.Dry.{Dry}
+use Rattle.working.proofs.Running.{Refusing, few, out, Ran, runs}
+use Rattle.working.proofs.Ending.{left-store, left-sound, left-pages, left-count}
+
+-- the pages of all regions
+chains-length : (n : ℕ) (h t : List ℕ) (m j : ℕ) → length (pagesFrom n h t m j) + total (regionPages n h t) j ≡ total (regionPages n h t) (j + m)
+unfolding pagesFrom total
+chains-length n h t zero j = let e : j + 0 ≡ j = omega arith in rw e (omega arith)
+chains-length n h t (suc m) j =
+    let a = length-append (regionPages n h t j) (pagesFrom n h t m (suc j)) in
+    let b = chains-length n h t m (suc j) in
+    let c : total (regionPages n h t) (suc j) ≡ length (regionPages n h t j) + total (regionPages n h t) j = refl in
+    let e : j + suc m ≡ suc j + m = omega arith in
+    rw e (omega arith)
+
+pub pages-length : (s : Store) (S : Sound s) → length (fromSpace s) ≡ total (S .pages) (s .ctl .regions)
+unfolding total
+pages-length s S =
+    let e = chains-length (s .ctl .n) (s .heap) (s .table) (s .ctl .regions) 0 in
+    let q : 0 + s .ctl .regions ≡ s .ctl .regions = omega arith in
+    let t = total-same (regionPages (s .ctl .n) (s .heap) (s .table)) (S .pages) (s .ctl .regions) (pages-are s S) in
+    let u : total (regionPages (s .ctl .n) (s .heap) (s .table)) (0 + s .ctl .regions) ≡ total (regionPages (s .ctl .n) (s .heap) (s .table)) (s .ctl .regions)
+    = ap (total (regionPages (s .ctl .n) (s .heap) (s .table))) q in
+    omega arith
+
+module _ (s : Store) (S : Sound s) where
+  abbrev n : ℕ
+  n = s .ctl .n
+
+  abbrev N : ℕ
+  N = pageCount n (s .heap)
+
+  big : 0 < 2 ^ n
+  big = let b = S .laid .big in omega arith
+
+  -- a page was taken behind the heap
+  more : Dry (length (s .heap) + 2 ^ n) (unbounded s) → s .ctl .count < wanted s
+  unfolding wanted
+  more d =
+      let size = S .laid .size in
+      let long = d .long in
+      let count = d .count in
+      let m : suc N * 2 ^ n ≤ length (unbounded s .heap) = omega arith in
+      let p : suc N ≤ length (unbounded s .heap) / 2 ^ n = le-div-iff-mul-le big .1 m in
+      omega arith
+
+  pub refusing-more : Refusing s S → s .ctl .count < wanted s
+  refusing-more (few b d) = more d
+  refusing-more (out L) = more (L .over)
+
+  -- a run that is done takes its pages from the free list
+  module _ (roots : List ℕ) (r : Run) (A : Ran s S roots r) where
+    pub done-wanted : wanted s ≡ total (A .end .ghost .pages) (s .ctl .regions)
+    unfolding wanted
+    done-wanted =
+        let size = A .end .inv .laid .size in
+        let size₀ = S .laid .size in
+        let count = A .end .inv .laid .free-count in
+        let taken = A .end .inv .taken in
+        let e : length (r .heap) ≡ length (s .heap) = omega arith in
+        let p : pageCount n (r .heap) ≡ N = ap (λ x. x / 2 ^ n) e in
+        rw (A .unbound) (omega arith)
+
+  pub refused-wants : (collected s ≡ refused s Refusal.NoPage) ↔ (s .ctl .count < wanted s)
+  unfolding ending leaves
+  refused-wants = (λ e. there e (runs s S), λ b. back b (runs s S))
+    where
+      there : collected s ≡ refused s Refusal.NoPage
+          → ((collected s ≡ refused s Refusal.NoPage) × Refusing s S) ⊎ ((roots : List ℕ) × (r : Run) × (collected s ≡ ending s roots (finished r)) × Ran s S roots r)
+          → s .ctl .count < wanted s
+      there e (inl u) = refusing-more (u .1)
+      there e (inr u) =
+          let q = ap (λ (o : Outcome Plain). o .answer) (sym e ∙ u .2) in
+          let z : _≡_ {A = ℕ} 0 1 = cc in
+          absurd (omega arith)
+
+      back : s .ctl .count < wanted s
+          → ((collected s ≡ refused s Refusal.NoPage) × Refusing s S) ⊎ ((roots : List ℕ) × (r : Run) × (collected s ≡ ending s roots (finished r)) × Ran s S roots r)
+          → collected s ≡ refused s Refusal.NoPage
+      back b (inl u) = u .0
+      back b (inr u) =
+          let w = done-wanted (u .0) (u .1) (u .3) in
+          let t = u .3 .end .inv .taken in
+          absurd (omega arith)
+
+-- ---- the pages of a collection that is done
+
+pub done-pages : (s : Store) (S : Sound s) (roots : List ℕ) (r : Run) (A : Ran s S roots r) → Pages s (left-store s S roots r A)
+done-pages s S roots r A =
+    let w = done-wanted s S roots r A in
+    let t = A .end .inv .taken in
+    let l = left-count s S roots r A in
+    record {
+      taken =
+          w ∙ sym (total-same (left-sound s S roots r A .pages) (A .end .ghost .pages) (s .ctl .regions) (λ i b. left-pages s S roots r A i))
+          ∙ sym (pages-length (left-store s S roots r A) (left-sound s S roots r A));
+      enough = omega arith;
+      left = omega arith;
+    }

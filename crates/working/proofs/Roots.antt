@@ -1,0 +1,185 @@
+-- The roots evacuated in order, then the scan stack worked: from a fresh state to one in which all is scanned.
+use Prim.Native.Nat.{ℕ, zero, suc, _+_, _*_, _≤_, _<_, zero-le, suc-le-suc}
+use native.Mathlib.Omega.{arith}
+use mathlib.Core.Path.{_≡_, refl, sym, ap, _∙_}
+use mathlib.Core.Logic.{_⊎_, inl, inr}
+use mathlib.Core.Option.{none, some}
+use mathlib.Core.List.{List, [], _∷_, List·Memᴰ, List·Memᴰ·head, List·Memᴰ·tail, List·Memᴰ·cases-cons}
+use lib.ListN.{length}
+use Rattle.laws.specs.Lists.{at}
+use Rattle.laws.proofs.Once.{once-tail, once-head}
+use Rattle.rules.specs.Memory.{Store, pageCount, topOf}
+use Rattle.rules.specs.Pages.{Scan, Run, withStack}
+use Rattle.rules.specs.Collection.{finished, lacksPage, evacuate, evacuateAll, work, workStack}
+use Rattle.facts.specs.View.{seen, Reached}
+use Rattle.facts.proofs.Copied.{Moved, to, Rel, num, stay, went}
+use Rattle.facts.proofs.Sound.{Good, Sound}
+use Rattle.working.proofs.Owned.{total}
+use Rattle.working.proofs.Log.{pointers}
+use Rattle.working.proofs.Next.{headOr}
+use Rattle.working.proofs.Aside.{stack-laid}
+use Rattle.working.specs.Unbounded.{evacuateFor, rootsFor, workFor, stackFor}
+use Rattle.working.proofs.Wanting.{follows-some, evacuate-follows}
+use Rattle.working.proofs.Dry.{roots-dry}
+use Rattle.working.proofs.Invariant.{lacking-on, Ghost, Kept, regionsOf, Waits, Pending, Inv, Later, later-refl, later-trans, Lacking, Became, Enough}
+use Rattle.working.proofs.Waking.{in-regions}
+use Rattle.working.proofs.Evacuating.{in-pointers, of-pointers}
+use Rattle.working.proofs.Evacuation.{evacuates}
+use Rattle.working.proofs.Leaving.{scanning}
+use Rattle.working.proofs.Work.{Finished, works}
+
+-- a longer log relates what a shorter one does
+pub rel-grows : {kept : ℕ → Type 0} (log log′ : List Moved) → ((m : Moved) → List·Memᴰ m log → List·Memᴰ m log′) → {v w : ℕ} → Rel kept (pointers log) v w → Rel kept (pointers log′) v w
+rel-grows log log′ grew (num n) = num n
+rel-grows log log′ grew (stay k) = stay k
+rel-grows log log′ grew {v} {w} (went m) =
+    let t = of-pointers log m in
+    went (go (t .0) (t .1) (t .2) (t .3) (t .4))
+  where
+    go : (a b : ℕ) → v ≡ 4 * a → w ≡ 4 * b → List·Memᴰ (to a b) log → List·Memᴰ (to v w) (pointers log′)
+    go a b p q t = rw (p, q) (in-pointers log′ (grew (to a b) t))
+
+-- the words ws became the words vs
+pub record AllBecame (s : Store) (S : Sound s) (g : Ghost) (r : Run) (ws vs : List ℕ) (r′ : Run) : Type 0 where
+  pub ghost : Ghost
+  pub inv : Inv s S ghost r′
+  pub later : Later (s .ctl .regions) g r ghost r′
+  pub count : length ws ≡ length vs
+  pub rels : (i : ℕ) → i < length ws → Rel (Kept s) (pointers (ghost .log)) (at ws i) (at vs i)
+
+module _ (s : Store) (S : Sound s) where
+  abbrev n : ℕ
+  n = s .ctl .n
+
+  abbrev R : ℕ
+  R = s .ctl .regions
+
+  pub evacuates-all : (ws : List ℕ) (g : Ghost) (r : Run) → Inv s S g r → ((i : ℕ) → i < length ws → Good n R (s .heap) (s .consts) (at ws i))
+      → ((i : ℕ) → i < length ws → Reached (seen s) (s .roots) (at ws i))
+      → ((evacuateAll n ws r ≡ none) × Lacking s S (rootsFor n ws r)) ⊎ ((vs : List ℕ) × (r′ : Run) × (evacuateAll n ws r ≡ some (vs, r′)) × AllBecame s S g r ws vs r′)
+  unfolding evacuateAll rootsFor
+  evacuates-all [] g r I good reached = inr ([], r, refl, record { ghost = g; inv = I; later = later-refl R g r; count = refl; rels = λ i b. absurd (omega arith) })
+  evacuates-all (w ∷ ws) g r I good reached =
+      go (λ g′ r′ I′. evacuates-all ws g′ r′ I′ (λ i b. good (suc i) (suc-le-suc b)) (λ i b. reached (suc i) (suc-le-suc b)))
+      (evacuates s S g r I w (good 0 (suc-le-suc zero-le)) (reached 0 (suc-le-suc zero-le)))
+    where
+      Result : List ℕ → Ghost → Run → Type 0
+      Result xs h q = ((evacuateAll n xs q ≡ none) × Lacking s S (rootsFor n xs q)) ⊎ ((vs : List ℕ) × (r′ : Run) × (evacuateAll n xs q ≡ some (vs, r′)) × AllBecame s S h q xs vs r′)
+
+      then : (v : ℕ) (r₁ : Run) → evacuate n w r ≡ some (v, r₁) → (B : Became s S g r w v r₁) → Result ws (B .ghost) r₁ → Result (w ∷ ws) g r
+      then v r₁ e B (inl u) =
+          let t : evacuateFor n w r ≡ (v, r₁) = follows-some (v, r₁) (evacuate-follows n w r) e in
+          inl (rw (e, evacuateAll, u .0), lacking-on (λ y. rw t y) (u .1))
+      then v r₁ e B (inr u) =
+          let A = u .3 in
+          inr (
+            v ∷ u .0,
+            u .1,
+            rw (e, evacuateAll, u .2),
+            record {
+              ghost = A .ghost;
+              inv = A .inv;
+              later = later-trans (B .later) (A .later);
+              count = ap suc (A .count);
+              rels = λ i b. each i b A;
+            },
+          )
+        where
+          each : (i : ℕ) → i < suc (length ws) → (A : AllBecame s S (B .ghost) r₁ ws (u .0) (u .1)) → Rel (Kept s) (pointers (A .ghost .log)) (at (w ∷ ws) i) (at (v ∷ u .0) i)
+          each zero b A = rel-grows (B .ghost .log) (A .ghost .log) (A .later .log) (B .rel)
+          each (suc i) b A = A .rels i (omega arith)
+
+      go : ((g′ : Ghost) (r′ : Run) → Inv s S g′ r′ → Result ws g′ r′)
+          → ((evacuate n w r ≡ none) × Lacking s S (evacuateFor n w r .1)) ⊎ ((v : ℕ) × (r₁ : Run) × (evacuate n w r ≡ some (v, r₁)) × Became s S g r w v r₁) → Result (w ∷ ws) g r
+      go rest (inl u) = inl (rw (u .0, evacuateAll), lacking-on (λ y. roots-dry n _ ws _ y) (u .1))
+      go rest (inr u) = then (u .0) (u .1) (u .2) (u .3) (rest (u .3 .ghost) (u .1) (u .3 .inv))
+
+  -- ---- the scan begins
+
+  module _ (g : Ghost) (r : Run) (I : Inv s S g r) (none-cur : g .cur ≡ none) (t : Scan) (ts : List Scan) (e : r .stack ≡ t ∷ ts) where
+    abbrev P : Pending n R g r
+    P = I .pending
+
+    top : Waits R g (r .table) t
+    top = P .stacked t (rw e (List·Memᴰ·head refl))
+
+    entered-pending : Pending n R (scanning g (some (t .region))) (withStack r ts)
+    entered-pending =
+        record {
+          rows = P .rows;
+          untouched = P .untouched;
+          scanned = P .scanned;
+          raws = P .raws;
+          stacked = λ u m.
+              let W = P .stacked u (rw e (List·Memᴰ·tail m)) in
+              record {
+                known = W .known;
+                awake = W .awake;
+                other = λ q. once-head (rw e at (P .once)) (rw (let z : t .region ≡ u .region = cc in z) (in-regions m));
+                rest = W .rest;
+                begins = W .begins;
+              };
+          once = once-tail (rw e at (P .once));
+          at-work = λ i q. let z : t .region ≡ i = cc in rw (← z) (top .known, top .awake);
+          idle = P .idle;
+          busy = λ i iR ne. go i (P .busy i iR ne);
+        }
+      where
+        by : (i : ℕ) → (i ≡ t .region) ⊎ List·Memᴰ i (regionsOf ts) → List·Memᴰ i (regionsOf ts) ⊎ (some (t .region) ≡ some i)
+        by i (inl q) = inr (ap some (sym q))
+        by i (inr m) = inl m
+
+        go : (i : ℕ) → List·Memᴰ i (regionsOf (r .stack)) ⊎ (g .cur ≡ some i) → List·Memᴰ i (regionsOf ts) ⊎ (some (t .region) ≡ some i)
+        go i (inl m) = by i (List·Memᴰ·cases-cons (rw e at m))
+        go i (inr q) = let z : none ≡ some i = sym none-cur ∙ q in let z′ : _≡_ {A = ℕ} 0 1 = cc in absurd (omega arith)
+
+    pub entered-inv : Inv s S (scanning g (some (t .region))) (withStack r ts)
+    entered-inv =
+        record {
+          laid = stack-laid n (pageCount n (s .heap)) R (g .own) (g .fin) (g .pages) (g .free) r (I .laid) ts;
+          logged = I .logged;
+          pending = entered-pending;
+          from-space = I .from-space;
+          owned = I .owned;
+          tallied = I .tallied;
+          taken = I .taken;
+          width = I .width;
+          past-rows = I .past-rows;
+        }
+
+  -- the whole scan, from a state in which no region is being scanned and what waits costs no more than the log pays
+  pub works-stack : (g : Ghost) (r : Run) → Inv s S g r → g .cur ≡ none → g .half ≡ none → total (g .todo) R + length (r .stack) ≤ 2 * length (g .log)
+      → ((workStack n r ≡ lacksPage) × Lacking s S (stackFor n r)) ⊎ ((r′ : Run) × (workStack n r ≡ finished r′) × Finished s S g r′)
+  unfolding workStack stackFor
+  works-stack g r I none-cur none-open cost = go (r .stack) refl
+    where
+      go : (st : List Scan) → r .stack ≡ st → ((workStack n r ≡ lacksPage) × Lacking s S (stackFor n r)) ⊎ ((r′ : Run) × (workStack n r ≡ finished r′) × Finished s S g r′)
+      go [] e = inr (r, rw (e, workStack) (ap (λ st. finished (withStack r st)) e), record { ghost = g; inv = I; no-cur = none-cur; none-open = none-open; stack = e; log = λ x m. m })
+      go (t ∷ ts) e = by (works s S f (scanning g (some (t .region))) (withStack r ts) (t .region) (entered-inv g r I none-cur t ts e) refl none-open enough)
+        where
+          f : ℕ
+          f = 2 * length (r .heap)
+
+          enough : Enough s (scanning g (some (t .region))) (withStack r ts) f
+          enough =
+              let a = I .laid .size in
+              let b = S .laid .size in
+              let c : length (r .stack) ≡ suc (length ts) = ap length e in
+              record { steps = omega arith }
+
+          a : ℕ
+          a = headOr (topOf (r .table) (t .region)) (g .todo (t .region))
+
+          is : workStack n r ≡ work n f (t .region) a (withStack r ts)
+          is = let W = I .pending .stacked t (rw e (List·Memᴰ·head refl)) in rw (e, workStack) (ap (λ x. work n f (t .region) x (withStack r ts)) (rw (W .begins)))
+
+          is-for : stackFor n r ≡ workFor n f (t .region) a (withStack r ts)
+          is-for = let W = I .pending .stacked t (rw e (List·Memᴰ·head refl)) in rw (e, stackFor) (ap (λ x. workFor n f (t .region) x (withStack r ts)) (rw (W .begins)))
+
+          by : ((work n f (t .region) a (withStack r ts) ≡ lacksPage) × Lacking s S (workFor n f (t .region) a (withStack r ts)))
+              ⊎ ((r′ : Run) × (work n f (t .region) a (withStack r ts) ≡ finished r′) × Finished s S (scanning g (some (t .region))) r′)
+              → ((workStack n r ≡ lacksPage) × Lacking s S (stackFor n r)) ⊎ ((r′ : Run) × (workStack n r ≡ finished r′) × Finished s S g r′)
+          by (inl u) = inl (is ∙ u .0, lacking-on (λ y. rw is-for y) (u .1))
+          by (inr u) =
+              let F = u .2 in
+              inr (u .0, is ∙ u .1, record { ghost = F .ghost; inv = F .inv; no-cur = F .no-cur; none-open = F .none-open; stack = F .stack; log = F .log })

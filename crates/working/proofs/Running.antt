@@ -1,0 +1,199 @@
+-- The whole run up to its end: fresh pages, roots, scan. It ends with all scanned, or for want of a page, and never for want of fuel.
+use Prim.Native.Nat.{ℕ, zero, suc, _+_, _-_, _*_, _^_, _<_}
+use native.Mathlib.Omega.{arith}
+use mathlib.Core.Path.{_≡_, refl, sym, ap, _∙_, subst}
+use mathlib.Core.Logic.{_⊎_, inl, inr}
+use mathlib.Core.Option.{none, some}
+use mathlib.Core.List.{List, [], _∷_, List·Memᴰ, List·Memᴰ·eq-of-singleton}
+use lib.ListN.{length}
+use Rattle.laws.specs.Lists.{at}
+use Rattle.laws.specs.Sums.{sumOver}
+use Rattle.laws.proofs.Once.{once-none}
+use Rattle.rules.specs.declared.Refusal.{Refusal}
+use Rattle.rules.specs.Memory.{Store}
+use Rattle.rules.specs.Pages.{Run, begun}
+use Rattle.rules.specs.Collection.{finished, lacksPage, freshen, evacuateAll, workStack, ending, collected}
+use Rattle.rules.specs.Refusals.{refused}
+use Rattle.facts.specs.View.{root}
+use Rattle.facts.proofs.Steps.{steps-le}
+use Rattle.facts.proofs.Laid.{mine}
+use Rattle.facts.proofs.Copied.{Rel}
+use Rattle.facts.proofs.Sound.{Sound}
+use Rattle.working.proofs.Owned.{total}
+use Rattle.working.proofs.Log.{pointers, Log}
+use Rattle.working.proofs.Next.{Row, row-last, Vals, vals-none}
+use Rattle.working.specs.Unbounded.{freshenFor, rootsFor, stackFor, unbounded}
+use Rattle.working.proofs.Wanting.{follows-some, ends-finished, fresh-follows, roots-follow, stack-ends}
+use Rattle.working.proofs.Dry.{Dry, roots-dry, stack-dry}
+use Rattle.working.proofs.Invariant.{lacking-on, Ghost, Kept, Pending, Inv, Lacking}
+use Rattle.working.proofs.Fresh.{Fresh, fresh-start}
+use Rattle.working.proofs.Freshening.{freshens}
+use Rattle.working.proofs.Roots.{rel-grows, AllBecame, evacuates-all, works-stack}
+use Rattle.working.proofs.Work.{Finished}
+
+total-ones : (f : ℕ → List ℕ) (m : ℕ) → ((i : ℕ) → i < m → (k : ℕ) × (f i ≡ k ∷ [])) → total f m ≡ m
+unfolding total
+total-ones f zero e = refl
+total-ones f (suc m) e = let t = e m (omega arith) in let u = total-ones f m (λ i b. e i (omega arith)) in rw (t .1) (omega arith)
+
+pub none-total : (m : ℕ) → total (λ j. []) m ≡ 0
+unfolding total
+none-total zero = refl
+none-total (suc m) = let e = none-total m in omega arith
+
+-- ---- the first state
+
+module _ (s : Store) (S : Sound s) (r : Run) (F : Fresh s S (s .ctl .regions) r) where
+  abbrev n : ℕ
+  n = s .ctl .n
+
+  abbrev R : ℕ
+  R = s .ctl .regions
+
+  abbrev pub first : Ghost
+  first =
+      record {
+        own = F .own;
+        fin = F .fin;
+        pages = F .pages;
+        free = F .free;
+        log = [];
+        count = λ b. 0;
+        past = λ j. [];
+        todo = λ j. [];
+        cur = none;
+        half = none;
+      }
+
+  fin-is : (k j : ℕ) → F .own k ≡ mine j → F .fin k ≡ k * 2 ^ n + 2
+  fin-is k j o =
+      let m = F .owned .mines k j o in
+      let t = F .single j (m .0) in
+      let e : k ≡ t .0 = List·Memᴰ·eq-of-singleton (rw (t .1) at (m .1)) in
+      ap (F .fin) e ∙ t .2 ∙ ap (λ x. x * 2 ^ n + 2) (sym e)
+
+  logged : Log n s (Kept s) (F .own) (F .fin) (r .heap) [] (λ b. 0)
+  logged =
+      record {
+        copies = λ m. elim m [ ];
+        unmoved = λ k x o p q no-entry. F .words k x o p q;
+        one-new = λ m m′. elim m [ ];
+        one-old = λ m m′. elim m [ ];
+        live = λ m. elim m [ ];
+        every = λ k j b o t u. let e = fin-is k j o in let lo = steps-le t in absurd (omega arith);
+        once = once-none;
+      }
+
+  rows : (j : ℕ) → j < R → Row n (r .heap) (F .fin) (F .pages j) []
+  rows j jR =
+      let t = F .single j jR in
+      let v : Vals (r .heap) (t .0 * 2 ^ n + 2 ^ n) (t .0 * 2 ^ n + 2) (F .fin (t .0)) []
+      = subst (λ x. Vals (r .heap) (t .0 * 2 ^ n + 2 ^ n) (t .0 * 2 ^ n + 2) x []) (sym (t .2)) vals-none in
+      subst (λ ks. Row n (r .heap) (F .fin) ks []) (sym (t .1)) (row-last v)
+
+  pending : Pending n R first r
+  pending =
+      record {
+        rows = rows;
+        untouched = λ j b jR m. elim m [ ];
+        scanned = λ m gone ne l e. elim m [ ];
+        raws = λ m l e. elim m [ ];
+        stacked = λ t m. let m′ : List·Memᴰ t [] = rw (F .stack) at m in elim m′ [ ];
+        once = rw (F .stack) once-none;
+        at-work = λ j e. let z : _≡_ {A = ℕ} 0 1 = cc in absurd (omega arith);
+        idle = λ j jR e. refl;
+        busy = λ j jR ne. absurd (ne (F .asleep j jR));
+      }
+
+  tallied : (j : ℕ) → j < R → sumOver (λ k. F .fin k - (k * 2 ^ n + 2)) (F .pages j) ≡ 0
+  unfolding sumOver
+  tallied j jR = let t = F .single j jR in let e = t .2 in rw (t .1) (omega arith)
+
+  pub first-inv : Inv s S first r
+  unfolding sumOver
+  first-inv =
+      record {
+        laid = F .laid;
+        logged = logged;
+        pending = pending;
+        from-space = F .from-space;
+        owned = F .owned;
+        tallied = tallied;
+        taken =
+            let t = F .taken in
+            let u = total-ones (F .pages) R (λ i b. let v = F .single i b in (v .0, v .1)) in
+            omega arith;
+        width = F .width;
+        past-rows = F .past-rows;
+      }
+
+-- ---- the run
+
+-- why a run is refused: fewer free pages than regions, or a page wanted later and none free
+pub data Refusing (s : Store) (S : Sound s) : Type 0 where
+  few : s .ctl .count < s .ctl .regions → Dry (length (s .heap) + 2 ^ s .ctl .n) (unbounded s) → Refusing s S
+  out : Lacking s S (unbounded s) → Refusing s S
+
+-- all is scanned; `roots` are the new roots
+pub record Ran (s : Store) (S : Sound s) (roots : List ℕ) (r : Run) : Type 0 where
+  pub start : Ghost
+  pub end : Finished s S start r
+  pub count : length (s .roots) ≡ length roots
+  pub unbound : unbounded s ≡ r
+  pub rels : (i : ℕ) → i < length (s .roots) → Rel (Kept s) (pointers (end .ghost .log)) (at (s .roots) i) (at roots i)
+
+module _ (s : Store) (S : Sound s) where
+  pub runs : ((collected s ≡ refused s Refusal.NoPage) × Refusing s S)
+      ⊎ ((roots : List ℕ) × (r : Run) × (collected s ≡ ending s roots (finished r)) × Ran s S roots r)
+  unfolding collected ending unbounded
+  runs = freshened (freshens s S (s .ctl .regions) 0 (begun s) (omega arith) (fresh-start s S))
+    where
+      Result : Type 0
+      Result = ((collected s ≡ refused s Refusal.NoPage) × Refusing s S) ⊎ ((roots : List ℕ) × (r : Run) × (collected s ≡ ending s roots (finished r)) × Ran s S roots r)
+
+      fresh-is : (r : Run) → freshen (s .ctl .n) (s .ctl .regions) 0 (begun s) ≡ some r → freshenFor (s .ctl .n) (s .ctl .regions) 0 (begun s) ≡ r
+      fresh-is r e = follows-some r (fresh-follows (s .ctl .n) (s .ctl .regions) 0 (begun s)) e
+
+      scanned : (r : Run) (F : Fresh s S (s .ctl .regions) r) → freshen (s .ctl .n) (s .ctl .regions) 0 (begun s) ≡ some r
+          → (roots : List ℕ) (r₁ : Run) → evacuateAll (s .ctl .n) (s .roots) r ≡ some (roots, r₁) → (A : AllBecame s S (first s S r F) r (s .roots) roots r₁)
+          → ((workStack (s .ctl .n) r₁ ≡ lacksPage) × Lacking s S (stackFor (s .ctl .n) r₁)) ⊎ ((r₂ : Run) × (workStack (s .ctl .n) r₁ ≡ finished r₂) × Finished s S (A .ghost) r₂) → Result
+      scanned r F e roots r₁ e₁ A (inl u) = inl (rw (e, collected, e₁, u .0), out (lacking-on (λ y. rw (fresh-is r e, roots-follow (s .ctl .n) (s .roots) roots r r₁ e₁) y) (u .1)))
+      scanned r F e roots r₁ e₁ A (inr u) =
+          inr (
+            roots,
+            u .0,
+            rw (e, collected, e₁, u .1),
+            record {
+              start = A .ghost;
+              end = u .2;
+              count = A .count;
+              unbound = rw (fresh-is r e, roots-follow (s .ctl .n) (s .roots) roots r r₁ e₁) (ends-finished (u .0) (stack-ends (s .ctl .n) r₁) (u .1));
+              rels = λ i b. rel-grows (A .ghost .log) (u .2 .ghost .log) (u .2 .log) (A .rels i b);
+            },
+          )
+
+      rooted : (r : Run) (F : Fresh s S (s .ctl .regions) r) → freshen (s .ctl .n) (s .ctl .regions) 0 (begun s) ≡ some r
+          → ((evacuateAll (s .ctl .n) (s .roots) r ≡ none) × Lacking s S (rootsFor (s .ctl .n) (s .roots) r))
+          ⊎ ((roots : List ℕ) × (r₁ : Run) × (evacuateAll (s .ctl .n) (s .roots) r ≡ some (roots, r₁)) × AllBecame s S (first s S r F) r (s .roots) roots r₁) → Result
+      rooted r F e (inl u) = inl (rw (e, collected, u .0), out (lacking-on (λ y. rw (fresh-is r e) (stack-dry (s .ctl .n) (length (s .heap) + 2 ^ s .ctl .n) (rootsFor (s .ctl .n) (s .roots) r) y)) (u .1)))
+      rooted r F e (inr u) =
+          let A = u .3 in
+          let cost = A .later .cost in
+          let z = none-total (s .ctl .regions) in
+          let d : length (r .stack) ≡ 0 = ap length (F .stack) in
+          scanned r F e (u .0) (u .1) (u .2) A (works-stack s S (A .ghost) (u .1) (A .inv) (A .later .cur) (A .later .half) (omega arith))
+
+      freshened : ((freshen (s .ctl .n) (s .ctl .regions) 0 (begun s) ≡ none) × (s .ctl .count < s .ctl .regions)
+          × Dry (length (s .heap) + 2 ^ s .ctl .n) (freshenFor (s .ctl .n) (s .ctl .regions) 0 (begun s)))
+          ⊎ ((r : Run) × (freshen (s .ctl .n) (s .ctl .regions) 0 (begun s) ≡ some r) × Fresh s S (s .ctl .regions) r) → Result
+      freshened (inl u) =
+          inl (
+            rw (u .0, collected),
+            few (u .1)
+                (stack-dry (s .ctl .n) (length (s .heap) + 2 ^ s .ctl .n) (rootsFor (s .ctl .n) (s .roots) (freshenFor (s .ctl .n) (s .ctl .regions) 0 (begun s)))
+                (roots-dry (s .ctl .n) (length (s .heap) + 2 ^ s .ctl .n) (s .roots) (freshenFor (s .ctl .n) (s .ctl .regions) 0 (begun s)) (u .2))),
+          )
+      freshened (inr u) =
+          let r = u .0 in
+          let F = u .2 in
+          rooted r F (u .1) (evacuates-all s S (s .roots) (first s S r F) r (first-inv s S r F) (S .roots) (λ i b. root i b))

@@ -1,0 +1,240 @@
+-- The views before and after: the collection leaves a copy. A constant is what it was; a moved value has its old header and length, its raw
+-- words are the old ones, and each field of a record stands for the old field.
+use Prim.Native.Nat.{ℕ, zero, suc, _+_, _*_, _^_, _≤_, _<_, zero-le}
+use native.Mathlib.Nat.{mul-le-mul-right}
+use native.Mathlib.Omega.{arith}
+use mathlib.Core.Path.{_≡_, refl, sym, ap, _∙_, subst}
+use mathlib.Core.Logic.{_≢_}
+use mathlib.Core.Bool.{true, false}
+use mathlib.Core.List.{List, List·Memᴰ}
+use lib.ListN.{length, take, drop, length-drop}
+use lib.Seq.{length-take-le, getD-take, getD-drop, ext-getD}
+use Rattle.laws.specs.Lists.{at}
+use Rattle.rules.specs.Memory.{Store}
+use Rattle.rules.specs.Words.{wordOf, rec, raw, headOf, recordBy, isRecord, goodConst, valueAt, look}
+use Rattle.rules.specs.Pages.{Run}
+use Rattle.rules.specs.Calls.{lookIn, headerIn, isNumber}
+use Rattle.facts.specs.View.{homeIn, seen}
+use Rattle.facts.proofs.Copied.{Moved, to, Rel, num, stay, OneValue, Copied}
+use Rattle.rules.proofs.Pointers.{pointer, words-of, record-head, raw-head}
+use Rattle.facts.proofs.Looked.{look-at, home-at, seen-plain}
+use Rattle.facts.proofs.Sound.{GoodConst, number-there, const-there, Sound}
+use Rattle.facts.proofs.Goods.{const-in}
+use Rattle.working.proofs.Owned.{old≢beyond}
+use Rattle.working.proofs.Log.{pointers, Copy}
+use Rattle.working.proofs.Invariant.{Kept}
+use Rattle.working.proofs.Evacuating.{of-pointers}
+use Rattle.working.proofs.Scanning.{seen-old}
+use Rattle.working.proofs.Running.{Ran}
+use Rattle.working.proofs.Ending.{back, left-store, copy-word, copy-steps, copy-stands, copy-known, copy-inside, copy-whose, copy-scanned}
+
+-- a value's words in a list
+module _ (h : List ℕ) (a l : ℕ) (inside : a + suc l ≤ length h) where
+  abbrev ws : List ℕ
+  ws = take (suc l) (drop a h)
+
+  pub words-length : length ws ≡ suc l
+  words-length = let d = length-drop a h in length-take-le (suc l) (drop a h) (omega arith)
+
+  pub words-at : (i : ℕ) → i ≤ l → at ws i ≡ at h (a + i)
+  words-at i b = getD-take (suc l) (drop a h) i 0 (omega arith) ∙ getD-drop a h i 0
+
+  pub words-head : headerIn ws ≡ at h a
+  words-head = words-at 0 zero-le ∙ ap (at h) (omega arith)
+
+module _ (s : Store) (S : Sound s) (roots : List ℕ) (r : Run) (A : Ran s S roots r) where
+  abbrev n : ℕ
+  n = s .ctl .n
+
+  abbrev log : List Moved
+  log = pointers (A .end .ghost .log)
+
+  abbrev s′ : Store
+  s′ = left-store s S roots r A
+
+  abbrev R : ℕ → ℕ → Type 0
+  R = Rel (Kept s) log
+
+  -- ---- constants
+
+  module _ (v : ℕ) (k : Kept s v) where
+    const-value : (t : Store) → t .consts ≡ s .consts → lookIn t v ≡ take (suc (k .good .len)) (drop (k .address) (s .consts))
+    unfolding look valueAt
+    const-value t e =
+        let c : goodConst (t .consts) (k .address) ≡ true = rw e (const-in (s .consts) (k .address) (k .good)) in
+        rw (k .word, look, c, e, words-of (headOf (at (s .consts) (k .address))) (k .good .len) (k .good .stands .head))
+
+    homeless : (t : Store) → homeIn t v ≡ 0
+    unfolding homeIn
+    homeless t = rw (k .word)
+
+    pointed : isNumber (wordOf v) ≡ false
+    pointed = rw (k .word)
+
+    const-field : (l f : ℕ) → l ≡ k .good .len → isRecord (at (s .consts) (k .address)) ≡ true → f < l → R (at (s .consts) (k .address + suc f)) (at (s .consts) (k .address + suc f))
+    const-field l f e kind b = go (S .consts .fields (k .address) (k .good .len) f (k .good .steps) (k .good .stands) kind (omega arith))
+      where
+        go : {w : ℕ} → GoodConst (s .consts) w → R w w
+        go (number-there q) = num (ap isNumber q)
+        go (const-there c q x) = stay (record { address = c; word = q; good = x })
+
+    const-same : OneValue (seen s) (seen s′) R v v
+    const-same =
+        let x = const-value s refl in
+        let y = const-value s′ refl in
+        let l : ℕ = k .good .len in
+        let inside = k .good .stands .ends in
+        let len = words-length (s .consts) (k .address) l inside in
+        record {
+          before = pointed;
+          after = pointed;
+          alike =
+              rw (x, y)
+              (record {
+                header = refl;
+                size = refl;
+                fields = λ kind f b.
+                    let b′ : f < l = omega arith in
+                    rw (words-at (s .consts) (k .address) l inside (suc f) (omega arith))
+                    (const-field l f refl (ap isRecord (sym (words-head (s .consts) (k .address) l inside)) ∙ kind) b′);
+                text = λ kind. refl;
+              });
+          home = homeless s ∙ sym (homeless s′);
+        }
+
+  -- ---- what moved
+
+  module _ (a b : ℕ) (m : List·Memᴰ (to a b) (A .end .ghost .log)) where
+    abbrev D : Copy n s (Kept s) (A .end .ghost .own) (A .end .ghost .fin) (r .heap) (A .end .ghost .log) (A .end .ghost .count) a b
+    D = A .end .inv .logged .copies m
+
+    big : 2 ≤ 2 ^ n
+    big = let x = S .laid .big in omega arith
+
+    old-inside : D .from * 2 ^ n + 2 ^ n ≤ length (s .heap)
+    old-inside =
+        let x = S .laid .size in
+        let y = mul-le-mul-right (2 ^ n) (A .end .inv .laid .known (D .from) (λ q. old≢beyond (D .from-old) q)) in
+        omega arith
+
+    value-before : lookIn s (4 * a) ≡ take (suc (D .len)) (drop a (s .heap))
+    value-before = seen-old s S (A .end .ghost) r (A .end .inv) a b m
+
+    value-after : lookIn s′ (4 * b) ≡ take (suc (D .len)) (drop b (back s S roots r A .heap))
+    value-after =
+        look-at s′ (D .into) b (D .len) big (copy-inside s S roots r A a b m) (copy-steps s S roots r A a b m) (copy-stands s S roots r A a b m)
+        (D .region) (copy-known s S roots r A a b m) (copy-whose s S roots r A a b m)
+
+    pub home-before : homeIn s (4 * a) ≡ suc (D .region)
+    home-before = home-at s (D .from) a (D .len) big old-inside (D .from-steps) (D .from-stands) (D .region) (copy-known s S roots r A a b m) (D .from-whose)
+
+    home-after : homeIn s′ (4 * b) ≡ suc (D .region)
+    home-after =
+        home-at s′ (D .into) b (D .len) big (copy-inside s S roots r A a b m) (copy-steps s S roots r A a b m) (copy-stands s S roots r A a b m)
+        (D .region) (copy-known s S roots r A a b m) (copy-whose s S roots r A a b m)
+
+    abbrev h : List ℕ
+    h = s .heap
+
+    abbrev h′ : List ℕ
+    h′ = back s S roots r A .heap
+
+    in-before : a + suc (D .len) ≤ length h
+    in-before = let x = old-inside in let y = D .from-stands .ends in omega arith
+
+    in-after : b + suc (D .len) ≤ length h′
+    in-after = let x = copy-inside s S roots r A a b m in let y = D .into-stands .ends in omega arith
+
+    same-head : at h′ b ≡ at h a
+    same-head = ap (at h′) (omega arith) ∙ copy-word s S roots r A a b m 0 zero-le ∙ ap (at (r .heap)) (omega arith) ∙ D .head
+
+    fields : isRecord (at h a) ≡ true → (f : ℕ) → f < D .len → R (at h (a + suc f)) (at h′ (b + suc f))
+    unfolding isRecord
+    fields kind f q =
+        let e : headOf (at (r .heap) b) ≡ rec (D .len)
+        = record-head (headOf (at (r .heap) b)) (D .len) (D .into-stands .head) (ap (λ w. recordBy (headOf w)) (D .head) ∙ kind) in
+        let full = copy-scanned s S roots r A a b m (D .len) e in
+        rw (copy-word s S roots r A a b m (suc f) (omega arith)) (D .scanned f q (omega arith))
+
+    raws : isRecord (at h a) ≡ false → (f : ℕ) → f < D .len → at h (a + suc f) ≡ at h′ (b + suc f)
+    unfolding isRecord
+    raws kind f q =
+        let e : headOf (at (r .heap) b) ≡ raw (D .len)
+        = raw-head (headOf (at (r .heap) b)) (D .len) (D .into-stands .head) (ap (λ w. recordBy (headOf w)) (D .head) ∙ kind) in
+        let z = A .end .inv .pending .raws m (D .len) e in
+        sym (D .waiting f q (omega arith)) ∙ sym (copy-word s S roots r A a b m (suc f) (omega arith))
+
+    text : isRecord (at h a) ≡ false → take (suc (D .len)) (drop a h) ≡ take (suc (D .len)) (drop b h′)
+    text kind =
+        let x = words-length h a (D .len) in-before in
+        let y = words-length h′ b (D .len) in-after in
+        ext-getD 0 _ _ (x ∙ sym y)
+        (λ i q. words-at h a (D .len) in-before i (omega arith) ∙ each i (omega arith) ∙ sym (words-at h′ b (D .len) in-after i (omega arith)))
+      where
+        each : (i : ℕ) → i < suc (D .len) → at h (a + i) ≡ at h′ (b + i)
+        each zero q = ap (at h) (omega arith) ∙ sym same-head ∙ ap (at h′) (omega arith)
+        each (suc i) q = raws kind i (omega arith)
+
+    moved-same : OneValue (seen s) (seen s′) R (4 * a) (4 * b)
+    moved-same =
+        let x = words-length h a (D .len) in-before in
+        let y = words-length h′ b (D .len) in-after in
+        let p = words-head h a (D .len) in-before in
+        let q = words-head h′ b (D .len) in-after in
+        record {
+          before = rw (pointer a);
+          after = rw (pointer b);
+          alike =
+              rw (value-before, value-after)
+              (record {
+                header = p ∙ sym same-head ∙ sym q;
+                size = x ∙ sym y;
+                fields = λ kind f t.
+                    rw (words-at h a (D .len) in-before (suc f) (omega arith), words-at h′ b (D .len) in-after (suc f) (omega arith))
+                    (fields (ap isRecord (sym p) ∙ kind) f (omega arith));
+                text = λ kind. text (ap isRecord (sym p) ∙ kind);
+              });
+          home = home-before ∙ sym home-after;
+        }
+
+    has-home : homeIn s (4 * a) ≢ 0
+    has-home e = let q = home-before in omega arith
+
+  -- ---- the whole
+
+  four : {x y : ℕ} → 4 * x ≡ 4 * y → x ≡ y
+  four e = omega arith
+
+  moves : {v w : ℕ} → List·Memᴰ (to v w) log → OneValue (seen s) (seen s′) R v w × (homeIn s v ≢ 0)
+  moves {v} {w} m = let t = of-pointers (A .end .ghost .log) m in go (t .0) (t .1) (t .2) (t .3) (t .4)
+    where
+      go : (a b : ℕ) → v ≡ 4 * a → w ≡ 4 * b → List·Memᴰ (to a b) (A .end .ghost .log) → OneValue (seen s) (seen s′) R v w × (homeIn s v ≢ 0)
+      go a b p q t = rw (p, q) (moved-same a b t, has-home a b t)
+
+  one-new : {v w w′ : ℕ} → List·Memᴰ (to v w) log → List·Memᴰ (to v w′) log → w ≡ w′
+  one-new m m′ =
+      let t = of-pointers (A .end .ghost .log) m in
+      let u = of-pointers (A .end .ghost .log) m′ in
+      let e : t .0 ≡ u .0 = four (sym (t .2) ∙ u .2) in
+      t .3 ∙ ap (λ x. 4 * x) (A .end .inv .logged .one-new (subst (λ x. List·Memᴰ (to x (t .1)) (A .end .ghost .log)) e (t .4)) (u .4)) ∙ sym (u .3)
+
+  one-old : {v v′ w : ℕ} → List·Memᴰ (to v w) log → List·Memᴰ (to v′ w) log → v ≡ v′
+  one-old m m′ =
+      let t = of-pointers (A .end .ghost .log) m in
+      let u = of-pointers (A .end .ghost .log) m′ in
+      let e : t .1 ≡ u .1 = four (sym (t .3) ∙ u .3) in
+      t .2 ∙ ap (λ x. 4 * x) (A .end .inv .logged .one-old (subst (λ x. List·Memᴰ (to (t .0) x) (A .end .ghost .log)) e (t .4)) (u .4)) ∙ sym (u .2)
+
+  pub left-copied : Copied (seen s) (seen s′) (Kept s) log (s .roots) roots
+  left-copied =
+      record {
+        plain = seen-plain s;
+        plain′ = seen-plain s′;
+        count = A .count;
+        roots = A .rels;
+        staying = λ {v} k. (const-same v k, homeless v k s);
+        moving = moves;
+        one-new = one-new;
+        one-old = one-old;
+        live = λ m. let t = of-pointers (A .end .ghost .log) m in rw (t .2) (A .end .inv .logged .live (t .4));
+      }

@@ -1,0 +1,180 @@
+-- The scan stack worked to its end. Each turn scans one copy or leaves one region, and each copy made costs two turns, so the fuel, two for
+-- each word of the heap, never runs out: no more values can be copied than the heap has words.
+use Prim.Native.Nat.{ℕ, zero, suc, _+_, _*_, _^_, _≤_, _<_}
+use native.Mathlib.Nat.{mul-le-mul-right}
+use native.Mathlib.Omega.{arith}
+use native.Mathlib.Decide.{ℕ-discrete}
+use mathlib.Core.Path.{_≡_, refl, sym, ap, _∙_, subst}
+use mathlib.Core.Logic.{_≢_, _⊎_, inl, inr}
+use mathlib.Core.Bool.{true, false}
+use mathlib.Core.Option.{none, some}
+use mathlib.Core.List.{List, [], _∷_, _++_, List·Memᴰ, List·Memᴰ·head, Memᴰ·append-right}
+use lib.ListN.{length}
+use lib.Dec.{eqb}
+use borrow.Author.Tests.{eq-eqb, ne-eqb}
+use Rattle.laws.proofs.Lists.{apart as pages-apart}
+use Rattle.laws.proofs.Once.{last-in, once-most}
+use Rattle.rules.specs.Memory.{Store, pageCount, topOf, statusOf, setStatus}
+use Rattle.rules.specs.Pages.{Scan, Run, withTable, withStack}
+use Rattle.rules.specs.Collection.{finished, lacksPage, scanValue, nextScan, work}
+use Rattle.facts.proofs.Steps.{steps-le}
+use Rattle.facts.proofs.Laid.{Body}
+use Rattle.facts.proofs.Copied.{Moved}
+use Rattle.facts.proofs.Sound.{Sound}
+use Rattle.working.proofs.Owned.{old≢beyond}
+use Rattle.working.proofs.Log.{olds, in-olds}
+use Rattle.working.proofs.Next.{Row, headOr, After, after-here, after-there, next-row}
+use Rattle.working.proofs.Rows.{InRow, row-in}
+use Rattle.working.specs.Unbounded.{valueFor, workFor}
+use Rattle.working.proofs.Wanting.{follows-some, value-follows}
+use Rattle.working.proofs.Dry.{work-dry}
+use Rattle.working.proofs.Invariant.{lacking-on, Ghost, regionsOf, Inv, Lacking, Enough}
+use Rattle.working.proofs.Turn.{Turned, scans-value}
+use Rattle.working.proofs.Leaving.{scanning, left, left-last, left-next}
+
+-- all is scanned
+pub record Finished (s : Store) (S : Sound s) (g : Ghost) (r : Run) : Type 0 where
+  pub ghost : Ghost
+  pub inv : Inv s S ghost r
+  pub no-cur : ghost .cur ≡ none
+  pub none-open : ghost .half ≡ none
+  pub stack : r .stack ≡ []
+  pub log : (x : Moved) → List·Memᴰ x (g .log) → List·Memᴰ x (ghost .log)
+
+module _ (s : Store) (S : Sound s) where
+  abbrev n : ℕ
+  n = s .ctl .n
+
+  abbrev R : ℕ
+  R = s .ctl .regions
+
+  pub asleep : {g : Ghost} {r : Run} (F : Finished s S g r) (i : ℕ) → i < R → statusOf (r .table) i ≡ 0
+  asleep {g} {r} F i iR = go (ℕ-discrete (statusOf (r .table) i) 0)
+    where
+      by : List·Memᴰ i (regionsOf (r .stack)) ⊎ (F .ghost .cur ≡ some i) → ⊥
+      by (inl m) = let m′ : List·Memᴰ i [] = subst (λ t. List·Memᴰ i (regionsOf t)) (F .stack) m in elim m′ [ ]
+      by (inr q) = let z : none ≡ some i = sym (F .no-cur) ∙ q in let z′ : _≡_ {A = ℕ} 0 1 = cc in omega arith
+
+      go : Dec (statusOf (r .table) i ≡ 0) → statusOf (r .table) i ≡ 0
+      go (yes e) = e
+      go (no ne) = absurd (by (F .inv .pending .busy i iR ne))
+
+  pub none-waits : {g : Ghost} {r : Run} (F : Finished s S g r) (i : ℕ) → i < R → F .ghost .todo i ≡ []
+  none-waits F i iR = F .inv .pending .idle i iR (asleep F i iR)
+
+  -- ---- the bound
+
+  olds-length : (log : List Moved) → length (olds log) ≡ length log
+  olds-length [] = refl
+  olds-length (m ∷ ms) = ap suc (olds-length ms)
+
+  pub log-bound : (g : Ghost) (r : Run) → Inv s S g r → length (g .log) ≤ length (s .heap)
+  log-bound g r I = let b = once-most (length (s .heap)) inside (I .logged .once) in omega (arith, olds-length (g .log))
+    where
+      inside : (a : ℕ) → List·Memᴰ a (olds (g .log)) → a < length (s .heap)
+      inside a m =
+          let t = in-olds (g .log) m in
+          let C = I .logged .copies (t .1) in
+          let ends = C .from-stands .ends in
+          let size = S .laid .size in
+          let page = mul-le-mul-right (2 ^ n) (I .laid .known (C .from) (λ q. old≢beyond (C .from-old) q)) in
+          omega arith
+
+  -- ---- one region
+
+  module _ (g : Ghost) (r : Run) (I : Inv s S g r) (j : ℕ) (jR : j < R) where
+    -- no copy stands at the region's a
+    pub not-top : (b : ℕ) → List·Memᴰ b (g .todo j) → b ≢ topOf (r .table) j
+    not-top b m e = go (ℕ-discrete (F .page) z)
+      where
+        F : InRow n (r .heap) (g .fin) (g .pages j) b
+        F = row-in (I .pending .rows j jR) (Memᴰ·append-right (g .past j) m)
+
+        z : ℕ
+        z = I .laid .mine-top j jR .0
+
+        top : topOf (r .table) j ≡ g .fin z
+        top = I .laid .mine-top j jR .3
+
+        B : Body n (r .heap) z j (g .fin z)
+        B = I .laid .mine-body j z (I .laid .mine-own j z jR (last-in (I .laid .mine-top j jR .1)))
+
+        far : (F .page * 2 ^ n + 2 ^ n ≤ z * 2 ^ n) ⊎ (z * 2 ^ n + 2 ^ n ≤ F .page * 2 ^ n) → ⊥
+        far (inl q) = let t = top in let u = steps-le (B .filled) in let w = F .stands .ends in omega arith
+        far (inr q) = let t = top in let u = B .inside in let w = steps-le (F .steps) in omega arith
+
+        go : Dec (F .page ≡ z) → ⊥
+        go (yes q) = let t = top in let u = F .below in let w : g .fin (F .page) ≡ g .fin z = ap (g .fin) q in omega arith
+        go (no ne) = far (pages-apart (2 ^ n) (F .page) z ne)
+
+    mid : (xs : List ℕ) {b : ℕ} {ys : List ℕ} → After ((xs ++ b ∷ []) ++ ys) b ys
+    mid [] = after-here
+    mid (x ∷ xs) = after-there (mid xs)
+
+    -- after the copy at b, the next that waits, or the region's a
+    pub next : (past : List ℕ) (b : ℕ) → g .past j ≡ past ++ b ∷ [] → nextScan n j b r ≡ headOr (topOf (r .table) j) (g .todo j)
+    next past b e =
+        let t = I .laid .mine-links j jR in
+        next-row n (pageCount n (s .heap)) R (g .own) (g .fin) (g .pages) (g .free) r (I .laid) j jR (t .2) (I .laid .mine-once j jR) (I .laid .mine-top j jR .1)
+        (λ k m. I .laid .mine-own j k jR m)
+        (subst (λ xs. Row n (r .heap) (g .fin) (g .pages j) (xs ++ g .todo j)) e (I .pending .rows j jR)) (mid past)
+
+  abbrev Result : Ghost → Run → ℕ → ℕ → ℕ → Type 0
+  Result g r f j a = ((work n f j a r ≡ lacksPage) × Lacking s S (workFor n f j a r)) ⊎ ((r′ : Run) × (work n f j a r ≡ finished r′) × Finished s S g r′)
+
+  -- ---- all of it
+  pub works : (f : ℕ) (g : Ghost) (r : Run) (j : ℕ) → Inv s S g r → g .cur ≡ some j → g .half ≡ none → Enough s g r f
+      → Result g r f j (headOr (topOf (r .table) j) (g .todo j))
+  unfolding work workFor
+  works zero g r j I cur shut enough = let a = log-bound g r I in let b = enough .steps in absurd (omega arith)
+  works (suc f) g r j I cur shut enough = go (g .todo j) refl (λ g′ r′ i. works f g′ r′ i)
+    where
+      jR : j < R
+      jR = I .pending .at-work j cur .0
+
+      Rest : Type 0
+      Rest = (g′ : Ghost) (r′ : Run) (i : ℕ) → Inv s S g′ r′ → g′ .cur ≡ some i → g′ .half ≡ none → Enough s g′ r′ f → Result g′ r′ f i (headOr (topOf (r′ .table) i) (g′ .todo i))
+
+      up : (g′ : Ghost) (r′ : Run) (i a a′ : ℕ) → ((x : Moved) → List·Memᴰ x (g .log) → List·Memᴰ x (g′ .log)) → work n (suc f) j a r ≡ work n f i a′ r′ → workFor n (suc f) j a r ≡ workFor n f i a′ r′
+          → Result g′ r′ f i a′ → Result g r (suc f) j a
+      up g′ r′ i a a′ grew e t (inl u) = inl (e ∙ u .0, lacking-on (λ y. rw t y) (u .1))
+      up g′ r′ i a a′ grew e t (inr u) =
+          let F = u .2 in
+          inr (u .0, e ∙ u .1, record { ghost = F .ghost; inv = F .inv; no-cur = F .no-cur; none-open = F .none-open; stack = F .stack; log = λ x m. F .log x (grew x m) })
+
+      -- the region is done
+      leave : g .todo j ≡ [] → (st : List Scan) → r .stack ≡ st → Rest → Result g r (suc f) j (topOf (r .table) j)
+      leave e [] q rest =
+          let t : eqb (topOf (r .table) j) (topOf (r .table) j) ≡ true = eq-eqb (topOf (r .table) j) (topOf (r .table) j) refl in
+          let w : left j [] r ≡ withTable r (setStatus (r .table) j 0) = ap (λ x. withStack (withTable r (setStatus (r .table) j 0)) x) (sym q) in
+          inr (left j [] r, rw (t, work, q) (ap finished (sym w)), record { ghost = scanning g none; inv = left-last s S g r I j cur e q; no-cur = refl; none-open = shut; stack = refl; log = λ x m. m })
+      leave e (t ∷ ts) q rest =
+          let p : eqb (topOf (r .table) j) (topOf (r .table) j) ≡ true = eq-eqb (topOf (r .table) j) (topOf (r .table) j) refl in
+          let W = I .pending .stacked t (rw q (List·Memᴰ·head refl)) in
+          let g′ : Ghost = scanning g (some (t .region)) in
+          let r′ : Run = left j ts r in
+          let b = enough .steps in
+          let d : length (r .stack) ≡ suc (length ts) = ap length q in
+          let a : t .address ≡ headOr (topOf (r′ .table) (t .region)) (g .todo (t .region)) = rw (W .begins) in
+          up g′ r′ (t .region) (topOf (r .table) j) (headOr (topOf (r′ .table) (t .region)) (g .todo (t .region))) (λ x m. m) (rw (p, work, q) (ap (λ x. work n f (t .region) x r′) a)) (rw (p, workFor, q) (ap (λ x. workFor n f (t .region) x r′) a))
+          (rest g′ r′ (t .region) (left-next s S g r I j cur e t ts q) refl shut (record { steps = omega arith }))
+
+      -- a copy is scanned
+      scan : (b : ℕ) (ts : List ℕ) → g .todo j ≡ b ∷ ts → Rest → ((scanValue n b r ≡ none) × Lacking s S (valueFor n b r)) ⊎ ((r′ : Run) × (scanValue n b r ≡ some r′) × Turned s S g r j b r′) → Result g r (suc f) j b
+      scan b ts e rest (inl u) =
+          let p : eqb b (topOf (r .table) j) ≡ false = ne-eqb b (topOf (r .table) j) (not-top g r I j jR b (rw e (List·Memᴰ·head refl))) in
+          inl (rw (p, work, u .0), lacking-on (λ y. rw (p, workFor) (work-dry n _ f j _ _ y)) (u .1))
+      scan b ts e rest (inr u) =
+          let p : eqb b (topOf (r .table) j) ≡ false = ne-eqb b (topOf (r .table) j) (not-top g r I j jR b (rw e (List·Memᴰ·head refl))) in
+          let r₁ : Run = u .0 in
+          let T = u .2 in
+          let a : nextScan n j b r₁ ≡ headOr (topOf (r₁ .table) j) (T .ghost .todo j) = next (T .ghost) r₁ (T .inv) j jR (g .past j) b (T .past) in
+          let v : valueFor n b r ≡ r₁ = follows-some r₁ (value-follows n b r) (u .1) in
+          let c = T .cost in
+          let d = enough .steps in
+          up (T .ghost) r₁ j b (headOr (topOf (r₁ .table) j) (T .ghost .todo j)) (T .log) (rw (p, work, u .1) (ap (λ x. work n f j x r₁) a)) (rw (p, workFor, v) (ap (λ x. workFor n f j x r₁) a))
+          (rest (T .ghost) r₁ j (T .inv) (T .cur) (T .none-open) (record { steps = omega arith }))
+
+      go : (xs : List ℕ) → g .todo j ≡ xs → Rest → Result g r (suc f) j (headOr (topOf (r .table) j) xs)
+      go [] e rest = leave e (r .stack) refl rest
+      go (b ∷ ts) e rest = scan b ts e rest (scans-value s S g r I j b ts cur e shut)

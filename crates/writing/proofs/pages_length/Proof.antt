@@ -1,0 +1,60 @@
+-- `writing::pages_length` meets its contract: a turn adds a page's frame, and what was added with what is left is the whole.
+use borrow.Author.Needs.{needs}
+use Prim.Native.Nat.{_+_, _*_, _/_, _^_, _≤_}
+use mathlib.Core.Path.{_≡_, refl, ap, _∙_}
+use native.Mathlib.Nat.{div-le-self}
+use native.Mathlib.Omega.{arith}
+use lib.ListN.{length}
+use Rattle.rules.specs.Image.{pageFrames}
+use Rattle.rules.proofs.Frames.{page-text, pages-text-length, pages-text-end}
+use Rattle.writing.proofs.pages_length.Statement.{statement}
+use Rattle.writing.proofs.pages_length.Tie as tie
+
+abbrev Inv-loop : tie.InvT-loop
+Inv-loop heap n pages total₀ k₀ left₀ total k left = (total + length (pageFrames n heap left k) ≡ length (pageFrames n heap pages 0)) × (k + left ≡ pages) × (total ≤ 2055 * k)
+
+abbrev μ-loop : tie.MeasureT-loop
+μ-loop heap n pages total₀ k₀ left₀ total k left = left
+
+loop-holds : tie.Need-loop-holds Inv-loop μ-loop
+loop-holds c = (omega arith, omega arith, omega arith)
+
+page-part-requires : tie.Need-page-part-requires Inv-loop μ-loop
+page-part-requires c κs = (c .before .before .before .pre .0, omega arith)
+
+part-length-requires : tie.Need-part-length-requires Inv-loop μ-loop
+part-length-requires c κs = omega arith
+
+add-total : tie.Need-add-total Inv-loop μ-loop
+add-total c = omega (arith, page-text _ _ _ (c .before .page-part .ensures .0) (c .before .page-part .ensures .1) (c .part-length .ensures .0), div-le-self (length (c .before .before .before .before .before .args .heap .now)) (2 ^ c .before .before .before .before .before .args .n))
+
+add-k : tie.Need-add-k Inv-loop μ-loop
+add-k c = omega (arith, div-le-self (length (c .before .before .before .before .before .args .heap .now)) (2 ^ c .before .before .before .before .before .args .n))
+
+sub-left : tie.Need-sub-left Inv-loop μ-loop
+sub-left c = omega arith
+
+loop-less : tie.Need-loop-less Inv-loop μ-loop
+loop-less c = omega arith
+
+loop-again : tie.Need-loop-again Inv-loop μ-loop
+loop-again c = let p = page-text _ _ _ (c .before .page-part .ensures .0) (c .before .page-part .ensures .1) (c .part-length .ensures .0) in (omega (arith, pages-text-length (c .before .before .before .before .before .args .n) (c .before .before .before .before .before .args .heap .now) (c .before .before .before .loop .left) (c .before .before .before .loop .k) (c .before .before .loop-test .taken)), omega arith, omega arith)
+
+returns : tie.Need-returns Inv-loop μ-loop
+returns c = omega (arith, ap length (pages-text-end (c .before .before .before .args .n) (c .before .before .before .args .heap .now) (c .before .loop .left) (c .before .loop .k) (c .loop-test .left)))
+
+pub pages-length-spec : {M : Type 1} → statement M
+pages-length-spec =
+    tie.close
+    (tie.spec
+    Inv-loop
+    μ-loop
+    loop-holds
+    page-part-requires
+    part-length-requires
+    add-total
+    add-k
+    sub-left
+    loop-less
+    loop-again
+    returns)

@@ -1,0 +1,77 @@
+-- `writing::text_length` meets its contract: the text is four frames and the pages', and each is short.
+use borrow.Author.Needs.{needs}
+use Prim.Native.Nat.{_*_, _^_}
+use mathlib.Core.Path.{_≡_, refl, ap, _∙_}
+use native.Mathlib.Nat.{sub-zero, div-le-self}
+use native.Mathlib.Omega.{arith}
+use lib.ListN.{length, take}
+use Rattle.rules.specs.Memory.{lent}
+use Rattle.rules.specs.Image.{trim, pageFrames}
+use Rattle.rules.proofs.Frames.{image-length}
+use Rattle.writing.proofs.text_length.Statement.{statement}
+use Rattle.writing.proofs.text_length.Tie as tie
+
+address-page-requires : tie.Need-address-page-requires
+address-page-requires c κs = search needs
+
+cast-rows : tie.Need-cast-rows
+cast-rows c = search needs
+
+mul-rows : tie.Need-mul-rows
+mul-rows c = search needs
+
+sub-part-length : tie.Need-sub-part-length
+sub-part-length c = search needs
+
+part-part-length-start : tie.Need-part-part-length-start
+part-part-length-start c = search needs
+
+part-part-length-end : tie.Need-part-part-length-end
+part-part-length-end c = search needs
+
+part-length-requires : tie.Need-part-length-requires
+part-length-requires c κs = search needs
+
+add-result : tie.Need-add-result
+add-result c = omega arith
+
+part-length-requires-2 : tie.Need-part-length-requires-2
+part-length-requires-2 c κs = search needs
+
+add-result-2 : tie.Need-add-result-2
+add-result-2 c = omega arith
+
+part-length-requires-3 : tie.Need-part-length-requires-3
+part-length-requires-3 c κs = search needs
+
+add-result-3 : tie.Need-add-result-3
+add-result-3 c = omega arith
+
+pages-length-requires : tie.Need-pages-length-requires
+pages-length-requires c κs = search needs
+
+add-result-4 : tie.Need-add-result-4
+add-result-4 c = omega (arith, div-le-self (length (c .before .before .before .before .before .before .before .before .before .before .before .args .heap .now)) (2 ^ c .before .before .before .before .before .before .before .before .before .before .before .args .c .n))
+
+returns : tie.Need-returns
+returns c = let w = image-length (lent (c .before .before .before .before .before .before .before .before .before .before .before .args .heap .now) (c .before .before .before .before .before .before .before .before .before .before .before .args .table .now) (c .before .before .before .before .before .before .before .before .before .before .before .args .roots .now) (c .before .before .before .before .before .before .before .before .before .before .before .args .consts .now) (c .before .before .before .before .before .before .before .before .before .before .before .args .c)) in let q = ap (λ k. length (trim (take k (c .before .before .before .before .before .before .before .before .before .before .before .args .table .now)))) (sub-zero (4 * c .before .before .before .before .before .before .before .before .before .before .before .args .c .regions)) in let d = div-le-self (length (c .before .before .before .before .before .before .before .before .before .before .before .args .heap .now)) (2 ^ c .before .before .before .before .before .before .before .before .before .before .before .args .c .n) in let e = ap (λ k. length (pageFrames (c .before .before .before .before .before .before .before .before .before .before .before .args .c .n) (c .before .before .before .before .before .before .before .before .before .before .before .args .heap .now) k 0)) (c .before .before .before .before .before .before .address-page .ensures) in (omega arith, omega arith)
+
+pub text-length-spec : {M : Type 1} → statement M
+text-length-spec =
+    tie.close
+    (tie.spec
+    address-page-requires
+    cast-rows
+    mul-rows
+    sub-part-length
+    part-part-length-start
+    part-part-length-end
+    part-length-requires
+    add-result
+    part-length-requires-2
+    add-result-2
+    part-length-requires-3
+    add-result-3
+    pages-length-requires
+    add-result-4
+    returns)
