@@ -165,20 +165,22 @@ pub fn set_status(rows: &mut [u32], j: Region, b: usize)
 // ---- Copying.
 
 // Whether m words at a and m words at b lie within a size, and apart.
-pub fn apart(m: usize, a: usize, b: usize, size: usize) -> bool
-    requires { ⌜ (m ≤ 4294967296) × (a < 4294967296) × (b < 4294967296) ⌝ }
-    ensures { λ r. ⌜ r ≡ apartDef m a b size ⌝ }
+pub fn apart(m: usize, a: Address, b: Address, size: usize) -> bool
+    requires { ⌜ (m ≤ 4294967296) × (a .0 < 4294967296) × (b .0 < 4294967296) ⌝ }
+    ensures { λ r. ⌜ r ≡ apartDef m (a .0) (b .0) size ⌝ }
 {
-    if size < a + m {
+    let from = a.0;
+    let to = b.0;
+    if size < from + m {
         return false;
     }
-    if size < b + m {
+    if size < to + m {
         return false;
     }
-    if a + m <= b {
+    if from + m <= to {
         return true;
     }
-    b + m <= a
+    to + m <= from
 }
 
 // The m words at a, at b as well, where both lie in the heap and apart.
@@ -186,11 +188,11 @@ pub fn copy(heap: &mut [u32], a: Address, b: Address, m: usize)
     requires { ⌜ (a .0 < 4294967296) × (b .0 < 4294967296) × (m ≤ 4294967296) ⌝ }
     ensures { λ _. ⌜ now (heap .exit) ≡ copied m (a .0) (b .0) (now (heap .entry)) ⌝ }
 {
-    let from = a.0;
-    let to = b.0;
-    if !apart(m, from, to, heap.len()) {
+    if !apart(m, a, b, heap.len()) {
         return;
     }
+    let from = a.0;
+    let to = b.0;
     let mut i: usize = 0;
     while i < m {
         heap[to + i] = heap[from + i];

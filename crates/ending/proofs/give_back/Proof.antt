@@ -1,4 +1,5 @@
 -- `ending::give_back` meets its contract: what is read before the writes is what the definition reads.
+use native.Mathlib.Omega.{arith}
 use Rattle.laws.proofs.Tests.{tests}
 use Rattle.rules.proofs.Limits.{page-number}
 use Rattle.motion.specs.Whole.{giveOn, giveBack as giveBackDef}
@@ -16,7 +17,7 @@ word-requires-3 : tie.Need-word-requires-3
 word-requires-3 c κs = search needs
 
 page-link-requires : tie.Need-page-link-requires
-page-link-requires c κs = page-number _ _ _ (c .before .before .before .before .before .before .before .before .pre .0) (c .before .before .before .before .before .before .before .before .pre .1) .0
+page-link-requires c κs = let b = page-number _ _ _ (c .before .before .before .before .before .before .before .before .pre .0) (c .before .before .before .before .before .before .before .before .pre .1) in omega arith
 
 cast-link : tie.Need-cast-link
 cast-link c = search needs
