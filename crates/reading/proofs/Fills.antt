@@ -11,8 +11,9 @@ use lib.Seq.{sets, length-sets, drop-cons, length-take-le}
 use Rattle.laws.specs.Lists.{at, padded}
 use Rattle.laws.proofs.Writes.{sets-append, sets-next, sets-whole, part-sets}
 use Rattle.laws.proofs.Padded.{length-padded, at-padded}
-use Rattle.reading.specs.Places.{numberAt, wordsAt, wordsOf, afterFrame, partAt, pagesAt}
-use Rattle.reading.proofs.Frames.{length-words-at}
+use Rattle.scanning.specs.Places.{numberAt, wordsAt, wordsOf, afterFrame}
+use Rattle.reading.specs.Parts.{partAt, pagesAt}
+use Rattle.scanning.proofs.Frames.{length-words-at}
 
 -- ---- a word by its number
 

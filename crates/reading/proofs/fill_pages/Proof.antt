@@ -8,7 +8,7 @@ use native.Mathlib.Nat.{zero-mul, le-trans}
 use Rattle.laws.proofs.Writes.{sets-whole}
 use Rattle.rules.proofs.Pages.{page-short}
 use Rattle.rules.proofs.Limits.{page-inside, page-number, whole-pages}
-use Rattle.reading.specs.Places.{pagesAt}
+use Rattle.reading.specs.Parts.{pagesAt}
 use Rattle.reading.proofs.Fills.{page-filled-length, pages-fill-turn, pages-fill-end, pages-at-length}
 use Rattle.reading.proofs.fill_pages.Statement.{statement}
 use Rattle.reading.proofs.fill_pages.Tie as tie
