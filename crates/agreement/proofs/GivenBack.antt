@@ -7,7 +7,7 @@ use mathlib.Core.Path.{_≡_, refl, sym, ap, _∙_, subst}
 use mathlib.Core.Logic.{_≢_}
 use mathlib.Core.List.{List, [], _∷_, _++_, List·Memᴰ, List·Memᴰ·head, List·Memᴰ·tail}
 use lib.ListN.{length, set, length-set, length-append}
-use lib.Seq.{append-snoc, getD-set-same, getD-set-other}
+use lib.Seq.{append-snoc, getD-set-same, getD-set-other, set-comm}
 use borrow.Author.Tests.{le-leb, eq-eqb, ne-eqb}
 use Rattle.laws.specs.Lists.{at, lastOr}
 use Rattle.laws.proofs.Once.{Once, once-tail, once-head, once-most, Last, later as further, last-in, Linked, linked-none, linked-first}
@@ -46,14 +46,16 @@ module _ (n k : ℕ) where
   pub desk-first : (d : Desk) → at (d .notes) freeFirst ≡ 0
       → giveDesk n k d ≡ desk (clearPage n (d .heap) k) (set (set (counted (d .notes)) freeFirst (suc k)) freeLast (suc k))
   unfolding giveDesk giveOn
-  desk-first d e = rw (giveDesk, giveOn, eq-eqb (at (d .notes) freeFirst) 0 e)
+  desk-first d e =
+      rw (giveDesk, giveOn, eq-eqb (at (d .notes) freeFirst) 0 e)
+      (ap (λ t. desk (clearPage n (d .heap) k) t)
+      (set-comm (counted (d .notes)) freeLast freeFirst (suc k) (suc k) (λ (w : freeLast ≡ freeFirst). omega arith)))
 
   pub desk-later : (d : Desk) (z : ℕ) → at (d .notes) freeFirst ≢ 0 → at (d .notes) freeLast ≡ suc z → z ≤ 65536
       → giveDesk n k d ≡ desk (set (clearPage n (d .heap) k) (z * 2 ^ n) (suc k)) (set (counted (d .notes)) freeLast (suc k))
   unfolding giveDesk giveOn pageStart
   desk-later d z ne e b =
-      let q : at (counted (d .notes)) freeLast ≡ suc z = getD-set-other (d .notes) given freeLast (low (at (d .notes) given + 1)) 0 (λ (w : freeLast ≡ given). omega arith) ∙ e in
-      let p : at (counted (d .notes)) freeLast - 1 ≡ z = omega arith in
+      let p : at (d .notes) freeLast - 1 ≡ z = omega arith in
       rw (giveDesk, giveOn, ne-eqb (at (d .notes) freeFirst) 0 ne, pageStart, p, le-leb z 65536 b)
 
 module _ (s : Store) (S : Sound s) (g : Ghost) (r : Run) (I : Inv s S g r) (d : Desk) (M : Matching s S g r d) where

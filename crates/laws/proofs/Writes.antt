@@ -2,12 +2,14 @@
 -- a part that was lent and given back is a run of stores. All by recursion on the words stored.
 use Prim.Native.Nat.{ℕ, zero, suc, _+_, _-_, _≤_, _<_}
 use mathlib.Core.Path.{_≡_, refl, sym, ap, _∙_}
-use mathlib.Core.List.{List, [], _∷_, _++_, append-nil, append-assoc}
+use mathlib.Core.List.{List, [], _∷_, _++_, append-nil}
 use native.Mathlib.Nat.{add-zero, zero-add}
 use native.Mathlib.Numerals.{add-one}
 use native.Mathlib.Omega.{arith}
 use lib.ListN.{length, take, drop, set, drop-of-length-le}
-use lib.Seq.{sets, sets-eq, drop-drop}
+use lib.Seq.{sets, sets-eq}
+use Rattle.laws.specs.Lists.{put}
+use Rattle.laws.proofs.Parts.{part-put}
 
 module _ {A : Type 0} where
   pub sets-append : (l : List A) (i : ℕ) (vs ws : List A) → sets l i (vs ++ ws) ≡ sets (sets l i vs) (i + length vs) ws
@@ -29,10 +31,7 @@ module _ {A : Type 0} where
       ∙ ap (λ r. vs ++ r) (drop-of-length-le l {i = length vs} (omega arith))
       ∙ append-nil vs
 
-  -- a part from a up to e, lent and given back as ys
-  pub part-sets : (l : List A) (a e : ℕ) (ys : List A) → a ≤ e → e ≤ length l → length ys ≡ e - a
-      → take a l ++ (ys ++ drop (e - a) (drop a l)) ≡ sets l a ys
-  part-sets l a e ys b c q =
-      ap (λ r. take a l ++ (ys ++ r)) (drop-drop (e - a) a l ∙ ap (λ k. drop (a + k) l) (sym q))
-      ∙ sym (append-assoc (take a l) ys (drop (a + length ys) l))
-      ∙ sym (sets-eq ys l a (omega arith))
+-- a part from a up to e, lent and given back as ys
+pub part-sets : (l : List ℕ) (a e : ℕ) (ys : List ℕ) → a ≤ e → e ≤ length l → length ys ≡ e - a → take a l ++ (ys ++ drop (e - a) (drop a l)) ≡ sets l a ys
+unfolding put
+part-sets l a e ys b c q = part-put l a e ys (omega arith) ∙ sym (sets-eq ys l a (omega arith))

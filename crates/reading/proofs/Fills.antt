@@ -6,14 +6,14 @@ use mathlib.Core.List.{List, [], _∷_, _++_}
 use native.Mathlib.Nat.{add-zero, zero-mul, add-mul, one-mul}
 use native.Mathlib.Numerals.{add-one}
 use native.Mathlib.Omega.{arith}
-use lib.ListN.{length, take, drop, getD, set, length-append, length-take, length-drop, drop-of-length-le, List·getD-eq-default}
+use lib.ListN.{length, take, drop, getD, set, length-append, length-drop, drop-of-length-le, List·getD-eq-default}
 use lib.Seq.{sets, length-sets, drop-cons, length-take-le}
 use Rattle.laws.specs.Lists.{at, padded}
 use Rattle.laws.proofs.Writes.{sets-append, sets-next, sets-whole, part-sets}
 use Rattle.laws.proofs.Padded.{length-padded, at-padded}
-use Rattle.rules.proofs.Limits.{page-size}
-use Rattle.reading.specs.Places.{numberAt, wordsAt, wordsOf, afterFrame, partAt, pagesAt}
-use Rattle.reading.proofs.Frames.{length-words-at}
+use Rattle.scanning.specs.Places.{numberAt, wordsAt, wordsOf, afterFrame}
+use Rattle.reading.specs.Parts.{partAt, pagesAt}
+use Rattle.scanning.proofs.Frames.{length-words-at}
 
 -- ---- a word by its number
 
@@ -50,9 +50,6 @@ pages-at-length zero P text i = sym (zero-mul P)
 pages-at-length (suc m) P text i =
     length-append (partAt P text i) (pagesAt m P text (afterFrame text i))
     ∙ (let a = length-padded P (wordsOf text i) in let b = pages-at-length m P text (afterFrame text i) in omega (arith, add-mul m 1 P, one-mul P, ap (λ k. k * P) (add-one m)))
-
-pub page-short : (n a p : ℕ) (l : List ℕ) → 4 ≤ n → n ≤ 8 → p ≡ 2 ^ n → length (take (a + p - a) l) ≤ 65536
-page-short n a p l b c e = let z = page-size n b c in simp length-take (omega arith)
 
 module _ (n k : ℕ) (heap text : List ℕ) (i m : ℕ) where
   module _ (a p j : ℕ) (ys : List ℕ) (qa : a ≡ k * 2 ^ n) (qp : p ≡ 2 ^ n) (b : k * 2 ^ n + 2 ^ n ≤ length heap)

@@ -18,8 +18,9 @@ use Rattle.rules.specs.Image.{headFits, layout, Frames, frames, malformed, with
 use Rattle.reading.specs.declared.Rest.{Rest}
 use Rattle.reading.specs.declared.Head.{Head}
 use Rattle.reading.specs.declared.Judged.{Judged}
-use Rattle.reading.specs.Places.{wordsAt, countAt, wordsOf, afterFrame, frameShape, frameFits, restOf, headList, headFrom, judgedAs}
-use Rattle.reading.proofs.Frames.{read-frame, length-words-at}
+use Rattle.scanning.specs.Places.{wordsAt, countAt, wordsOf, afterFrame, frameShape, frameFits}
+use Rattle.reading.specs.Parts.{restOf, headList, headFrom, judgedAs}
+use Rattle.scanning.proofs.Frames.{read-frame, length-words-at}
 
 -- ---- the limits as facts
 

@@ -1,5 +1,3 @@
-pub mod Digits
-pub mod Frames
 pub mod Lines
 pub mod Heads
 pub mod Fills

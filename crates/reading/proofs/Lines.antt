@@ -12,12 +12,13 @@ use lib.Seq.{drop-cons}
 use Rattle.laws.specs.Choice.{_⇒_∣_}
 use Rattle.laws.specs.Lists.{at, padded}
 use Rattle.rules.specs.Image.{partFits, Expected, expected, Frames, frames, malformed, withFrame, readFrame, readFrames, joined}
-use Rattle.reading.specs.declared.Cursor.{Cursor}
-use Rattle.reading.specs.declared.Step.{Step}
+use Rattle.scanning.specs.declared.Cursor.{Cursor}
+use Rattle.scanning.specs.declared.Step.{Step}
 use Rattle.reading.specs.declared.Rest.{Rest}
-use Rattle.reading.specs.Places.{countAt, wordsOf, afterFrame, frameFits, cursor, frameStep, framesAt, restOf, partAt, pagesAt}
-use Rattle.reading.proofs.Digits.{number-bound}
-use Rattle.reading.proofs.Frames.{read-frame}
+use Rattle.scanning.specs.Places.{countAt, wordsOf, afterFrame, frameFits, cursor, frameStep}
+use Rattle.reading.specs.Parts.{framesAt, restOf, partAt, pagesAt}
+use Rattle.scanning.proofs.Digits.{number-bound}
+use Rattle.scanning.proofs.Frames.{read-frame}
 
 pub count-small : (text : List ℕ) (i : ℕ) → countAt text i < 65536
 count-small text i = number-bound 4 0 text (i + 2) 65536 (omega arith)

@@ -24,8 +24,9 @@ use Rattle.rules.specs.Image.{headFits, partFits, Expected, expected, layout, F
 use Rattle.reading.specs.declared.Rest.{Rest}
 use Rattle.reading.specs.declared.Head.{Head}
 use Rattle.reading.specs.declared.Judged.{Judged}
-use Rattle.reading.specs.Places.{wordsAt, wordsOf, afterFrame, frameFits, framesAt, restOf, headList, headFrom, judgedAs, partAt, pagesAt, controlOf, lengthsFit}
-use Rattle.reading.proofs.Frames.{read-frame}
+use Rattle.scanning.specs.Places.{wordsAt, wordsOf, afterFrame, frameFits}
+use Rattle.reading.specs.Parts.{framesAt, restOf, headList, headFrom, judgedAs, partAt, pagesAt, controlOf, lengthsFit}
+use Rattle.scanning.proofs.Frames.{read-frame}
 use Rattle.reading.proofs.Lines.{rest-with}
 use Rattle.reading.proofs.Heads.{Headed, headed, head-fits, onRest, judged-stop, text-on, judged-on}
 use Rattle.reading.proofs.Fills.{pages-at-length}

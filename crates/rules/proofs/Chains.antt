@@ -9,14 +9,12 @@ use native.Mathlib.Numerals.{sub-one, add-one}
 use borrow.Author.Tests.{lt-ltb, le-ltb}
 use lib.Arith.{digits-div}
 use lib.Dec.{ltb}
-use lib.ListN.{length, take, drop, getD, length-take, length-drop}
+use lib.ListN.{length, take, drop, getD, length-drop}
 use lib.Seq.{slice, drop-drop, length-take-le, getD-take, getD-drop, ext-getD}
 use Rattle.laws.specs.Lists.{at, put}
 use Rattle.laws.proofs.Lists.{drop-take, apart, length-put, at-put-below, at-put-above}
 use Rattle.rules.specs.Memory.{pageWords, link, chain, chainEnd}
 use Rattle.rules.specs.Words.{vals, valsIn, pageVals}
-use Rattle.rules.specs.Refusals.{Paged}
-use Rattle.rules.proofs.Limits.{page-span}
 
 -- ---- pages as parts of the heap
 
@@ -31,17 +29,6 @@ length-page n h k inside = length-take-le (2 ^ n) (drop (k * 2 ^ n) h) (simp len
 pub at-page : (n : ℕ) (h : List ℕ) (k i : ℕ) → i < 2 ^ n → at (pageWords n h k) i ≡ at h (k * 2 ^ n + i)
 unfolding pageWords
 at-page n h k i b = getD-take (2 ^ n) (drop (k * 2 ^ n) h) i 0 b ∙ getD-drop (k * 2 ^ n) h i 0
-
--- a page as code lends it, from one page's address to the next one's
-pub page-slice : (n : ℕ) (h : List ℕ) (k from end : ℕ) → Paged n (length h) → k < length h / 2 ^ n → from ≡ k * 2 ^ n → end ≡ (k + 1) * 2 ^ n
-    → (take (end - from) (drop from h) ≡ pageWords n h k) × (length (take (end - from) (drop from h)) ≤ 256)
-unfolding pageWords
-page-slice n h k from end g b p q =
-    let s = page-span n (length h) k from end g b p q in
-    let s0 = s .0 in
-    let s2 = s .2 in
-    let w : end - from ≡ 2 ^ n = omega arith in
-    (rw (w, p), rw w (simp length-take (omega arith)))
 
 -- two heaps of one length that agree on page l have the same words there
 pub same-page : (n : ℕ) (g h : List ℕ) (l : ℕ) → l * 2 ^ n + 2 ^ n ≤ length g → length g ≡ length h

@@ -127,10 +127,3 @@ admits h t r k c l m =
       some-page = both-some (c .first) (c .count) fk;
       no-page = both-none (c .first) (c .count) fk;
     }
-
--- page k, from one page's address to the next one's
-pub page-span : (n h k from end : ℕ) → Paged n h → k < h / 2 ^ n → from ≡ k * 2 ^ n → end ≡ (k + 1) * 2 ^ n → (end ≡ from + 2 ^ n) × (end ≤ h) × (2 ^ n ≤ 256)
-page-span n h k from end g b p q =
-    let i : Inside (2 ^ n) (k * 2 ^ n) h = page-inside n h (2 ^ n) k refl g b in
-    let s : end ≡ from + 2 ^ n = q ∙ add-mul k 1 (2 ^ n) ∙ (let o = one-mul (2 ^ n) in omega arith) in
-    (s, (let e = i .ends in omega arith), i .high)

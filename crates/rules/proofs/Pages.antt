@@ -8,7 +8,7 @@ use native.Mathlib.Omega.{arith}
 use native.Mathlib.Numerals.{sub-one}
 use borrow.Author.Tests.{le-leb, lt-leb, eq-eqb, ne-eqb}
 use lib.Dec.{leb}
-use lib.ListN.{length, take, drop, replicate, set, length-drop, length-set, length-replicate}
+use lib.ListN.{length, length-take, take, drop, replicate, set, length-drop, length-set, length-replicate}
 use lib.Seq.{length-take-le, getD-set-same}
 use Rattle.laws.specs.Lists.{put}
 use Rattle.laws.proofs.Parts.{part-put}
@@ -18,6 +18,7 @@ use Rattle.rules.specs.declared.Valued.{Valued}
 use Rattle.rules.specs.Memory.{Store, control, pageLink, pageEnd, bodyAddress, pageWords, link, row, endOf, topOf, setEnd, setTop}
 use Rattle.rules.specs.Words.{addressPointer}
 use Rattle.rules.specs.Refusals.{outcome, refusedValue}
+use Rattle.rules.proofs.Limits.{page-size}
 use Rattle.rules.specs.Pages.{Run, begun, withFree, lastIf, linkFits, takePage, clearPage, join, room, store, place}
 use Rattle.rules.specs.Calls.{allocateOn, allocateIn}
 
@@ -27,6 +28,10 @@ unfolding pageWords
 page-handed n h k a p qa qp =
     let s : a + p - a ≡ 2 ^ n = omega arith in
     ap (λ m. take m (drop a h)) s ∙ ap (λ x. take (2 ^ n) (drop x h)) qa
+
+-- p words from a on are few
+pub page-short : (n a p : ℕ) (l : List ℕ) → 4 ≤ n → n ≤ 8 → p ≡ 2 ^ n → length (take (a + p - a) l) ≤ 256
+page-short n a p l b c e = let z = page-size n b c in simp length-take (omega arith)
 
 -- page k, of p words from a on, is lent, and its words are left as ys
 pub page-cleared : (n : ℕ) (h : List ℕ) (k a p : ℕ) (ys : List ℕ) → a ≡ k * 2 ^ n → p ≡ 2 ^ n → k * 2 ^ n + 2 ^ n ≤ length h

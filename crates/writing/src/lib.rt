@@ -1,9 +1,9 @@
 // The text of an image, written: digits, words, frames, and the frames of a store. Each part is told where it begins; its length is
 // counted beforehand by the functions at the end, so that nothing is written where the text does not fit.
-use rules::Address;
+use pages::page_count;
+use pages::page_words;
 use rules::Control;
 use rules::Page;
-use rules::address_page;
 use rules::page_address;
 ghost use mathlib.Core.Path.{_≡_};
 ghost use Prim.Native.Nat.{_+_, _-_, _*_, _/_, _^_, _≤_, _<_};
@@ -98,9 +98,10 @@ fn page_part<'a>(heap: &'a [u32], n: u32, k: Page) -> &'a [u32]
     requires { ⌜ Paged n (length (now heap)) × (k .0 < length (now heap) / 2 ^ n) ⌝ }
     ensures { λ r. ⌜ (now r ≡ pageWords n (now (heap .entry)) (k .0)) × (length (now r) ≤ 256) ⌝ }
 {
-    let from = page_address(k, n).0;
-    let end = page_address(Page(k.0 + 1), n).0;
-    &heap[from..end]
+    let start = page_address(k, n);
+    let a = start.0;
+    let e = a + page_words(n);
+    &heap[a..e]
 }
 
 // The frames of all pages.
@@ -142,7 +143,7 @@ pub fn write_text(
         ⌝ }
 {
     let n = c.n;
-    let pages = address_page(Address(heap.len()), n).0;
+    let pages = page_count(heap.len(), n);
     let head = [
         n,
         pages as u32,
@@ -194,7 +195,7 @@ pub fn text_length(heap: &[u32], table: &[u32], roots: &[u32], consts: &[u32], c
         ⌝ }
 {
     let n = c.n;
-    let pages = address_page(Address(heap.len()), n).0;
+    let pages = page_count(heap.len(), n);
     let rows = 4 * c.regions as usize;
     71
         + part_length(&table[0..rows])

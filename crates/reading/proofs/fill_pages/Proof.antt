@@ -4,11 +4,12 @@ use mathlib.Core.Path.{_≡_, refl, sym, ap, _∙_}
 use native.Mathlib.Omega.{arith}
 use lib.ListN.{length, drop, length-set}
 use lib.Seq.{sets}
-use native.Mathlib.Nat.{zero-mul}
+use native.Mathlib.Nat.{zero-mul, le-trans}
 use Rattle.laws.proofs.Writes.{sets-whole}
+use Rattle.rules.proofs.Pages.{page-short}
 use Rattle.rules.proofs.Limits.{page-inside, page-number, whole-pages}
-use Rattle.reading.specs.Places.{pagesAt}
-use Rattle.reading.proofs.Fills.{page-short, page-filled-length, pages-fill-turn, pages-fill-end, pages-at-length}
+use Rattle.reading.specs.Parts.{pagesAt}
+use Rattle.reading.proofs.Fills.{page-filled-length, pages-fill-turn, pages-fill-end, pages-at-length}
 use Rattle.reading.proofs.fill_pages.Statement.{statement}
 use Rattle.reading.proofs.fill_pages.Tie as tie
 
@@ -43,7 +44,7 @@ part-fill-part-end : tie.Need-part-fill-part-end Inv-loop μ-loop
 part-fill-part-end c = omega (arith, page-inside (c .before .before .before .before .before .before .args .n) (length (c .before .before .before .before .before .before .args .heap .now)) (2 ^ c .before .before .before .before .before .before .args .n) (c .before .before .loop .k) refl (c .before .before .before .before .before .before .pre .1) (omega arith))
 
 fill-part-requires : tie.Need-fill-part-requires Inv-loop μ-loop
-fill-part-requires c κs = (omega (arith, page-number (c .before .before .before .before .before .before .before .args .n) (length (c .before .before .before .before .before .before .before .args .heap .now)) (c .before .before .before .loop .k) (c .before .before .before .before .before .before .before .pre .1) (omega arith)), page-short _ _ _ _ (c .before .before .before .before .before .before .before .pre .1 .low) (c .before .before .before .before .before .before .before .pre .1 .high) (c .before .before .before .before .page-words .ensures))
+fill-part-requires c κs = (omega (arith, page-number (c .before .before .before .before .before .before .before .args .n) (length (c .before .before .before .before .before .before .before .args .heap .now)) (c .before .before .before .loop .k) (c .before .before .before .before .before .before .before .pre .1) (omega arith)), le-trans (page-short _ _ _ _ (c .before .before .before .before .before .before .before .pre .1 .low) (c .before .before .before .before .before .before .before .pre .1 .high) (c .before .before .before .before .page-words .ensures)) (omega arith))
 
 add-k : tie.Need-add-k Inv-loop μ-loop
 add-k c = omega (arith, page-number (c .before .before .before .before .before .before .before .before .before .before .args .n) (length (c .before .before .before .before .before .before .before .before .before .before .args .heap .now)) (c .before .before .before .before .before .before .loop .k) (c .before .before .before .before .before .before .before .before .before .before .pre .1) (omega arith))

@@ -5,7 +5,7 @@ use native.Mathlib.Omega.{arith}
 use lib.ListN.{length, drop, length-set}
 use lib.Seq.{sets}
 use Rattle.laws.specs.Lists.{at, padded}
-use Rattle.reading.specs.Places.{wordsAt}
+use Rattle.scanning.specs.Places.{wordsAt}
 use Rattle.reading.proofs.Fills.{part-turn, part-end}
 use Rattle.reading.proofs.fill_part.Statement.{statement}
 use Rattle.reading.proofs.fill_part.Tie as tie

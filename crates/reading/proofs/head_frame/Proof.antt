@@ -3,7 +3,8 @@ use borrow.Author.Needs.{needs}
 use mathlib.Core.Path.{_≡_, sym, ap, _∙_}
 use borrow.Author.Tests.{lt-leb, le-leb, eq-eqb, ne-eqb, not-true, not-false}
 use Rattle.rules.specs.Image.{headFits}
-use Rattle.reading.specs.Places.{frameFits, headList}
+use Rattle.scanning.specs.Places.{frameFits}
+use Rattle.reading.specs.Parts.{headList}
 use Rattle.reading.proofs.Heads.{head-other, head-eight}
 use Rattle.reading.proofs.head_frame.Statement.{statement}
 use Rattle.reading.proofs.head_frame.Tie as tie

@@ -5,7 +5,7 @@ use mathlib.Core.Path.{_≡_, refl, sym, ap, _∙_}
 use native.Mathlib.Omega.{arith}
 use lib.ListN.{length, drop, replicate}
 use Rattle.rules.specs.Image.{expected, readFrames}
-use Rattle.reading.specs.Places.{restOf}
+use Rattle.reading.specs.Parts.{restOf}
 use Rattle.reading.proofs.Lines.{step-far, page-next, page-stop, pages-more, pages-over}
 use Rattle.reading.proofs.judge_pages.Statement.{statement}
 use Rattle.reading.proofs.judge_pages.Tie as tie

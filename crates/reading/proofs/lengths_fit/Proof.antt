@@ -2,7 +2,7 @@
 use borrow.Author.Needs.{needs}
 use mathlib.Core.Path.{_≡_, sym, _∙_}
 use Rattle.laws.proofs.Tests.{tests}
-use Rattle.reading.specs.Places.{lengthsFit}
+use Rattle.reading.specs.Parts.{lengthsFit}
 use Rattle.reading.proofs.lengths_fit.Statement.{statement}
 use Rattle.reading.proofs.lengths_fit.Tie as tie
 

@@ -11,8 +11,8 @@ use Rattle.rules.proofs.Frames.{image-length}
 use Rattle.writing.proofs.text_length.Statement.{statement}
 use Rattle.writing.proofs.text_length.Tie as tie
 
-address-page-requires : tie.Need-address-page-requires
-address-page-requires c κs = search needs
+page-count-requires : tie.Need-page-count-requires
+page-count-requires c κs = search needs
 
 cast-rows : tie.Need-cast-rows
 cast-rows c = search needs
@@ -33,34 +33,34 @@ part-length-requires : tie.Need-part-length-requires
 part-length-requires c κs = search needs
 
 add-result : tie.Need-add-result
-add-result c = omega arith
+add-result c = search needs
 
 part-length-requires-2 : tie.Need-part-length-requires-2
 part-length-requires-2 c κs = search needs
 
 add-result-2 : tie.Need-add-result-2
-add-result-2 c = omega arith
+add-result-2 c = search needs
 
 part-length-requires-3 : tie.Need-part-length-requires-3
 part-length-requires-3 c κs = search needs
 
 add-result-3 : tie.Need-add-result-3
-add-result-3 c = omega arith
+add-result-3 c = search needs
 
 pages-length-requires : tie.Need-pages-length-requires
 pages-length-requires c κs = search needs
 
 add-result-4 : tie.Need-add-result-4
-add-result-4 c = omega (arith, div-le-self (length (c .before .before .before .before .before .before .before .before .before .before .before .args .heap .now)) (2 ^ c .before .before .before .before .before .before .before .before .before .before .before .args .c .n))
+add-result-4 c = let a = c .before .before .before .before .before .before .before .before .before .before .before .args in omega (arith, div-le-self (length (a .heap .now)) (2 ^ a .c .n))
 
 returns : tie.Need-returns
-returns c = let w = image-length (lent (c .before .before .before .before .before .before .before .before .before .before .before .args .heap .now) (c .before .before .before .before .before .before .before .before .before .before .before .args .table .now) (c .before .before .before .before .before .before .before .before .before .before .before .args .roots .now) (c .before .before .before .before .before .before .before .before .before .before .before .args .consts .now) (c .before .before .before .before .before .before .before .before .before .before .before .args .c)) in let q = ap (λ k. length (trim (take k (c .before .before .before .before .before .before .before .before .before .before .before .args .table .now)))) (sub-zero (4 * c .before .before .before .before .before .before .before .before .before .before .before .args .c .regions)) in let d = div-le-self (length (c .before .before .before .before .before .before .before .before .before .before .before .args .heap .now)) (2 ^ c .before .before .before .before .before .before .before .before .before .before .before .args .c .n) in let e = ap (λ k. length (pageFrames (c .before .before .before .before .before .before .before .before .before .before .before .args .c .n) (c .before .before .before .before .before .before .before .before .before .before .before .args .heap .now) k 0)) (c .before .before .before .before .before .before .address-page .ensures) in (omega arith, omega arith)
+returns c = let a = c .before .before .before .before .before .before .before .before .before .before .before .args in let w = image-length (lent (a .heap .now) (a .table .now) (a .roots .now) (a .consts .now) (a .c)) in let q = ap (λ k. length (trim (take k (a .table .now)))) (sub-zero (4 * a .c .regions)) in let d = div-le-self (length (a .heap .now)) (2 ^ a .c .n) in let e = ap (λ k. length (pageFrames (a .c .n) (a .heap .now) k 0)) (c .before .before .before .before .before .before .page-count .ensures) in (omega arith, omega arith)
 
 pub text-length-spec : {M : Type 1} → statement M
 text-length-spec =
     tie.close
     (tie.spec
-    address-page-requires
+    page-count-requires
     cast-rows
     mul-rows
     sub-part-length

@@ -1,4 +1,4 @@
--- `reading::all_digits` meets its contract: a turn passes one digit, and the digits that are left decide as the whole does.
+-- `scanning::all_digits` meets its contract: a turn passes one digit, and the digits that are left decide as the whole does.
 use borrow.Author.Needs.{needs}
 use Prim.Native.Nat.{_+_, _≤_}
 use mathlib.Core.Path.{_≡_, refl, sym, ap, _∙_}
@@ -6,9 +6,9 @@ use mathlib.Core.Bool.{_&&_}
 use native.Mathlib.Omega.{arith}
 use borrow.Author.Tests.{not-true, not-false}
 use Rattle.laws.proofs.Tests.{from-go, from-stop, from-next, from-end}
-use Rattle.reading.specs.Places.{allDigits, isDigit}
-use Rattle.reading.proofs.all_digits.Statement.{statement}
-use Rattle.reading.proofs.all_digits.Tie as tie
+use Rattle.scanning.specs.Places.{allDigits, isDigit}
+use Rattle.scanning.proofs.all_digits.Statement.{statement}
+use Rattle.scanning.proofs.all_digits.Tie as tie
 
 abbrev Inv-loop : tie.InvT-loop
 Inv-loop text from m i₀ left₀ i left = (allDigits left text i ≡ allDigits m text from) × (i + left ≡ from + m)

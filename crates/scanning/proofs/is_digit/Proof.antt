@@ -1,10 +1,10 @@
--- `reading::is_digit` meets its contract: the tests part the bytes into the ranges of the definition.
+-- `scanning::is_digit` meets its contract: the tests part the bytes into the ranges of the definition.
 use borrow.Author.Needs.{needs}
 use mathlib.Core.Path.{_≡_, sym}
 use native.Mathlib.Omega.{arith}
-use Rattle.reading.proofs.Digits.{below-digits, a-digit, between-digits, no-digit, has-value, last-digits}
-use Rattle.reading.proofs.is_digit.Statement.{statement}
-use Rattle.reading.proofs.is_digit.Tie as tie
+use Rattle.scanning.proofs.Digits.{below-digits, a-digit, between-digits, no-digit, has-value, last-digits}
+use Rattle.scanning.proofs.is_digit.Statement.{statement}
+use Rattle.scanning.proofs.is_digit.Tie as tie
 
 returns : tie.Need-returns
 returns c = sym (no-digit _ (below-digits _ (c .if1 .taken)) .0)

@@ -1,10 +1,10 @@
--- `reading::frame_shape` meets its contract: the tests are the definition's, in its order.
+-- `scanning::frame_shape` meets its contract: the tests are the definition's, in its order.
 use borrow.Author.Needs.{needs}
 use mathlib.Core.Path.{_≡_, sym, _∙_}
 use borrow.Author.Tests.{eq-eqb, ne-eqb, not-true, not-false}
-use Rattle.reading.specs.Places.{frameShape}
-use Rattle.reading.proofs.frame_shape.Statement.{statement}
-use Rattle.reading.proofs.frame_shape.Tie as tie
+use Rattle.scanning.specs.Places.{frameShape}
+use Rattle.scanning.proofs.frame_shape.Statement.{statement}
+use Rattle.scanning.proofs.frame_shape.Tie as tie
 
 all-digits-requires : tie.Need-all-digits-requires
 all-digits-requires c κs = search needs

@@ -1,10 +1,10 @@
--- `reading::part_frame` meets its contract: shape and words are tested as the definition tests them.
+-- `scanning::part_frame` meets its contract: shape and words are tested as the definition tests them.
 use borrow.Author.Needs.{needs}
 use mathlib.Core.Path.{_≡_, sym, ap, _∙_}
 use borrow.Author.Tests.{not-true, not-false}
-use Rattle.reading.specs.Places.{frameStep, frameFits}
-use Rattle.reading.proofs.part_frame.Statement.{statement}
-use Rattle.reading.proofs.part_frame.Tie as tie
+use Rattle.scanning.specs.Places.{frameStep, frameFits}
+use Rattle.scanning.proofs.part_frame.Statement.{statement}
+use Rattle.scanning.proofs.part_frame.Tie as tie
 
 frame-shape-requires : tie.Need-frame-shape-requires
 frame-shape-requires c κs = search needs

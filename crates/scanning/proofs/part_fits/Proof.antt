@@ -1,11 +1,11 @@
--- `reading::part_fits` meets its contract: the last word decides, where there is one.
+-- `scanning::part_fits` meets its contract: the last word decides, where there is one.
 use borrow.Author.Needs.{needs}
 use mathlib.Core.Path.{_≡_, sym, ap, _∙_}
 use mathlib.Core.Bool.{not}
 use lib.Dec.{eqb}
-use Rattle.reading.proofs.Frames.{fits-long, fits-none, fits-last}
-use Rattle.reading.proofs.part_fits.Statement.{statement}
-use Rattle.reading.proofs.part_fits.Tie as tie
+use Rattle.scanning.proofs.Frames.{fits-long, fits-none, fits-last}
+use Rattle.scanning.proofs.part_fits.Statement.{statement}
+use Rattle.scanning.proofs.part_fits.Tie as tie
 
 returns : tie.Need-returns
 returns c = sym (fits-long _ _ _ _ (c .if1 .taken))

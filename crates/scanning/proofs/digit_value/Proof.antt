@@ -1,10 +1,10 @@
--- `reading::digit_value` meets its contract: the tests part the bytes into the ranges of the definition.
+-- `scanning::digit_value` meets its contract: the tests part the bytes into the ranges of the definition.
 use borrow.Author.Needs.{needs}
 use mathlib.Core.Path.{_≡_, sym}
 use native.Mathlib.Omega.{arith}
-use Rattle.reading.proofs.Digits.{below-digits, a-digit, between-digits, a-letter, above-digits, no-digit, has-value}
-use Rattle.reading.proofs.digit_value.Statement.{statement}
-use Rattle.reading.proofs.digit_value.Tie as tie
+use Rattle.scanning.proofs.Digits.{below-digits, a-digit, between-digits, a-letter, above-digits, no-digit, has-value}
+use Rattle.scanning.proofs.digit_value.Statement.{statement}
+use Rattle.scanning.proofs.digit_value.Tie as tie
 
 returns : tie.Need-returns
 returns c = (sym (no-digit _ (below-digits _ (c .if1 .taken)) .1), omega arith)

@@ -1,13 +1,13 @@
--- `reading::number` meets its contract: a turn takes one digit more, and each leaves room for those to come.
+-- `scanning::number` meets its contract: a turn takes one digit more, and each leaves room for those to come.
 use borrow.Author.Needs.{needs}
 use Prim.Native.Nat.{_+_, _*_, _^_, _≤_}
 use mathlib.Core.Path.{_≡_, refl, sym, ap, _∙_}
 use native.Mathlib.Nat.{pow-le-pow-right, one-mul}
 use native.Mathlib.Omega.{arith}
-use Rattle.reading.specs.Places.{numberAt, digitValue}
-use Rattle.reading.proofs.Digits.{number-turn, number-end, number-room, number-whole}
-use Rattle.reading.proofs.number.Statement.{statement}
-use Rattle.reading.proofs.number.Tie as tie
+use Rattle.scanning.specs.Places.{numberAt, digitValue}
+use Rattle.scanning.proofs.Digits.{number-turn, number-end, number-room, number-whole}
+use Rattle.scanning.proofs.number.Statement.{statement}
+use Rattle.scanning.proofs.number.Tie as tie
 
 abbrev Inv-loop : tie.InvT-loop
 Inv-loop text from m i₀ left₀ v₀ i left v = (numberAt left v text i ≡ numberAt m 0 text from) × (i + left ≡ from + m) × ((v + 1) * 16 ^ left ≤ 16 ^ m)

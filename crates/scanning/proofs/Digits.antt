@@ -14,7 +14,7 @@ use lib.Dec.{ltb}
 use Rattle.laws.specs.Choice.{_⇒_∣_}
 use Rattle.laws.specs.Lists.{at}
 use Rattle.rules.specs.Image.{valueOf}
-use Rattle.reading.specs.Places.{isDigit, digitValue, numberAt}
+use Rattle.scanning.specs.Places.{isDigit, digitValue, numberAt}
 
 -- ---- a byte
 

@@ -17,8 +17,8 @@ use Rattle.laws.specs.Choice.{_⇒_∣_}
 use Rattle.laws.specs.Lists.{at, allFrom}
 use Rattle.laws.proofs.Tests.{from-add, from-end}
 use Rattle.rules.specs.Image.{valueOf, digits, words, endFrame, readWords, readFrame, trimmed, partFits}
-use Rattle.reading.specs.Places.{isDigit, digitValue, allDigits, numberAt, wordsAt, countAt, wordsOf, afterFrame, frameShape, frameFits}
-use Rattle.reading.proofs.Digits.{below-digits, no-digit, has-value}
+use Rattle.scanning.specs.Places.{isDigit, digitValue, allDigits, numberAt, wordsAt, countAt, wordsOf, afterFrame, frameShape, frameFits}
+use Rattle.scanning.proofs.Digits.{below-digits, no-digit, has-value}
 
 -- ---- digits
 

@@ -1,9 +1,9 @@
--- `reading::byte_at` meets its contract: a place outside reads 0.
+-- `scanning::byte_at` meets its contract: a place outside reads 0.
 use borrow.Author.Needs.{needs}
 use mathlib.Core.Path.{_≡_, sym}
 use lib.ListN.{List·getD-eq-default}
-use Rattle.reading.proofs.byte_at.Statement.{statement}
-use Rattle.reading.proofs.byte_at.Tie as tie
+use Rattle.scanning.proofs.byte_at.Statement.{statement}
+use Rattle.scanning.proofs.byte_at.Tie as tie
 
 returns : tie.Need-returns
 returns c = sym (List·getD-eq-default (c .before .args .text .now) 0 (c .if1 .taken))
