@@ -18,7 +18,7 @@ sub-before : tie.Need-sub-before
 sub-before c = omega (arith, c .before .before .before .before .before .before .pre .4, c .before .before .end-of .ensures .0, c .before .page-words .ensures)
 
 page-link-requires : tie.Need-page-link-requires
-page-link-requires c κs = page-number _ _ _ (c .before .before .before .before .before .before .pre .0) (c .before .before .before .before .before .before .pre .1) .0
+page-link-requires c κs = let b = page-number _ _ _ (c .before .before .before .before .before .before .pre .0) (c .before .before .before .before .before .before .pre .1) in omega (arith, b .0)
 
 mul-heap : tie.Need-mul-heap
 mul-heap c = let s = page-size _ (c .before .before .before .before .before .before .before .pre .0 .low) (c .before .before .before .before .before .before .before .pre .0 .high) in omega (arith, c .before .before .before .before .before .before .before .pre .5, c .before .before .before .end-of .ensures .0, c .before .before .page-words .ensures)

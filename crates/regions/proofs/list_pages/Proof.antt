@@ -39,7 +39,7 @@ next : (c : tie.In-loop Inv-loop μ-loop) → c .before .loop .k + 1 < length (c
 next c = omega (arith, c .before .loop .inv .0 .counted)
 
 page-link-requires : tie.Need-page-link-requires Inv-loop μ-loop
-page-link-requires c κs = page-number _ _ _ (c .before .before .before .before .before .pre .0) (next (c .before)) .0
+page-link-requires c κs = let b = page-number _ _ _ (c .before .before .before .before .before .pre .0) (next (c .before)) in omega (arith, b .0)
 
 mul-heap : tie.Need-mul-heap Inv-loop μ-loop
 mul-heap c = let i = page-inside _ _ _ _ refl (c .before .before .before .before .before .before .pre .0) (here (c .before .before)) in omega (arith, c .before .page-address .ensures)
