@@ -26,7 +26,7 @@ use Rattle.rules.specs.Collection.{collect}
 use Rattle.facts.proofs.Sound.{Passes}
 use Rattle.facts.proofs.Passing.{audit-yes, meaning}
 use Rattle.facts.proofs.Observing.{used-is}
-use Rattle.working.specs.Unbounded.{wanted}
+use Rattle.rules.specs.Wanted.{wanted}
 use Rattle.working.proofs.Refused.{refused-wants}
 use Rattle.promises.proofs.NumbersBack.{number-back, word-back}
 

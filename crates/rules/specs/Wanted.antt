@@ -103,11 +103,3 @@ takenBy s r = (s .ctl .count - r .count) + (pageCount (s .ctl .n) (r .heap) - pa
 -- "the pages that the working wants"
 unfoldable pub wanted : Store → ℕ
 wanted s = takenBy s (unbounded s)
-
--- ---- the pages of a collection that is done, and leaves s′
-
--- what its working wanted are the pages that the regions then have; the free list has lost them, and got those that the regions had
-pub record Pages (s s′ : Store) : Type 0 where
-  pub taken : wanted s ≡ length (fromSpace s′)
-  pub enough : wanted s ≤ s .ctl .count
-  pub left : s′ .ctl .count + wanted s ≡ s .ctl .count + length (fromSpace s)
