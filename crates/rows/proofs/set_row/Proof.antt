@@ -1,9 +1,9 @@
--- `regions::set_row` meets its contract: the row lies inside the table, and its four words are written in order.
+-- `rows::set_row` meets its contract: the row lies inside the table, and its four words are written in order.
 use borrow.Author.Needs.{needs}
 use native.Mathlib.Omega.{arith}
 use lib.ListN.{length-set}
-use Rattle.regions.proofs.set_row.Statement.{statement}
-use Rattle.regions.proofs.set_row.Tie as tie
+use Rattle.rows.proofs.set_row.Statement.{statement}
+use Rattle.rows.proofs.set_row.Tie as tie
 
 mul-row : tie.Need-mul-row
 mul-row c = search needs
