@@ -269,7 +269,7 @@ fn put_value(
     if !link_fits(heap, k, c.n, c.count) {
         return Valued::Refused(Refusal::Broken(0), c);
     }
-    let taken = take_page(heap, k, j, c);
+    let rest = take_page(heap, k, j, c);
     join_page(heap, table, j, k, c.n);
     let body = body_address(k, c.n);
     store_value(heap, table, j, body, header, words);
@@ -278,9 +278,9 @@ fn put_value(
         Control {
             n: c.n,
             regions: c.regions,
-            first: taken.first,
-            last: taken.last,
-            count: taken.count,
+            first: rest.first,
+            last: rest.last,
+            count: rest.count,
         },
     )
 }
