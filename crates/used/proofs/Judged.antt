@@ -1,5 +1,5 @@
--- What the audit's answer says of any call that asks it: a refusal is the call's, and after a yes the call is what follows the audit. It is
--- true since `audited` makes the audit's own tests in the same order.
+-- What the audit's answer says of any call that asks it: a refusal is the call's, and after a yes the call goes on with all that the tests
+-- say. It is true since `audited` makes the audit's own tests in the same order.
 use Prim.Native.Nat.{ℕ, zero, suc}
 use mathlib.Core.Path.{_≡_, refl}
 use mathlib.Core.Bool.{Bool, true, false, not}
@@ -38,15 +38,11 @@ pub judged-refuse : {O : Type 0} (refuse : Refusal → O) (rest : O) (s : Store)
 unfolding audit
 judged-refuse refuse rest s {why} {c} e = refused-by refuse rest (s .ctl) (not (withinLimits s)) (not (commonTest s)) (brokenRule s) why c e
 
--- the audit says yes
+-- after a yes the call goes on, past each test that the audit made
 module _ (s : Store) {c : Control} (e : Plain.Done c ≡ audit s) where
-  yes-by : (not (withinLimits s) ≡ false) × (not (commonTest s) ≡ false) × (brokenRule s ≡ 0)
+  pub judged-yes : (not (withinLimits s) ≡ false) × (not (commonTest s) ≡ false) × (brokenRule s ≡ 0)
   unfolding audit
-  yes-by = done-by (s .ctl) (not (withinLimits s)) (not (commonTest s)) (brokenRule s) c e
-
-  -- the call goes on
-  pub judged-go : {O : Type 0} (refuse : Refusal → O) (rest : O) → audited refuse s rest ≡ rest
-  judged-go refuse rest = let y = yes-by in rw (y .0, y .1, y .2)
+  judged-yes = done-by (s .ctl) (not (withinLimits s)) (not (commonTest s)) (brokenRule s) c e
 
   pub judged-admits : Admitted (length (s .heap)) (length (s .table)) (length (s .roots)) (length (s .consts)) (s .ctl)
-  judged-admits = let y = yes-by in admits _ _ _ _ (s .ctl) (not-false _ (y .0)) (not-false _ (y .1))
+  judged-admits = let y = judged-yes in admits _ _ _ _ (s .ctl) (not-false _ (y .0)) (not-false _ (y .1))

@@ -1,12 +1,12 @@
 -- The turn laws of used words: at each value and at each page, what was counted and what is left to count is the whole.
 use Prim.Native.Nat.{ℕ, _+_, _-_, _*_, _/_, _^_, _≤_, _<_}
-use mathlib.Core.Path.{_≡_, refl, sym, ap, _∙_}
+use mathlib.Core.Path.{_≡_, ap, _∙_}
 use mathlib.Core.Bool.{true, false}
 use mathlib.Core.List.{List, []}
 use native.Mathlib.Omega.{arith}
 use lib.ListN.{length, getD}
 use Rattle.rules.specs.Memory.{chain}
-use Rattle.rules.specs.Words.{fits, valsIn, pageVals, usedOf}
+use Rattle.rules.specs.Words.{fits, valsIn, usedOf}
 use Rattle.rules.specs.Audit.{usedOn}
 use Rattle.rules.proofs.Stepping.{vals-none, vals-stop}
 use Rattle.rules.proofs.Chains.{page-vals}

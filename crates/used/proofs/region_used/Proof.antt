@@ -1,7 +1,7 @@
 -- `used::region_used` meets its contract. The invariant: the words counted and those of the pages that are left are the region's, and at most 256
 -- were counted for each page passed, so that a sum never wraps. The measure is the pages that may still be passed.
-use mathlib.Core.Path.{_≡_, refl, sym, _∙_}
-use Prim.Native.Nat.{_+_, _-_, _*_, _/_, _^_, _<_, _≤_}
+use mathlib.Core.Path.{_≡_, refl, _∙_}
+use Prim.Native.Nat.{_+_, _*_, _^_, _≤_}
 use native.Mathlib.Nat.{zero-add}
 use native.Mathlib.Omega.{arith}
 use lib.ListN.{length}

@@ -1,6 +1,6 @@
 -- `used::values_used` meets its contract. The invariant: the words counted and those of the values from the present address on are the whole,
 -- and the words counted are those passed. The measure is what is left up to the end.
-use mathlib.Core.Path.{_≡_, refl, sym, _∙_}
+use mathlib.Core.Path.{_≡_, sym, _∙_}
 use Prim.Native.Nat.{_+_, _-_, _/_, _≤_}
 use native.Mathlib.Omega.{arith}
 use borrow.Author.Needs.{needs}
