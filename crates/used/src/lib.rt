@@ -23,7 +23,7 @@ ghost use Rattle.rules.specs.Refusals.{Paged};
 ghost use Rattle.rules.specs.Words.{valsIn, usedOf};
 
 // The words that the values take that stand back to back from one address up to another.
-pub fn values_used(words: &[u32], start: Address, end: Address) -> usize
+fn values_used(words: &[u32], start: Address, end: Address) -> usize
     requires { ⌜ (start .0 ≤ end .0) × (end .0 ≤ length (now words)) × (length (now words) ≤ 65536) ⌝ }
     ensures { λ r. ⌜ (r ≡ usedOf (valsIn (now (words .entry)) (start .0) (end .0))) × (start .0 + r ≤ end .0) ⌝ }
 {
@@ -43,7 +43,7 @@ pub fn values_used(words: &[u32], start: Address, end: Address) -> usize
 }
 
 // The used words of region j: each page of its chain, and no more pages than there are, so that a ring would end too.
-pub fn region_used(heap: &[u32], table: &[u32], n: u32, j: Region) -> u32
+fn region_used(heap: &[u32], table: &[u32], n: u32, j: Region) -> u32
     requires { ⌜ (Paged n (length (now heap))) × (length (now table) ≡ 256) × (j .0 < 64) ⌝ }
     ensures { λ r. ⌜ r ≡ usedBy n (now (heap .entry)) (now (table .entry)) (j .0) ⌝ }
 {
