@@ -52,6 +52,10 @@ unfolding audit
 judged-passes s c e =
     audit-yes s .0 (sym e ∙ ap Plain.Done (done-alike (s .ctl) (not (withinLimits s)) (not (commonTest s)) (brokenRule s) c e))
 
+pub pop-broken : (s : Store) (why : Refusal) (c : Control) → Plain.Refused why c ≡ audit s → refused s why ≡ pop s
+unfolding pop
+pop-broken s why c e = judged-broken s (refused s) _ why c e
+
 module _ (s : Store) (p : Passes s) where
   pub passed : {O : Type 0} (refuse : Refusal → O) (rest : O) → audited refuse s rest ≡ rest
   passed refuse rest = rw (p .limits, p .common, p .unbroken)
@@ -73,16 +77,17 @@ module _ (s : Store) (p : Passes s) where
   unfolding pop
   pop-none z = sym (passed (refused s) _ ∙ rw (eq-eqb _ _ z))
 
-  module _ (some : s .ctl .regions ≡ 0 → ⊥) (j : ℕ) (top : j ≡ s .ctl .regions - 1) where
-    pub pop-held : letGo (s .ctl .n) (s .heap) (s .table) (s .roots) j ≡ false → refused s Refusal.Held ≡ pop s
+  module _ (some : s .ctl .regions ≡ 0 → ⊥) (j : ℕ) (top : j ≡ s .ctl .regions - 1)
+      (free : Bool) (told : free ≡ letGo (s .ctl .n) (s .heap) (s .table) (s .roots) j) where
+    pub pop-held : not free ≡ true → refused s Refusal.Held ≡ pop s
     unfolding pop popTop
-    pop-held f = sym (passed (refused s) _ ∙ rw (ne-eqb _ _ some, ← top, f))
+    pop-held f = sym (passed (refused s) _ ∙ rw (ne-eqb _ _ some, ← top, ← told, f))
 
     -- the heap and the record are left as h and c, and the table as t
-    pub pop-done : (l : ℕ) (h t : List ℕ) (c : Control) → letGo (s .ctl .n) (s .heap) (s .table) (s .roots) j ≡ true → l ≡ firstLink (s .ctl .n) (s .table) j
+    pub pop-done : (l : ℕ) (h t : List ℕ) (c : Control) → not free ≡ false → l ≡ firstLink (s .ctl .n) (s .table) j
         → Left (giveChain (s .ctl .n) (pageCount (s .ctl .n) (s .heap)) l) (s .heap) (s .ctl) h c → t ≡ setRow (s .table) j 0 0 0 0
         → outcome (Plain.Done (control (s .ctl .n) (s .ctl .regions - 1) (c .first) (c .last) (c .count))) h t (s .roots) (s .consts) ≡ pop s
     unfolding pop popTop popOn
     pop-done l h t c f e g q =
         let w = g .run (s .table) ∙ ap (λ x. giveChain (s .ctl .n) (pageCount (s .ctl .n) (s .heap)) x (begun s)) e ∙ region-given s (meaning s .0 p) j (omega arith) in
-        sym (passed (refused s) _ ∙ rw (ne-eqb _ _ some, ← top, f, ← w, q))
+        sym (passed (refused s) _ ∙ rw (ne-eqb _ _ some, ← top, ← told, f, ← w, q))

@@ -1,100 +1,77 @@
+-- `release::pop` meets its contract: where the audit refuses, so does the pop; where it passes, the heap is sound, so its top region is there
+-- to be tested and given back.
+use mathlib.Core.Path.{refl, sym, _∙_}
+use native.Mathlib.Omega.{arith}
+use Rattle.release.proofs.Judged.{judged-broken, judged-passes, passed-admitted, passed-free, pop-broken, pop-none, pop-held, pop-done}
 use borrow.Author.Needs.{needs}
 use Rattle.release.proofs.pop.Statement.{statement}
 use Rattle.release.proofs.pop.Tie as tie
-use Rattle.release.proofs.pop.Reads as reads
-use Rattle.release.proofs.pop.Lts as lts
-use Rattle.audit.proofs.audit.Reads as audit-reads
-use Rattle.fields.proofs.let_go.Reads as let-go-reads
-use Rattle.regions.proofs.set_row.Reads as set-row-reads
-use Rattle.release.proofs.give_chain.Reads as give-chain-reads
-use Rattle.rows.proofs.first_link.Reads as first-link-reads
 
--- src/lib.rt:86:9
 audit-requires : tie.Need-audit-requires
 audit-requires c κs = search needs
 
--- src/lib.rt:87:27
 enum-known-judged : tie.Need-enum-known-judged
 enum-known-judged c = search needs
 
--- src/lib.rt:88:9
 same-length : tie.Need-same-length
 same-length c = search needs
 
--- src/lib.rt:88:9
 same-length-2 : tie.Need-same-length-2
 same-length-2 c = search needs
 
--- src/lib.rt:88:9
 returns : tie.Need-returns
-returns c = ?
+returns c = pop-broken _ _ _ (sym (c .before .judged .given .1) ∙ c .before .before .before .audit .ensures)
 
 enum-told : tie.Need-enum-told
 enum-told c = search needs
 
--- src/lib.rt:91:9
 same-length-3 : tie.Need-same-length-3
 same-length-3 c = search needs
 
--- src/lib.rt:91:9
 same-length-4 : tie.Need-same-length-4
 same-length-4 c = search needs
 
--- src/lib.rt:91:9
 returns-2 : tie.Need-returns-2
-returns-2 c = ?
+returns-2 c = pop-none _ (judged-passes _ _ (sym (c .before .before .enum-told .given .1) ∙ c .before .before .before .before .audit .ensures)) (c .if1 .taken)
 
--- src/lib.rt:93:20
 cast-t17 : tie.Need-cast-t17
 cast-t17 c = search needs
 
--- src/lib.rt:93:20
 sub-t18 : tie.Need-sub-t18
 sub-t18 c = search needs
 
--- src/lib.rt:94:9
 let-go-requires : tie.Need-let-go-requires
-let-go-requires c κs = ?
+let-go-requires c κs = let a = passed-admitted _ (judged-passes _ _ (sym (c .before .before .before .before .before .enum-told .given .1) ∙ c .before .before .before .before .before .before .before .audit .ensures)) in let r = a .regions in (a, omega arith)
 
--- src/lib.rt:95:9
 same-length-5 : tie.Need-same-length-5
 same-length-5 c = search needs
 
--- src/lib.rt:95:9
 same-length-6 : tie.Need-same-length-6
 same-length-6 c = search needs
 
--- src/lib.rt:95:9
 returns-3 : tie.Need-returns-3
-returns-3 c = ?
+returns-3 c = pop-held _ (judged-passes _ _ (sym (c .before .before .before .before .before .before .before .enum-told .given .1) ∙ c .before .before .before .before .before .before .before .before .before .audit .ensures)) (c .before .before .before .before .before .if1 .left) _ refl _ (c .before .let-go .ensures) (c .if2 .taken)
 
--- src/lib.rt:97:9
 first-link-requires : tie.Need-first-link-requires
-first-link-requires c κs = ?
+first-link-requires c κs = let a = passed-admitted _ (judged-passes _ _ (sym (c .before .before .before .before .before .before .before .before .enum-told .given .1) ∙ c .before .before .before .before .before .before .before .before .before .before .audit .ensures)) in let r = a .regions in (a .table, omega arith, a .paged .low, a .paged .high)
 
--- src/lib.rt:98:9
 give-chain-requires : tie.Need-give-chain-requires
-give-chain-requires c κs = ?
+give-chain-requires c κs = passed-free _ (judged-passes _ _ (sym (c .before .before .before .before .before .before .before .before .before .before .enum-told .given .1) ∙ c .before .before .before .before .before .before .before .before .before .before .before .before .audit .ensures))
 
--- src/lib.rt:99:5
 set-row-requires : tie.Need-set-row-requires
-set-row-requires c κs = ?
+set-row-requires c κs = let a = passed-admitted _ (judged-passes _ _ (sym (c .before .before .before .before .before .before .before .before .before .before .before .before .before .before .enum-told .given .1) ∙ c .before .before .before .before .before .before .before .before .before .before .before .before .before .before .before .before .audit .ensures)) in let r = a .regions in (a .table, omega arith, omega arith, omega arith, omega arith)
 
--- src/lib.rt:102:18
 sub-t35 : tie.Need-sub-t35
 sub-t35 c = search needs
 
--- src/lib.rt:82:1
 same-length-7 : tie.Need-same-length-7
 same-length-7 c = search needs
 
--- src/lib.rt:82:1
 same-length-8 : tie.Need-same-length-8
 same-length-8 c = search needs
 
--- src/lib.rt:82:1
 returns-4 : tie.Need-returns-4
-returns-4 c = ?
+returns-4 c = pop-done _ (judged-passes _ _ (sym (c .before .before .before .before .before .before .before .before .before .before .before .before .before .before .before .before .before .before .enum-told .given .1) ∙ c .before .before .before .before .before .before .before .before .before .before .before .before .before .before .before .before .before .before .before .before .audit .ensures)) (c .before .before .before .before .before .before .before .before .before .before .before .before .before .before .before .before .if1 .left) _ refl _ (c .before .before .before .before .before .before .before .before .before .before .before .before .let-go .ensures) _ _ _ _ (c .before .before .before .before .before .before .before .before .before .before .before .if2 .left) (c .before .before .before .before .before .before .before .before .before .first-link .ensures) (c .before .before .before .before .before .before .before .give-chain .ensures) (c .before .before .before .set-row .ensures)
 
 pub pop-spec : {M : Type 1} → statement M
 pop-spec =
