@@ -1,11 +1,11 @@
 // Popping the top region: its pages go back to the free list, and its table words become 0.
 ghost use mathlib.Core.Path.{_≡_};
-ghost use Prim.Native.Nat.{_≤_, _<_};
+ghost use Prim.Native.Nat.{_<_};
 ghost use lib.ListN.{length};
 ghost use Rattle.rules.specs.Calls.{pop as popOf};
 ghost use Rattle.rules.specs.Memory.{lent, pageCount};
 ghost use Rattle.rules.specs.Pages.{giveBack};
-ghost use Rattle.rules.specs.Refusals.{Paged, outcome};
+ghost use Rattle.rules.specs.Refusals.{outcome};
 ghost use Rattle.release.specs.Giving.{Free, Left, giveChain};
 use audit::audit;
 use fields::let_go;
@@ -24,7 +24,7 @@ use rules::link_page;
 use rules::page_link;
 
 // Page k, cleared, at the back of the free list. The record with the list as it is then.
-pub fn give_back(heap: &mut [u32], k: Page, c: Control) -> Control
+fn give_back(heap: &mut [u32], k: Page, c: Control) -> Control
     requires { ⌜ (Free (length (now heap)) 1 c) × (k .0 < pageCount (c .n) (now heap)) ⌝ }
     ensures { λ r. ⌜ Left (giveBack (c .n) (k .0)) (now (heap .entry)) c (now (heap .exit)) r ⌝ }
 {
@@ -52,7 +52,7 @@ pub fn give_back(heap: &mut [u32], k: Page, c: Control) -> Control
 }
 
 // The pages from a link on, given back in the order of their chain. A page's link is read before the page is cleared.
-pub fn give_chain(heap: &mut [u32], first: u32, c: Control) -> Control
+fn give_chain(heap: &mut [u32], first: u32, c: Control) -> Control
     requires { ⌜ Free (length (now heap)) (pageCount (c .n) (now heap)) c ⌝ }
     ensures { λ r. ⌜ Left (giveChain (c .n) (pageCount (c .n) (now (heap .entry))) first) (now (heap .entry)) c (now (heap .exit)) r ⌝ }
 {

@@ -1,10 +1,9 @@
 -- `release::give_chain` meets its contract: the loop goes along the links, and a turn is what `give_back` does.
-use borrow.Author.Needs.{needs}
 use mathlib.Core.Path.{ap}
 use native.Mathlib.Omega.{arith}
 use Rattle.laws.specs.Lists.{at}
 use Rattle.rules.proofs.Limits.{page-here, pages-few}
-use Rattle.release.proofs.Chain.{Going, begins, goes-free, goes-on, ends-none, ends-far, ends-out}
+use Rattle.release.proofs.Going.{Going, begins, goes-free, goes-on, ends-none, ends-far, ends-out}
 use Rattle.release.proofs.give_chain.Statement.{statement}
 use Rattle.release.proofs.give_chain.Tie as tie
 

@@ -2,7 +2,8 @@
 -- to be tested and given back.
 use mathlib.Core.Path.{refl, sym, _∙_}
 use native.Mathlib.Omega.{arith}
-use Rattle.release.proofs.Judged.{judged-broken, judged-passes, passed-admitted, passed-free, pop-broken, pop-none, pop-held, pop-done}
+use Rattle.release.proofs.Judged.{judged-passes, passed-admitted}
+use Rattle.release.proofs.Popped.{passed-free, pop-broken, pop-none, pop-held, pop-done}
 use borrow.Author.Needs.{needs}
 use Rattle.release.proofs.pop.Statement.{statement}
 use Rattle.release.proofs.pop.Tie as tie
