@@ -29,6 +29,7 @@ fn give_back(heap: &mut [u32], k: Page, c: Control) -> Control
     ensures { λ r. ⌜ Left (giveBack (c .n) (k .0)) (now (heap .entry)) c (now (heap .exit)) r ⌝ }
 {
     let link = page_link(k);
+    let count = c.count + 1;
     clear_page(heap, k, c.n);
     if c.last == 0 {
         return Control {
@@ -36,7 +37,7 @@ fn give_back(heap: &mut [u32], k: Page, c: Control) -> Control
             regions: c.regions,
             first: link,
             last: link,
-            count: c.count + 1,
+            count: count,
         };
     }
     let start = link_address(c.last, c.n);
@@ -47,7 +48,7 @@ fn give_back(heap: &mut [u32], k: Page, c: Control) -> Control
         regions: c.regions,
         first: c.first,
         last: link,
-        count: c.count + 1,
+        count: count,
     }
 }
 
@@ -90,7 +91,9 @@ pub fn pop(heap: &mut [u32], table: &mut [u32], roots: &[u32], consts: &[u32], c
     if c.regions == 0 {
         return Plain::Refused(Refusal::NoRegion, c);
     }
-    let j = Region(c.regions as usize - 1);
+    let below = c.regions - 1;
+    let top = below as usize;
+    let j = Region(top);
     if !let_go(heap, table, roots, consts, c, j) {
         return Plain::Refused(Refusal::Held, c);
     }
@@ -99,7 +102,7 @@ pub fn pop(heap: &mut [u32], table: &mut [u32], roots: &[u32], consts: &[u32], c
     set_row(table, j, Address(0), Address(0), Address(0), 0);
     Plain::Done(Control {
         n: c.n,
-        regions: c.regions - 1,
+        regions: below,
         first: free.first,
         last: free.last,
         count: free.count,

@@ -35,11 +35,11 @@ same-length-4 c = search needs
 returns-2 : tie.Need-returns-2
 returns-2 c = pop-none _ (judged-passes _ _ (sym (c .before .before .enum-told .given .1) ∙ c .before .before .before .before .audit .ensures)) (c .if1 .taken)
 
-cast-t17 : tie.Need-cast-t17
-cast-t17 c = search needs
+sub-below : tie.Need-sub-below
+sub-below c = search needs
 
-sub-t18 : tie.Need-sub-t18
-sub-t18 c = search needs
+cast-top : tie.Need-cast-top
+cast-top c = search needs
 
 let-go-requires : tie.Need-let-go-requires
 let-go-requires c κs = let a = passed-admitted _ (judged-passes _ _ (sym (c .before .before .before .before .before .enum-told .given .1) ∙ c .before .before .before .before .before .before .before .audit .ensures)) in let r = a .regions in (a, omega arith)
@@ -62,9 +62,6 @@ give-chain-requires c κs = passed-free _ (judged-passes _ _ (sym (c .before .be
 set-row-requires : tie.Need-set-row-requires
 set-row-requires c κs = let a = passed-admitted _ (judged-passes _ _ (sym (c .before .before .before .before .before .before .before .before .before .before .before .before .before .before .enum-told .given .1) ∙ c .before .before .before .before .before .before .before .before .before .before .before .before .before .before .before .before .audit .ensures)) in let r = a .regions in (a .table, omega arith, omega arith, omega arith, omega arith)
 
-sub-t35 : tie.Need-sub-t35
-sub-t35 c = search needs
-
 same-length-7 : tie.Need-same-length-7
 same-length-7 c = search needs
 
@@ -72,7 +69,7 @@ same-length-8 : tie.Need-same-length-8
 same-length-8 c = search needs
 
 returns-4 : tie.Need-returns-4
-returns-4 c = pop-done _ (judged-passes _ _ (sym (c .before .before .before .before .before .before .before .before .before .before .before .before .before .before .before .before .before .before .enum-told .given .1) ∙ c .before .before .before .before .before .before .before .before .before .before .before .before .before .before .before .before .before .before .before .before .audit .ensures)) (c .before .before .before .before .before .before .before .before .before .before .before .before .before .before .before .before .if1 .left) _ refl _ (c .before .before .before .before .before .before .before .before .before .before .before .before .let-go .ensures) _ _ _ _ (c .before .before .before .before .before .before .before .before .before .before .before .if2 .left) (c .before .before .before .before .before .before .before .before .before .first-link .ensures) (c .before .before .before .before .before .before .before .give-chain .ensures) (c .before .before .before .set-row .ensures)
+returns-4 c = pop-done _ (judged-passes _ _ (sym (c .before .before .before .before .before .before .before .before .before .before .before .before .before .before .before .before .before .enum-told .given .1) ∙ c .before .before .before .before .before .before .before .before .before .before .before .before .before .before .before .before .before .before .before .audit .ensures)) (c .before .before .before .before .before .before .before .before .before .before .before .before .before .before .before .if1 .left) _ refl _ (c .before .before .before .before .before .before .before .before .before .before .before .let-go .ensures) _ _ _ _ (c .before .before .before .before .before .before .before .before .before .before .if2 .left) (c .before .before .before .before .before .before .before .before .first-link .ensures) (c .before .before .before .before .before .before .give-chain .ensures) (c .before .before .set-row .ensures)
 
 pub pop-spec : {M : Type 1} → statement M
 pop-spec =
@@ -87,8 +84,8 @@ pop-spec =
     same-length-3
     same-length-4
     returns-2
-    cast-t17
-    sub-t18
+    sub-below
+    cast-top
     let-go-requires
     same-length-5
     same-length-6
@@ -96,7 +93,6 @@ pop-spec =
     first-link-requires
     give-chain-requires
     set-row-requires
-    sub-t35
     same-length-7
     same-length-8
     returns-4)
