@@ -1,0 +1,5 @@
+pub mod Chain
+pub mod Given
+pub mod Going
+pub mod Judged
+pub mod Popped
