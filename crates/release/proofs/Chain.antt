@@ -16,7 +16,7 @@ use Rattle.rules.specs.Audit.{lastLink}
 use Rattle.rules.specs.Pages.{Run, begun, giveBack, giveBackAll}
 use Rattle.facts.proofs.Given.{last-link}
 use Rattle.facts.proofs.Laid.{mine≢beyond, spare≢beyond}
-use Rattle.facts.proofs.Passing.{pages-are}
+use Rattle.facts.proofs.Passing.{first-page, pages-are}
 use Rattle.facts.proofs.Sound.{Sound, region-or-free}
 use Rattle.release.specs.Giving.{linkIn, giveChain}
 use Rattle.release.proofs.Given.{given-last, given-length, given-link}
@@ -69,16 +69,11 @@ module _ (s : Store) (S : Sound s) (j : ℕ) (jR : j < s .ctl .regions) where
   there : (k : ℕ) → List·Memᴰ k (S .pages j) → k < N
   there k m = S .laid .known k (mine≢beyond (S .laid .mine-own j k jR m))
 
-  opens-with : firstLink n (s .table) j ≡ suc (S .laid .mine-links j jR .0)
-  opens-with =
-      let g = S .laid .big in
-      ap suc (ap (λ x. x / 2 ^ n) (S .laid .mine-links j jR .1) ∙ mul-div-left (S .laid .mine-links j jR .0) {n = 2 ^ n} (omega arith))
-
   pub region-given : giveChain n N (firstLink n (s .table) j) (begun s) ≡ giveBackAll n (regionPages n (s .heap) (s .table) j) (begun s)
   region-given =
       let g = S .laid .big in
       let z = S .laid .size in
-      rw (pages-are s S j jR, opens-with)
+      rw (pages-are s S j jR, first-page s S j jR)
       (chain-given n N N (omega arith) (S .pages j) (suc (S .laid .mine-links j jR .0)) (begun s) (omega arith) (S .laid .mine-links j jR .2)
       (S .laid .mine-once j jR) there
       (λ k m q. region-or-free s S j k jR m (last-one-of (S .free) k (sym (S .laid .free-last) ∙ q)))

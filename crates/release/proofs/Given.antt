@@ -7,13 +7,13 @@ use native.Mathlib.Numerals.{add-one, sub-one}
 use mathlib.Core.Path.{_≡_, refl, sym, ap, _∙_}
 use mathlib.Core.Logic.{_≢_, _⊎_, inl, inr}
 use mathlib.Core.List.{List}
-use lib.ListN.{length, set, length-set, replicate, length-replicate}
+use lib.ListN.{length, set, length-set}
 use lib.Seq.{getD-set-other}
-use Rattle.laws.proofs.Lists.{apart, length-put}
+use Rattle.laws.proofs.Lists.{apart}
 use Rattle.rules.specs.declared.Control.{Control}
 use Rattle.rules.specs.Memory.{link, control}
 use Rattle.rules.specs.Pages.{Run, clearPage, giveBack}
-use Rattle.facts.proofs.Laid.{put-elsewhere}
+use Rattle.facts.proofs.Cleared.{clear-length, clear-else}
 use Rattle.release.specs.Giving.{Left}
 
 -- ---- what it leaves, by the code's steps
@@ -38,20 +38,9 @@ module _ (k : ℕ) (h : List ℕ) (c : Control) (h′ : List ℕ) (l : ℕ) (cle
 
 -- ---- the links of the other pages
 
-module _ (n : ℕ) (h : List ℕ) (k : ℕ) (inside : k * 2 ^ n + 2 ^ n ≤ length h) where
-  fits : k * 2 ^ n + length (replicate {A = ℕ} (2 ^ n) 0) ≤ length h
-  fits = let e = length-replicate {A = ℕ} (2 ^ n) 0 in omega arith
-
-  cleared-length : length (clearPage n h k) ≡ length h
-  unfolding clearPage
-  cleared-length = length-put h (k * 2 ^ n) (replicate (2 ^ n) 0) fits
-
-  -- another page keeps its link
-  cleared-link : 0 < 2 ^ n → (l : ℕ) → l ≢ k → link n (clearPage n h k) l ≡ link n h l
-  unfolding clearPage link
-  cleared-link p l ne =
-      let e = length-replicate {A = ℕ} (2 ^ n) 0 in
-      put-elsewhere n h k (k * 2 ^ n) (replicate (2 ^ n) 0) l (l * 2 ^ n) fits (le-refl _) (omega arith) ne (le-refl _) (omega arith)
+cleared-link : (n : ℕ) (h : List ℕ) (k : ℕ) → k * 2 ^ n + 2 ^ n ≤ length h → 0 < 2 ^ n → (l : ℕ) → l ≢ k → link n (clearPage n h k) l ≡ link n h l
+unfolding link
+cleared-link n h k inside p l ne = clear-else n h k inside l (l * 2 ^ n) ne (le-refl _) (omega arith)
 
 -- a link set leaves the others
 set-link : (n : ℕ) (h : List ℕ) (z l v : ℕ) → 0 < 2 ^ n → l ≢ z → link n (set h (z * 2 ^ n) v) l ≡ link n h l
@@ -85,8 +74,8 @@ module _ (n : ℕ) (r : Run) (k : ℕ) (inside : k * 2 ^ n + 2 ^ n ≤ length (r
   given-length = go (r .last) refl
     where
       go : (x : ℕ) → r .last ≡ x → length (giveBack n k r .heap) ≡ length (r .heap)
-      go zero e = rw (giveBack, e) (cleared-length n (r .heap) k inside)
-      go (suc z) e = rw (giveBack, e) (length-set (clearPage n (r .heap) k) (z * 2 ^ n) (suc k) ∙ cleared-length n (r .heap) k inside)
+      go zero e = rw (giveBack, e) (clear-length n (r .heap) k inside)
+      go (suc z) e = rw (giveBack, e) (length-set (clearPage n (r .heap) k) (z * 2 ^ n) (suc k) ∙ clear-length n (r .heap) k inside)
 
   -- a page that is neither this one nor the last free one keeps its link
   pub given-link : 0 < 2 ^ n → (l : ℕ) → l ≢ k → r .last ≢ suc l → link n (giveBack n k r .heap) l ≡ link n (r .heap) l

@@ -1,5 +1,4 @@
 pub mod Chain
 pub mod Given
 pub mod Going
-pub mod Judged
 pub mod Popped

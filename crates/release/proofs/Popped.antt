@@ -19,11 +19,12 @@ use Rattle.facts.proofs.Sound.{Passes}
 use Rattle.facts.proofs.Passing.{meaning}
 use Rattle.release.specs.Giving.{Free, Left, giveChain}
 use Rattle.release.proofs.Chain.{last-there, region-given}
-use Rattle.release.proofs.Judged.{judged-broken, passed, passed-admitted}
+use Rattle.rules.proofs.Judged.{judged-refuse}
+use Rattle.facts.proofs.Judged.{passed, passed-admitted}
 
 pub pop-broken : (s : Store) (why : Refusal) (c : Control) → Plain.Refused why c ≡ audit s → refused s why ≡ pop s
 unfolding pop
-pop-broken s why c e = judged-broken s (refused s) _ why c e
+pop-broken s why c e = judged-refuse (refused s) _ s e
 
 module _ (s : Store) (p : Passes s) where
   -- pages can follow the free list

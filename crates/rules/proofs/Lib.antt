@@ -15,3 +15,4 @@ pub mod Fresh
 pub mod Rows
 pub mod Pointers
 pub mod Seen
+pub mod Judged

@@ -2,7 +2,7 @@
 -- to be tested and given back.
 use mathlib.Core.Path.{refl, sym, _∙_}
 use native.Mathlib.Omega.{arith}
-use Rattle.release.proofs.Judged.{judged-passes, passed-admitted}
+use Rattle.facts.proofs.Judged.{judged-passes, passed-admitted}
 use Rattle.release.proofs.Popped.{passed-free, pop-broken, pop-none, pop-held, pop-done}
 use borrow.Author.Needs.{needs}
 use Rattle.release.proofs.pop.Statement.{statement}

@@ -8,7 +8,7 @@ use lib.ListN.{length}
 use Rattle.rules.specs.declared.Valued.{Valued}
 use Rattle.rules.specs.Refusals.{Admitted}
 use Rattle.rules.specs.Calls.{usedWords}
-use Rattle.used.proofs.Judged.{judged-refuse, judged-yes, judged-admits}
+use Rattle.rules.proofs.Judged.{judged-refuse, judged-yes, judged-admits}
 use Rattle.used.proofs.used_words.Statement.{statement}
 use Rattle.used.proofs.used_words.Tie as tie
 
