@@ -169,12 +169,5 @@ pub fn collect_text(text: &[u8], out: &mut [u8]) -> usize
     let mut table = [0u32; 256];
     let mut roots = [0u32; 1024];
     let mut consts = [0u32; 1024];
-    print_parts(
-        text,
-        &mut heap,
-        &mut table,
-        &mut roots,
-        &mut consts,
-        out,
-    )
+    print_parts(text, &mut heap, &mut table, &mut roots, &mut consts, out)
 }

@@ -11,10 +11,15 @@ use rules::refusal_place;
 
 // Where the lines behind the first begin, and where the text ends.
 const TABLE: usize = 71;
+
 const ROOTS: usize = 102;
+
 const CONSTS: usize = 117;
+
 const PAGE0: usize = 124;
+
 const PAGE1: usize = 195;
+
 const END: usize = 202;
 
 fn main() {
@@ -31,7 +36,8 @@ fn main() {
     past_the_last(&image);
     outside_limits(&image);
     other_lengths(&image);
-    not_written();
+    longer_than_the_bytes();
+    table_past_its_rows();
 }
 
 // The heap of the example: a raw value of two words and a record that names it, in the first of two pages.
@@ -70,7 +76,14 @@ fn example(bytes: &mut [u8]) {
     let table = example_table();
     let roots = [0x14u32];
     let consts = [0u32; 1];
-    print_image(&heap, &table, &roots, &consts[0..0], example_control(), bytes);
+    print_image(
+        &heap,
+        &table,
+        &roots,
+        &consts[0..0],
+        example_control(),
+        bytes,
+    );
 }
 
 // Read into parts that hold other words, and written again.
@@ -89,7 +102,13 @@ fn read_back(image: &[u8]) {
 // Free first, last and count are not looked at, and a heap may have more regions than pages: both are the audit's questions.
 fn no_damage(image: &[u8]) {
     damaged(b"no damage", image, END, END, b"");
-    damaged(b"free list unlooked at", image, 30, 54, b"ffffffffffffffffffffffff");
+    damaged(
+        b"free list unlooked at",
+        image,
+        30,
+        54,
+        b"ffffffffffffffffffffffff",
+    );
     damaged(b"regions above pages", image, 22, 30, b"00000003");
 }
 
@@ -106,35 +125,101 @@ fn other_bytes(image: &[u8]) {
 
 // "Kinds 02 to 05 drop their trailing zero words, and a frame that keeps one is malformed."
 fn kept_zeros(image: &[u8]) {
-    damaged(b"kept zero, table", image, TABLE, ROOTS, b"02000400000010000000000000000800000000\n");
-    damaged(b"kept zero, roots", image, ROOTS, CONSTS, b"03000100000000\n");
-    damaged(b"kept zero, constants", image, 62, PAGE0, b"00000001\n020003000000100000000000000008\n03000100000014\n04000100000000\n");
+    damaged(
+        b"kept zero, table",
+        image,
+        TABLE,
+        ROOTS,
+        b"02000400000010000000000000000800000000\n",
+    );
+    damaged(
+        b"kept zero, roots",
+        image,
+        ROOTS,
+        CONSTS,
+        b"03000100000000\n",
+    );
+    damaged(
+        b"kept zero, constants",
+        image,
+        62,
+        PAGE0,
+        b"00000001\n020003000000100000000000000008\n03000100000014\n04000100000000\n",
+    );
     damaged(b"kept zero, page", image, PAGE1, END, b"05000100000000\n");
 }
 
 // "out of order"
 fn out_of_order(image: &[u8]) {
-    damaged(b"roots before table", image, TABLE, CONSTS, b"03000100000014\n020003000000100000000000000008\n");
-    damaged(b"constants before roots", image, ROOTS, PAGE0, b"040000\n03000100000014\n");
+    damaged(
+        b"roots before table",
+        image,
+        TABLE,
+        CONSTS,
+        b"03000100000014\n020003000000100000000000000008\n",
+    );
+    damaged(
+        b"constants before roots",
+        image,
+        ROOTS,
+        PAGE0,
+        b"040000\n03000100000014\n",
+    );
     damaged(b"first frame of kind 02", image, 0, 2, b"02");
     damaged(b"page of kind 06", image, PAGE1, PAGE1 + 2, b"06");
 }
 
 // "with more words than its part"; the first frame has "always 8 words".
 fn too_many_words(image: &[u8]) {
-    damaged(b"first frame, seven words", image, 2, 70, b"000700000004000000020000000100000002000000020000000100000001");
-    damaged(b"first frame, nine words", image, 2, 70, b"0009000000040000000200000001000000020000000200000001000000010000000000000000");
-    damaged(b"five table words", image, TABLE, ROOTS, b"0200050000001000000000000000080000000000000001\n");
-    damaged(b"two roots", image, ROOTS, CONSTS, b"0300020000001400000001\n");
+    damaged(
+        b"first frame, seven words",
+        image,
+        2,
+        70,
+        b"000700000004000000020000000100000002000000020000000100000001",
+    );
+    damaged(
+        b"first frame, nine words",
+        image,
+        2,
+        70,
+        b"0009000000040000000200000001000000020000000200000001000000010000000000000000",
+    );
+    damaged(
+        b"five table words",
+        image,
+        TABLE,
+        ROOTS,
+        b"0200050000001000000000000000080000000000000001\n",
+    );
+    damaged(
+        b"two roots",
+        image,
+        ROOTS,
+        CONSTS,
+        b"0300020000001400000001\n",
+    );
     damaged(b"one constant", image, CONSTS, PAGE0, b"04000100000001\n");
-    damaged(b"seventeen words in a page", image, PAGE1, END, b"0500110000000000000000000000000000000000000000000000000000000000000000000000000000000000000000000000000000000000000000000000000000000000000000000001\n");
+    damaged(
+        b"seventeen words in a page",
+        image,
+        PAGE1,
+        END,
+        b"0500110000000000000000000000000000000000000000000000000000000000000000000000000000000000000000000000000000000000000000000000000000000000000000000001\n",
+    );
 }
 
 // "cut short"
 fn cut_short(image: &[u8]) {
     damaged(b"digit short", image, PAGE0 + 69, PAGE0 + 70, b"");
     damaged(b"word short", image, PAGE0 + 62, PAGE0 + 70, b"");
-    damaged(b"count one word short", image, PAGE0 + 2, PAGE0 + 6, b"0007");
+    damaged(
+        b"count one word short",
+        image,
+        PAGE0 + 2,
+        PAGE0 + 6,
+        b"0007",
+    );
     damaged(b"count without words", image, PAGE1 + 2, PAGE1 + 6, b"ffff");
     damaged(b"text cut in a line", image, CONSTS + 3, END, b"");
     damaged(b"no last newline", image, END - 1, END, b"");
@@ -178,16 +263,39 @@ fn other_lengths(image: &[u8]) {
     lengths(b"14 before 1", b"", 16, 256, 1, 0);
 }
 
-// Writing: "table words past 4R not 0 give 2, text longer than the lent bytes 1".
-fn not_written() {
+// Writing: "text longer than the lent bytes 1".
+fn longer_than_the_bytes() {
+    let heap = example_heap();
+    let table = example_table();
+    let roots = [0x14u32];
+    let consts = [0u32; 1];
+    let mut bytes = [0u8; 201];
+    print_image(
+        &heap,
+        &table,
+        &roots,
+        &consts[0..0],
+        example_control(),
+        &mut bytes,
+    );
+}
+
+// Writing: "table words past 4R not 0 give 2".
+fn table_past_its_rows() {
     let heap = example_heap();
     let mut table = example_table();
     let roots = [0x14u32];
     let consts = [0u32; 1];
     let mut bytes = [0u8; 202];
-    print_image(&heap, &table, &roots, &consts[0..0], example_control(), &mut bytes[0..201]);
     table[4] = 1;
-    print_image(&heap, &table, &roots, &consts[0..0], example_control(), &mut bytes);
+    print_image(
+        &heap,
+        &table,
+        &roots,
+        &consts[0..0],
+        example_control(),
+        &mut bytes,
+    );
 }
 
 // The image with its bytes from `from` to `to` replaced.
@@ -208,7 +316,13 @@ fn lengths(name: &[u8], text: &[u8], h: usize, t: usize, r: usize, k: usize) {
     let mut roots = [7u32; 2];
     let mut consts = [7u32; 1];
     if h <= 48 && t <= 256 && r <= 2 && k <= 1 {
-        match read_image(text, &mut heap[0..h], &mut table[0..t], &mut roots[0..r], &mut consts[0..k]) {
+        match read_image(
+            text,
+            &mut heap[0..h],
+            &mut table[0..t],
+            &mut roots[0..r],
+            &mut consts[0..k],
+        ) {
             Opened::Refused(why) => refused(name, why),
             Opened::Done(_) => answer(name, 0, 0),
         }
