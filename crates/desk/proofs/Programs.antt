@@ -1,14 +1,16 @@
 -- What the program answers, by the first frame: one that asks for too much is refused at line 1, whether it is malformed or not; any other
 -- leads to what reading into parts of its lengths gives.
-use Prim.Native.Nat.{ℕ, _+_, _*_, _^_, _≤_}
+use Prim.Native.Nat.{ℕ, _-_, _*_, _^_, _≤_}
 use mathlib.Core.Path.{_≡_, refl, sym, ap, _∙_}
 use mathlib.Core.Bool.{Bool, true, false, _&&_, false≢true}
 use mathlib.Core.Option.{Option, none, some}
 use mathlib.Core.List.{List, [], _∷_}
+use native.Mathlib.Nat.{sub-zero}
 use native.Mathlib.Omega.{arith}
 use borrow.Author.Tests.{leb-true, le-leb, eq-eqb}
 use lib.Dec.{leb, eqb}
-use lib.ListN.{length, drop, getD}
+use lib.ListN.{length, take, drop, getD}
+use lib.Seq.{length-take-le}
 use Rattle.laws.specs.Choice.{_⇒_∣_}
 use Rattle.laws.specs.Lists.{at}
 use Rattle.laws.proofs.Tests.{both}
@@ -93,9 +95,27 @@ module _ (text : List ℕ) where
 
 -- ---- reading into parts of the lengths that the first frame says
 
-pub lengths-fit : (h : Head) (H T R K : ℕ) → H ≡ h .pages * 2 ^ h .n → T ≡ 256 → R ≡ h .roots → K ≡ h .consts → lengthsFit h H T R K ≡ true
+lengths-fit : (h : Head) (H T R K : ℕ) → H ≡ h .pages * 2 ^ h .n → T ≡ 256 → R ≡ h .roots → K ≡ h .consts → lengthsFit h H T R K ≡ true
 unfolding lengthsFit
 lengths-fit h H T R K p t r k = rw (eq-eqb H (h .pages * 2 ^ h .n) p, eq-eqb T 256 t, eq-eqb R (h .roots) r, eq-eqb K (h .consts) k)
+
+-- the fronts of the whole parts have these lengths; w is how many words the heap has
+pub fronts-fit : (text heap table roots consts : List ℕ) (h : Head) (w : ℕ) → h ≡ headFrom (wordsAt 8 text 6) → takesHead h ≡ true → w ≡ h .pages * 2 ^ h .n
+    → length heap ≡ 4096 → length table ≡ 256 → length roots ≡ 1024 → length consts ≡ 1024
+    → (lengthsFit (headFrom (wordsAt 8 text 6)) (length (take (w - 0) heap)) (length table) (length (take (h .roots - 0) roots)) (length (take (h .consts - 0) consts)) ≡ true)
+    × (length (take (w - 0) heap) ≤ 4096) × (length (take (h .consts - 0) consts) ≤ 1024)
+fronts-fit text heap table roots consts h w f t e eh et er ek =
+    let l = taken h t in
+    let a = l .heap in
+    let b = l .roots in
+    let d = l .consts in
+    let p : length (take (w - 0) heap) ≡ w = length-take-le (w - 0) heap (omega arith) ∙ sub-zero w in
+    let r : length (take (h .roots - 0) roots) ≡ h .roots = length-take-le (h .roots - 0) roots (omega arith) ∙ sub-zero (h .roots) in
+    let k : length (take (h .consts - 0) consts) ≡ h .consts = length-take-le (h .consts - 0) consts (omega arith) ∙ sub-zero (h .consts) in
+    let H : ℕ = length (take (w - 0) heap) in
+    let R : ℕ = length (take (h .roots - 0) roots) in
+    let K : ℕ = length (take (h .consts - 0) consts) in
+    (ap (λ x. lengthsFit x H (length table) R K) (sym f) ∙ lengths-fit h H (length table) R K (p ∙ e) et r k, omega arith, omega arith)
 
 module _ (text heap table roots consts : List ℕ) (fits : lengthsFit (headFrom (wordsAt 8 text 6)) (length heap) (length table) (length roots) (length consts) ≡ true) where
   read-fits : (fs : List (List ℕ)) → readText text ≡ frames fs → sameLengths (storeOf fs) heap table roots consts ≡ true

@@ -5,7 +5,7 @@ use native.Mathlib.Omega.{arith}
 use borrow.Author.Tests.{not-true, not-false}
 use Rattle.desk.specs.Printed.{takesHead}
 use Rattle.desk.proofs.Lengths.{printed-as}
-use Rattle.desk.proofs.Programs.{taken, lengths-fit, program-stops, program-goes}
+use Rattle.desk.proofs.Programs.{taken, fronts-fit, program-stops, program-goes}
 use Rattle.desk.proofs.print_parts.Statement.{statement}
 use Rattle.desk.proofs.print_parts.Tie as tie
 
@@ -61,7 +61,7 @@ part-print-read-end-3 : tie.Need-part-print-read-end-3
 part-print-read-end-3 c = let t = taken _ (sym (c .before .before .before .before .before .before .before .takes-head .ensures) ∙ not-false _ (c .before .before .before .before .before .before .if1 .left)) in omega arith
 
 print-read-requires : tie.Need-print-read-requires
-print-read-requires c κs = ?
+print-read-requires c κs = let f = fronts-fit (c .before .before .before .before .before .before .before .before .before .before .before .before .before .before .before .before .before .args .text .now) (c .before .before .before .before .before .before .before .before .before .before .before .before .before .before .before .before .before .args .heap .now) (c .before .before .before .before .before .before .before .before .before .before .before .before .before .before .before .before .before .args .table .now) (c .before .before .before .before .before .before .before .before .before .before .before .before .before .before .before .before .before .args .roots .now) (c .before .before .before .before .before .before .before .before .before .before .before .before .before .before .before .before .before .args .consts .now) _ _ (c .before .before .before .before .before .before .before .before .before .before .read-head .ensures) (sym (c .before .before .before .before .before .before .before .before .before .takes-head .ensures) ∙ not-false _ (c .before .before .before .before .before .before .before .before .if1 .left)) (c .before .before .before .before .before .before .before .heap-words .ensures) (c .before .before .before .before .before .before .before .before .before .before .before .before .before .before .before .before .before .pre .0) (c .before .before .before .before .before .before .before .before .before .before .before .before .before .before .before .before .before .pre .1) (c .before .before .before .before .before .before .before .before .before .before .before .before .before .before .before .before .before .pre .2) (c .before .before .before .before .before .before .before .before .before .before .before .before .before .before .before .before .before .pre .3) in (f .0, f .1, f .2, c .before .before .before .before .before .before .before .before .before .before .before .before .before .before .before .before .before .pre .4)
 
 same-length-2 : tie.Need-same-length-2
 same-length-2 c = search needs
