@@ -3,7 +3,6 @@ use Prim.Native.Nat.{ℕ, zero, suc}
 use mathlib.Core.Path.{_≡_, refl, sym, ap, _∙_}
 use mathlib.Core.Logic.{_⊎_, inl, inr}
 use mathlib.Core.Bool.{Bool, true, false, not}
-use mathlib.Core.List.{List}
 use native.Mathlib.Omega.{arith}
 use borrow.Author.Tests.{not-false}
 use lib.ListN.{length}
@@ -13,12 +12,12 @@ use Rattle.rules.specs.declared.Refusal.{Refusal}
 use Rattle.rules.specs.declared.Plain.{Plain}
 use Rattle.rules.specs.Memory.{Store, lent}
 use Rattle.rules.specs.Audit.{brokenRule}
-use Rattle.rules.specs.Refusals.{Admitted, Outcome, outcome, refused, withinLimits, commonTest, unbroken}
+use Rattle.rules.specs.Refusals.{Admitted, Outcome, refused, withinLimits, commonTest, unbroken}
 use Rattle.rules.specs.Collection.{collected, collect}
 use Rattle.rules.specs.Image.{imageText, refusalText}
 use Rattle.rules.proofs.Limits.{admits}
 use Rattle.facts.specs.Observed.{Demand3}
-use Rattle.facts.proofs.Sound.{Sound, Passes}
+use Rattle.facts.proofs.Sound.{Sound}
 use Rattle.facts.proofs.Passing.{meaning}
 use Rattle.working.proofs.Running.{Refusing}
 use Rattle.working.proofs.Collecting.{leaving, collects}

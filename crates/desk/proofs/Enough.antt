@@ -5,18 +5,18 @@ use mathlib.Core.Path.{_≡_, refl, sym, ap, _∙_}
 use mathlib.Core.Bool.{Bool, true}
 use mathlib.Core.Option.{Option, none, some}
 use mathlib.Core.List.{List, [], _∷_, _++_, append-assoc}
-use native.Mathlib.Nat.{zero-mul, suc-mul, mul-le-mul-left, pow-le-pow-right}
+use native.Mathlib.Nat.{zero-mul, suc-mul}
 use native.Mathlib.Omega.{arith}
 use borrow.Author.Tests.{leb-true, eqb-true}
 use lib.ListN.{length, take, drop, replicate, take-append-drop}
 use lib.Seq.{take-append-add}
 use Rattle.laws.specs.Lists.{at}
 use Rattle.laws.proofs.Tests.{both}
-use Rattle.rules.specs.Memory.{row}
 use Rattle.rules.specs.Image.{frame, headFits, programFits, partFits, Expected, expected, layout, withFrame, readFrame, readFrames, readText, programOn, collectProgram}
 use Rattle.rules.proofs.Frames.{length-frame}
 use Rattle.promises.proofs.ImageDigits.{frame-read, read-framed}
 use Rattle.desk.specs.Printed.{longest}
+use Rattle.desk.proofs.Lengths.{pages-room}
 
 -- ---- a frame of a text that is cut
 
@@ -108,9 +108,7 @@ room-layout head f =
     let m : ℕ = at head 1 in
     let n : ℕ = at head 0 in
     let a = room-pages m (2 ^ n) in
-    let b : 2 ^ 4 ≤ 2 ^ n = pow-le-pow-right (omega arith) (f .low) in
-    let c : m * 2 ^ 4 ≤ m * 2 ^ n = mul-le-mul-left m b in
-    let h = f .heap in
+    let b = pages-room n m (f .low) (f .heap) in
     let k = f .consts in
     let r = f .roots in
     let g = f .regions in

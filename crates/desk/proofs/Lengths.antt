@@ -1,6 +1,6 @@
 -- The text of an image that the program takes is at most 53,084 bytes: each part is written with at most its words, eight digits each, and a
 -- heap of 4,096 words has at most 256 pages. So what is printed stands at the front of the lent bytes.
-use Prim.Native.Nat.{ℕ, zero, suc, _+_, _*_, _/_, _^_, _≤_}
+use Prim.Native.Nat.{ℕ, zero, suc, _+_, _*_, _^_, _≤_}
 use mathlib.Core.Path.{_≡_, sym, ap, _∙_}
 use mathlib.Core.List.{List, _++_}
 use native.Mathlib.Nat.{suc-mul, mul-le-mul-left, div-mul-le-self, pow-le-pow-right}
@@ -10,7 +10,7 @@ use lib.Seq.{sets, length-sets}
 use Rattle.laws.proofs.Writes.{sets-front}
 use Rattle.rules.specs.Memory.{Store, pageCount, pageWords, pageAddress, row}
 use Rattle.rules.specs.Refusals.{Admitted}
-use Rattle.rules.specs.Image.{frame, trim, pageFrames, imageText}
+use Rattle.rules.specs.Image.{trim, pageFrames, imageText}
 use Rattle.rules.proofs.Frames.{length-frame, length-trim, image-length}
 use Rattle.desk.specs.Printed.{longest, Printed}
 
@@ -34,6 +34,10 @@ module _ (n : ℕ) (heap : List ℕ) where
       let d = suc-mul m (2 ^ n) in
       simp length-append (omega arith)
 
+-- pages of at least 16 words, 4,096 in all
+pub pages-room : (n m : ℕ) → 4 ≤ n → m * 2 ^ n ≤ 4096 → 7 * m + 8 * (m * 2 ^ n) ≤ 34560
+pages-room n m low few = let b : 2 ^ 4 ≤ 2 ^ n = pow-le-pow-right (omega arith) low in let f = mul-le-mul-left m b in omega arith
+
 pub image-short : (s : Store) → Admitted (length (s .heap)) (length (s .table)) (length (s .roots)) (length (s .consts)) (s .ctl)
     → length (s .heap) ≤ 4096 → length (s .consts) ≤ 1024 → length (imageText s) ≤ longest
 image-short s a h k =
@@ -45,8 +49,7 @@ image-short s a h k =
     let c = length-trim (s .consts) in
     let p = pages-short n (s .heap) m 0 in
     let w = div-mul-le-self (length (s .heap)) (2 ^ n) in
-    let b : 2 ^ 4 ≤ 2 ^ n = pow-le-pow-right (omega arith) (a .paged .low) in
-    let f : m * 2 ^ 4 ≤ m * 2 ^ n = mul-le-mul-left m b in
+    let f = pages-room n m (a .paged .low) (omega arith) in
     let i = image-length s in
     let x = a .regions in
     let y = a .roots in

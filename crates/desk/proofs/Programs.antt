@@ -2,28 +2,25 @@
 -- leads to what reading into parts of its lengths gives.
 use Prim.Native.Nat.{ℕ, _-_, _*_, _^_, _≤_}
 use mathlib.Core.Path.{_≡_, refl, sym, ap, _∙_}
-use mathlib.Core.Bool.{Bool, true, false, _&&_, false≢true}
-use mathlib.Core.Option.{Option, none, some}
+use mathlib.Core.Bool.{Bool, true, false, false≢true}
 use mathlib.Core.List.{List, [], _∷_}
 use native.Mathlib.Nat.{sub-zero}
 use native.Mathlib.Omega.{arith}
 use borrow.Author.Tests.{leb-true, le-leb, eq-eqb}
-use lib.Dec.{leb, eqb}
-use lib.ListN.{length, take, drop, getD}
+use lib.Dec.{leb}
+use lib.ListN.{length, take, getD}
 use lib.Seq.{length-take-le}
-use Rattle.laws.specs.Choice.{_⇒_∣_}
 use Rattle.laws.specs.Lists.{at}
 use Rattle.laws.proofs.Tests.{both}
 use Rattle.rules.specs.declared.Control.{Control}
 use Rattle.rules.specs.declared.Refusal.{Refusal}
 use Rattle.rules.specs.declared.Opened.{Opened}
-use Rattle.rules.specs.Memory.{Store, lent}
+use Rattle.rules.specs.Memory.{lent}
 use Rattle.rules.specs.Refusals.{Outcome, outcome}
-use Rattle.rules.specs.Image.{headFits, programFits, readFrame, layout, Frames, frames, malformed, readText, storeOf, sameLengths, readStore, readImage, refusalText, programOn, collectProgram}
+use Rattle.rules.specs.Image.{headFits, programFits, layout, Frames, frames, malformed, readText, storeOf, sameLengths, readStore, readImage, refusalText, programOn, collectProgram}
 use Rattle.scanning.specs.Places.{wordsAt, wordsOf, frameShape, frameFits}
 use Rattle.scanning.proofs.Frames.{read-frame}
 use Rattle.reading.specs.declared.Head.{Head}
-use Rattle.reading.specs.declared.Judged.{Judged}
 use Rattle.reading.specs.Parts.{framesAt, headList, headFrom, judgedAs, lengthsFit}
 use Rattle.reading.proofs.Heads.{headed, head-words, head-fits}
 use Rattle.reading.proofs.Wells.{judged-well, same-lengths}

@@ -29,7 +29,9 @@ fn print_refusal(why: Refusal, out: &mut [u8]) -> usize
     requires { ⌜ longest ≤ length (now out) ⌝ }
     ensures { λ r. ⌜ Printed (refusalText why) (now (out .entry)) (now (out .exit)) r ⌝ }
 {
-    let words = [refusal_number(why), refusal_place(why)];
+    let number = refusal_number(why);
+    let place = refusal_place(why);
+    let words = [number, place];
     write_frame(out, 0, 255, &words);
     23
 }

@@ -1,6 +1,5 @@
 -- `desk::print_image` meets its contract: the text has room, and is written from the first byte on.
 use borrow.Author.Needs.{needs}
-use mathlib.Core.Path.{_≡_, sym, _∙_}
 use native.Mathlib.Omega.{arith}
 use Rattle.rules.specs.Memory.{lent}
 use Rattle.desk.proofs.Lengths.{image-short, printed}

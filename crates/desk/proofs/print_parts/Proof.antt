@@ -1,6 +1,6 @@
 -- `desk::print_parts` meets its contract: a first frame that asks for too much is refused at line 1; for any other there is room.
 use borrow.Author.Needs.{needs}
-use mathlib.Core.Path.{_≡_, sym, ap, _∙_}
+use mathlib.Core.Path.{sym, ap, _∙_}
 use native.Mathlib.Omega.{arith}
 use borrow.Author.Tests.{not-true, not-false}
 use Rattle.desk.specs.Printed.{takesHead}

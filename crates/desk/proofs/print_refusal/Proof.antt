@@ -1,6 +1,6 @@
 -- `desk::print_refusal` meets its contract: the frame is written from the first byte on, and has two words.
 use borrow.Author.Needs.{needs}
-use mathlib.Core.Path.{_≡_, refl, sym, ap, _∙_}
+use mathlib.Core.Path.{sym, _∙_}
 use native.Mathlib.Omega.{arith}
 use Rattle.rules.proofs.Frames.{length-frame}
 use Rattle.desk.proofs.Lengths.{printed}

@@ -1,6 +1,5 @@
 -- `desk::takes_head` meets its contract: the tests are the definition's, in its order.
 use borrow.Author.Needs.{needs}
-use mathlib.Core.Path.{_≡_, sym, _∙_}
 use Rattle.laws.proofs.Tests.{tests}
 use Rattle.desk.specs.Printed.{takesHead}
 use Rattle.desk.proofs.takes_head.Statement.{statement}
