@@ -36,8 +36,7 @@ fn main() {
     past_the_last(&image);
     outside_limits(&image);
     other_lengths(&image);
-    longer_than_the_bytes();
-    table_past_its_rows();
+    not_written();
 }
 
 // The heap of the example: a raw value of two words and a record that names it, in the first of two pages.
@@ -60,11 +59,11 @@ fn example_table() -> [u32; 256] {
     table
 }
 
-fn example_control() -> Control {
+fn example_control(first: u32) -> Control {
     Control {
         n: 4,
         regions: 1,
-        first: 2,
+        first,
         last: 2,
         count: 1,
     }
@@ -81,7 +80,7 @@ fn example(bytes: &mut [u8]) {
         &table,
         &roots,
         &consts[0..0],
-        example_control(),
+        example_control(2),
         bytes,
     );
 }
@@ -115,6 +114,13 @@ fn no_damage(image: &[u8]) {
 // "with any other byte"
 fn other_bytes(image: &[u8]) {
     damaged(b"upper-case digit", image, PAGE0 + 69, PAGE0 + 70, b"F");
+    damaged(
+        b"upper-case digit in a count",
+        image,
+        PAGE1,
+        END,
+        b"05000A00000000000000000000000000000000000000000000000000000000000000000000000000000001\n",
+    );
     damaged(b"letter past f", image, TABLE + 29, TABLE + 30, b"g");
     damaged(b"space for a digit", image, ROOTS + 13, ROOTS + 14, b" ");
     damaged(b"carriage return", image, 70, 70, b"\r");
@@ -263,39 +269,14 @@ fn other_lengths(image: &[u8]) {
     lengths(b"14 before 1", b"", 16, 256, 1, 0);
 }
 
-// Writing: "text longer than the lent bytes 1".
-fn longer_than_the_bytes() {
-    let heap = example_heap();
-    let table = example_table();
-    let roots = [0x14u32];
-    let consts = [0u32; 1];
-    let mut bytes = [0u8; 201];
-    print_image(
-        &heap,
-        &table,
-        &roots,
-        &consts[0..0],
-        example_control(),
-        &mut bytes,
-    );
-}
-
-// Writing: "table words past 4R not 0 give 2".
-fn table_past_its_rows() {
-    let heap = example_heap();
-    let mut table = example_table();
-    let roots = [0x14u32];
-    let consts = [0u32; 1];
-    let mut bytes = [0u8; 202];
-    table[4] = 1;
-    print_image(
-        &heap,
-        &table,
-        &roots,
-        &consts[0..0],
-        example_control(),
-        &mut bytes,
-    );
+// Writing tests the lengths, then the common test, then "table words past 4R not 0 give 2, text longer than the lent bytes 1".
+fn not_written() {
+    writing(b"text that just fits", 32, 2, 0, 202);
+    writing(b"text a byte too long", 32, 2, 0, 201);
+    writing(b"table past 4R", 32, 2, 1, 202);
+    writing(b"table before bytes", 32, 2, 1, 201);
+    writing(b"free first above N", 32, 3, 0, 202);
+    writing(b"heap of no whole pages", 31, 3, 1, 202);
 }
 
 // The image with its bytes from `from` to `to` replaced.
@@ -329,6 +310,29 @@ fn lengths(name: &[u8], text: &[u8], h: usize, t: usize, r: usize, k: usize) {
     }
 }
 
+// Writes the example with a heap of h words, another free first, a word behind the table's row and room for so many bytes.
+fn writing(name: &[u8], h: usize, first: u32, behind: u32, room: usize) {
+    let heap = example_heap();
+    let mut table = example_table();
+    let roots = [0x14u32];
+    let consts = [0u32; 1];
+    let mut bytes = [0u8; 202];
+    table[4] = behind;
+    if h <= 32 && room <= 202 {
+        match write_image(
+            &heap[0..h],
+            &table,
+            &roots,
+            &consts[0..0],
+            example_control(first),
+            &mut bytes[0..room],
+        ) {
+            Valued::Refused(why, _) => refused(name, why),
+            Valued::Done(_, _) => answer(name, 0, 0),
+        }
+    }
+}
+
 // Copies the bytes of a text from `from` to `to` behind the first `at` bytes, as far as both reach. The answer is how many bytes there are then.
 fn append(bytes: &mut [u8], at: usize, text: &[u8], from: usize, to: usize) -> usize {
     let mut i = from;
@@ -357,7 +361,7 @@ fn print_image(
     bytes: &mut [u8],
 ) {
     match write_image(heap, table, roots, consts, c, bytes) {
-        Valued::Refused(why, _) => refused(b"writing", why),
+        Valued::Refused(why, _) => refused(b"written", why),
         Valued::Done(length, _) => print_front(bytes, length as usize),
     }
 }
