@@ -123,11 +123,11 @@ pub fn change(
 }
 
 // The value is read when the answer is written.
-fn fetch(
-    heap: &[u32],
-    table: &[u32],
-    roots: &[u32],
-    consts: &[u32],
+fn fetch<'a>(
+    heap: &'a [u32],
+    table: &'a [u32],
+    roots: &'a [u32],
+    consts: &'a [u32],
     c: Control,
     w: u32,
 ) -> Outcome {
@@ -153,11 +153,11 @@ fn page(
 }
 
 // The first k lent words are the path.
-fn walk(
-    heap: &[u32],
-    table: &[u32],
-    roots: &[u32],
-    consts: &[u32],
+fn walk<'a>(
+    heap: &'a [u32],
+    table: &'a [u32],
+    roots: &'a [u32],
+    consts: &'a [u32],
     words: &[u32],
     c: Control,
     root: usize,
@@ -212,12 +212,12 @@ fn write_in(
 }
 
 // A call that changes no lent word.
-pub fn ask(
+pub fn ask<'a>(
     asked: Asking,
-    heap: &[u32],
-    table: &[u32],
-    roots: &[u32],
-    consts: &[u32],
+    heap: &'a [u32],
+    table: &'a [u32],
+    roots: &'a [u32],
+    consts: &'a [u32],
     words: &[u32],
     bytes: &mut [u8],
     c: Control,

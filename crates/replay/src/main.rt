@@ -3,16 +3,90 @@
 mod calls;
 mod state;
 
+use script::lines::Input;
 use script::lines::beginning;
 use script::lines::left;
 use script::lines::next_line;
 use script::output::flush;
+use state::State;
 use state::nothing_lent;
 use state::run_line;
 use state::waiting;
 use state::within;
 
-// Replays the script in lent memory. Nothing says that the input ends, so the lines are counted down, from a number that no input meets.
+// How far the replay is.
+struct Progress {
+    input: Input,
+    state: State,
+}
+
+// Before the first line.
+fn start() -> Progress {
+    Progress {
+        input: beginning(),
+        state: nothing_lent(),
+    }
+}
+
+// Reads the next line.
+fn read_line(chunk: &mut [u8], line: &mut [u8], out: &[u8], p: Progress) -> Progress {
+    let read = p.input;
+    let state = p.state;
+    let input = next_line(chunk, line, out, read, state.out);
+    Progress {
+        input,
+        state: waiting(state, input.out),
+    }
+}
+
+// Does what the line asks for that was read.
+fn obey_line(
+    heap: &mut [u32],
+    table: &mut [u32],
+    roots: &mut [u32],
+    consts: &mut [u32],
+    words: &mut [u32],
+    bytes: &mut [u8],
+    line: &[u8],
+    out: &mut [u8],
+    p: Progress,
+) -> Progress {
+    let input = p.input;
+    let before = p.state;
+    let n = within(input.line, line.len());
+    let state = run_line(
+        &line[0..n],
+        heap,
+        table,
+        roots,
+        consts,
+        words,
+        bytes,
+        out,
+        before,
+    );
+    Progress { input, state }
+}
+
+// One line.
+fn replay_line(
+    heap: &mut [u32],
+    table: &mut [u32],
+    roots: &mut [u32],
+    consts: &mut [u32],
+    words: &mut [u32],
+    bytes: &mut [u8],
+    line: &mut [u8],
+    chunk: &mut [u8],
+    out: &mut [u8],
+    p: Progress,
+) -> Progress {
+    let read = read_line(chunk, line, out, p);
+    obey_line(heap, table, roots, consts, words, bytes, line, out, read)
+}
+
+// Replays the script in lent memory, and answers how much output waits at its end. Nothing says that the input ends, so the lines are counted
+// down, from a number that no input meets.
 fn replay(
     heap: &mut [u32],
     table: &mut [u32],
@@ -24,26 +98,24 @@ fn replay(
     chunk: &mut [u8],
     out: &mut [u8],
 ) -> usize {
-    let mut s = nothing_lent();
-    let mut input = beginning();
+    let mut p = start();
     let mut lines = u64::MAX;
     while 0 < lines {
-        input = next_line(chunk, line, out, input, s.out);
-        let n = within(input.line, line.len());
-        s = run_line(
-            &line[0..n],
+        p = replay_line(
             heap,
             table,
             roots,
             consts,
             words,
             bytes,
+            line,
+            chunk,
             out,
-            waiting(s, input.out),
+            p,
         );
-        lines = left(lines, input.is_over);
+        lines = left(lines, p.input.is_over);
     }
-    s.out
+    p.state.out
 }
 
 fn main() {
