@@ -19,7 +19,6 @@ use script::output::put_words;
 // What an operation answers.
 pub enum Answer {
     Unknown,
-    Unsupported,
     Quiet,
     Done,
     Word(u32),
@@ -232,7 +231,6 @@ fn put_result<'a>(
         Answer::Done => put_bytes(out, at, b"ok"),
         Answer::Quiet => at,
         Answer::Unknown => at,
-        Answer::Unsupported => at,
     }
 }
 
@@ -253,9 +251,6 @@ pub fn put_answer<'a>(
     }
     if let Answer::Unknown = answer {
         return put_bytes(out, at, b"?\n");
-    }
-    if let Answer::Unsupported = answer {
-        return put_bytes(out, at, b"unsupported\n");
     }
     let next = put_result(out, at, answer, heap, table, roots, consts, c);
     put_hash(out, next, heap, table, roots, consts, c)

@@ -102,7 +102,7 @@ pub fn change(
     match asked {
         Changing::Setup(n) => opened(regions::set_up(heap, table, roots, consts, n), c),
         Changing::Push => plain(regions::push(heap, table, roots, consts, c)),
-        Changing::Pop => saying(Answer::Unsupported, c),
+        Changing::Pop => plain(release::pop(heap, table, roots, consts, c)),
         Changing::Alloc(j, kind, l) => allocate(heap, table, roots, consts, words, c, j, kind, l),
         Changing::Assign(w, field, x) => plain(paths::assign(
             heap,
@@ -228,7 +228,7 @@ pub fn ask<'a>(
         Asking::Walk(root, k) => walk(heap, table, roots, consts, words, c, root, k),
         Asking::Audit => plain(audit::audit(heap, table, roots, consts, c)),
         Asking::Due => told(regions::due(heap, table, roots, consts, c)),
-        Asking::Used(j) => saying(Answer::Unsupported, c),
+        Asking::Used(j) => count(used::used_words(heap, table, roots, consts, c, j)),
         Asking::Num(i) => worded(values::word_of_number(i), c),
         Asking::TooLarge => saying(Answer::Refused(Refusal::NoNumber), c),
         Asking::Unnum(w) => numbered(values::number_of_word(w), c),
