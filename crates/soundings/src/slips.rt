@@ -1,0 +1,102 @@
+// The slips that document 01 has seen elsewhere: on each heap a collector that makes the slip leaves other words.
+use crate::collecting::collects;
+use crate::heaps;
+use crate::say;
+use collection::collect;
+use rules::Control;
+use rules::Kind;
+
+// A record in region 1 and a record in region 0 that fills a page, each the other's field. The page after the full one is region 1's.
+fn full_page(
+    heap: &mut [u32],
+    table: &mut [u32],
+    roots: &[u32],
+    consts: &[u32],
+    c: Control,
+) -> heaps::Kept {
+    let y = heaps::stored(heap, table, roots, consts, c, 1, Kind::Record, &[1]);
+    let x = heaps::stored(heap, table, roots, consts, y.c, 0, Kind::Record, &[y.word, 1, 1, 1, 1, 1, 1, 1, 1, 1, 1, 1, 1]);
+    let d = heaps::assigned(heap, table, roots, consts, x.c, y.word, x.word);
+    heaps::Kept { word: x.word, c: d }
+}
+
+fn page_end() {
+    let mut heap = [0u32; 64];
+    let mut table = [0u32; 256];
+    let mut roots = [0u32; 1];
+    let consts = [0u32; 0];
+    let c = heaps::with_regions(&mut heap, &mut table, &mut roots, &consts, 4, 2);
+    let x = full_page(&mut heap, &mut table, &roots, &consts, c);
+    let d = heaps::rooted(&heap, &table, &mut roots, &consts, x.c, 0, x.word);
+    collects(b"a page that ends full", &mut heap, &mut table, &mut roots, &consts, d);
+}
+
+// Two numbers' records in region 0: the one that a record of region 1 names is handed back.
+fn leaves(
+    heap: &mut [u32],
+    table: &mut [u32],
+    roots: &[u32],
+    consts: &[u32],
+    c: Control,
+) -> heaps::Kept {
+    let z = heaps::stored(heap, table, roots, consts, c, 0, Kind::Record, &[1]);
+    let w = heaps::stored(heap, table, roots, consts, z.c, 0, Kind::Record, &[3]);
+    heaps::stored(heap, table, roots, consts, w.c, 1, Kind::Record, &[w.word])
+}
+
+// Region 0 is being scanned when its second value is copied, and is done when its third one is.
+fn scanned() {
+    let mut heap = [0u32; 64];
+    let mut table = [0u32; 256];
+    let mut roots = [0u32; 1];
+    let consts = [0u32; 0];
+    let c = heaps::with_regions(&mut heap, &mut table, &mut roots, &consts, 4, 2);
+    let y = leaves(&mut heap, &mut table, &roots, &consts, c);
+    let x = heaps::stored(&mut heap, &mut table, &roots, &consts, y.c, 0, Kind::Record, &[y.word, 8]);
+    let d = heaps::rooted(&heap, &table, &mut roots, &consts, x.c, 0, x.word);
+    collects(b"a region met while it is scanned", &mut heap, &mut table, &mut roots, &consts, d);
+}
+
+// The words of a raw value are the pointers to itself, to its last word and past the heap.
+fn raw_words() {
+    let mut heap = [0u32; 32];
+    let mut table = [0u32; 256];
+    let mut roots = [0u32; 1];
+    let consts = [0u32; 0];
+    let c = heaps::with_regions(&mut heap, &mut table, &mut roots, &consts, 4, 1);
+    let x = heaps::stored(&mut heap, &mut table, &roots, &consts, c, 0, Kind::Raw, &[8, 20, 4000]);
+    let d = heaps::rooted(&heap, &table, &mut roots, &consts, x.c, 0, x.word);
+    collects(b"raw words 8 20 4000", &mut heap, &mut table, &mut roots, &consts, d);
+}
+
+fn forwards() {
+    let mut heap = [0u32; 64];
+    let mut table = [0u32; 256];
+    let mut roots = [0u32; 4];
+    let consts = [0u32; 0];
+    let c = heaps::four(&mut heap, &mut table, &mut roots, &consts);
+    collects(b"with a page too few", &mut heap, &mut table, &mut roots, &consts, c);
+}
+
+fn more_pages() {
+    let mut heap = [0u32; 80];
+    let mut table = [0u32; 256];
+    let mut roots = [0u32; 4];
+    let consts = [0u32; 0];
+    let c = heaps::four(&mut heap, &mut table, &mut roots, &consts);
+    say::text(b"pages free before and after 7, 7, 10, 4 words: ");
+    say::decimal(c.count);
+    let after = heaps::record_of(collect(&mut heap, &mut table, &mut roots, &consts, c));
+    say::text(b" ");
+    say::decimal(after.count);
+    say::text(b"\n");
+}
+
+pub fn soundings() {
+    say::text(b"Slips\n");
+    page_end();
+    scanned();
+    raw_words();
+    forwards();
+    more_pages();
+}

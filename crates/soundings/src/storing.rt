@@ -1,0 +1,136 @@
+// Allocation, and whether a collection is due.
+use crate::heaps;
+use crate::lent;
+use crate::say;
+use regions::allocate;
+use regions::due;
+use rules::Control;
+use rules::Kind;
+use rules::Region;
+
+// An allocation in region 0, and the heap after it.
+fn stores(
+    name: &[u8],
+    heap: &mut [u32],
+    table: &mut [u32],
+    roots: &[u32],
+    consts: &[u32],
+    c: Control,
+    kind: Kind,
+    words: &[u32],
+) -> Control {
+    say::text(b"allocate ");
+    say::text(name);
+    say::text(b": ");
+    let after = say::valued(allocate(heap, table, roots, consts, c, Region(0), kind, words));
+    lent::show(heap, table, roots, after);
+    after
+}
+
+fn stores_not(
+    name: &[u8],
+    heap: &mut [u32],
+    table: &mut [u32],
+    roots: &[u32],
+    consts: &[u32],
+    c: Control,
+    region: usize,
+    words: &[u32],
+) {
+    say::text(b"allocate ");
+    say::text(name);
+    say::text(b": ");
+    let before = lent::sum(heap, table, roots);
+    let after = say::valued(allocate(
+        heap,
+        table,
+        roots,
+        consts,
+        c,
+        Region(region),
+        Kind::Record,
+        words,
+    ));
+    lent::compare(before, lent::sum(heap, table, roots), c, after);
+}
+
+// What is refused while pages are left: 5 comes before 8, and 8 before 7.
+fn lengths(heap: &mut [u32], table: &mut [u32], roots: &[u32], consts: &[u32], c: Control) {
+    stores_not(b"14 words", heap, table, roots, consts, c, 0, &[1u32; 14]);
+    stores_not(b"14 words in region 1 of 1", heap, table, roots, consts, c, 1, &[1u32; 14]);
+}
+
+fn bad_words(heap: &mut [u32], table: &mut [u32], roots: &[u32], consts: &[u32], c: Control) {
+    stores_not(b"a record of 4", heap, table, roots, consts, c, 0, &[4u32; 1]);
+    stores_not(b"14 words 4", heap, table, roots, consts, c, 0, &[4u32; 14]);
+}
+
+fn first_two(
+    heap: &mut [u32],
+    table: &mut [u32],
+    roots: &[u32],
+    consts: &[u32],
+    c: Control,
+) -> Control {
+    let a = stores(b"13 words", heap, table, roots, consts, c, Kind::Record, &[1u32; 13]);
+    stores(b"no words", heap, table, roots, consts, a, Kind::Record, &[1u32; 0])
+}
+
+fn last_page(heap: &mut [u32], table: &mut [u32], roots: &[u32], consts: &[u32], c: Control) {
+    let d = stores(b"13 words again", heap, table, roots, consts, c, Kind::Record, &[1u32; 13]);
+    stores_not(b"no words, no page left", heap, table, roots, consts, d, 0, &[1u32; 0]);
+}
+
+// Three pages, one region.
+fn three_pages(heap: &mut [u32], table: &mut [u32], roots: &[u32], consts: &[u32], c: Control) {
+    let a = first_two(heap, table, roots, consts, c);
+    lengths(heap, table, roots, consts, a);
+    bad_words(heap, table, roots, consts, a);
+    let b = stores(b"raw words 4 8", heap, table, roots, consts, a, Kind::Raw, &[4, 8]);
+    last_page(heap, table, roots, consts, b);
+}
+
+fn broken_row() {
+    let mut heap = [0u32; 32];
+    let mut table = [0u32; 256];
+    let mut roots = [0u32; 1];
+    let consts = [0u32; 0];
+    let c = heaps::with_regions(&mut heap, &mut table, &mut roots, &consts, 4, 1);
+    heaps::poke(&mut table, 2, 1);
+    stores_not(b"where a is 1", &mut heap, &mut table, &roots, &consts, c, 0, &[1]);
+}
+
+fn values() {
+    let mut heap = [0u32; 48];
+    let mut table = [0u32; 256];
+    let mut roots = [0u32; 1];
+    let consts = [0u32; 0];
+    let c = heaps::with_regions(&mut heap, &mut table, &mut roots, &consts, 4, 1);
+    three_pages(&mut heap, &mut table, &roots, &consts, c);
+}
+
+// 128 pages, so many of them free.
+fn due_with(name: &[u8], count: u32) {
+    let heap = [0u32; 2048];
+    let table = [0u32; 256];
+    let roots = [0u32; 0];
+    let consts = [0u32; 0];
+    let c = Control {
+        n: 4,
+        regions: 0,
+        first: 1,
+        last: 128,
+        count: count,
+    };
+    say::text(name);
+    say::told(due(&heap, &table, &roots, &consts, c));
+    say::text(b"\n");
+}
+
+pub fn soundings() {
+    say::text(b"Allocation and due\n");
+    values();
+    broken_row();
+    due_with(b"due, 42 of 128 pages free: ", 42);
+    due_with(b"due, 43 of 128 pages free: ", 43);
+}
