@@ -118,7 +118,11 @@ fn other_rules() {
     one(b"a root is 12", root);
     one(b"a constant's field is 8", constant);
     both(b"a constant's field is 8 and a root is 12", constant, root);
-    both(b"a free page's word is 1 and a is 17", in_heap(20, 1), in_table(2, 17));
+    both(
+        b"a free page's word is 1 and a is 17",
+        in_heap(20, 1),
+        in_table(2, 17),
+    );
 }
 
 fn records() {

@@ -67,7 +67,14 @@ fn itself() {
     let consts = [0u32; 0];
     let c = heaps::with_regions(&mut heap, &mut table, &mut roots, &consts, 4, 1);
     let d = of_itself(&mut heap, &mut table, &mut roots, &consts, c);
-    collects(b"a record of itself", &mut heap, &mut table, &mut roots, &consts, d);
+    collects(
+        b"a record of itself",
+        &mut heap,
+        &mut table,
+        &mut roots,
+        &consts,
+        d,
+    );
 }
 
 // Two records in region 0, each the other's field; the first of them is handed back.
@@ -103,7 +110,14 @@ fn shared() {
     let consts = [0u32; 0];
     let c = heaps::with_regions(&mut heap, &mut table, &mut roots, &consts, 4, 1);
     let d = two_roots(&mut heap, &mut table, &mut roots, &consts, c);
-    collects(b"two roots of one value", &mut heap, &mut table, &mut roots, &consts, d);
+    collects(
+        b"two roots of one value",
+        &mut heap,
+        &mut table,
+        &mut roots,
+        &consts,
+        d,
+    );
 }
 
 fn four() {
@@ -112,7 +126,14 @@ fn four() {
     let mut roots = [0u32; 4];
     let consts = [0u32; 0];
     let c = heaps::four(&mut heap, &mut table, &mut roots, &consts);
-    collects(b"7, 7, 10, 4 words, three pages free", &mut heap, &mut table, &mut roots, &consts, c);
+    collects(
+        b"7, 7, 10, 4 words, three pages free",
+        &mut heap,
+        &mut table,
+        &mut roots,
+        &consts,
+        c,
+    );
 }
 
 fn four_tight() {
@@ -121,7 +142,14 @@ fn four_tight() {
     let mut roots = [0u32; 4];
     let consts = [0u32; 0];
     let c = heaps::four(&mut heap, &mut table, &mut roots, &consts);
-    collects_not(b"7, 7, 10, 4 words, two pages free", &mut heap, &mut table, &mut roots, &consts, c);
+    collects_not(
+        b"7, 7, 10, 4 words, two pages free",
+        &mut heap,
+        &mut table,
+        &mut roots,
+        &consts,
+        c,
+    );
 }
 
 fn bare() {
@@ -130,7 +158,14 @@ fn bare() {
     let mut roots = [0u32; 3];
     let consts = [0u32; 0];
     let c = heaps::fresh(&mut heap, &mut table, &mut roots, &consts, 4);
-    collects_not(b"R 0, roots all numbers", &mut heap, &mut table, &mut roots, &consts, c);
+    collects_not(
+        b"R 0, roots all numbers",
+        &mut heap,
+        &mut table,
+        &mut roots,
+        &consts,
+        c,
+    );
 }
 
 // A raw value in region 1, and a record of it in region 0. The roots name neither.
@@ -153,7 +188,14 @@ fn dead() {
     let consts = [9u32, 7];
     let c = heaps::with_regions(&mut heap, &mut table, &mut roots, &consts, 4, 2);
     let d = unnamed(&mut heap, &mut table, &mut roots, &consts, c);
-    collects(b"no live value", &mut heap, &mut table, &mut roots, &consts, d);
+    collects(
+        b"no live value",
+        &mut heap,
+        &mut table,
+        &mut roots,
+        &consts,
+        d,
+    );
 }
 
 // A free page is lacking before any root is looked at.
@@ -163,7 +205,14 @@ fn no_fresh_page() {
     let mut roots = [0u32; 1];
     let consts = [0u32; 0];
     let c = heaps::with_regions(&mut heap, &mut table, &mut roots, &consts, 4, 2);
-    collects_not(b"two empty regions, one page free", &mut heap, &mut table, &mut roots, &consts, c);
+    collects_not(
+        b"two empty regions, one page free",
+        &mut heap,
+        &mut table,
+        &mut roots,
+        &consts,
+        c,
+    );
 }
 
 fn broken() {
@@ -173,7 +222,14 @@ fn broken() {
     let consts = [0u32; 0];
     let c = heaps::labelled(&mut heap, &mut table, &mut roots, &consts);
     heaps::poke(&mut roots, 0, 12);
-    collects_not(b"a root that is 12", &mut heap, &mut table, &mut roots, &consts, c);
+    collects_not(
+        b"a root that is 12",
+        &mut heap,
+        &mut table,
+        &mut roots,
+        &consts,
+        c,
+    );
 }
 
 pub fn soundings() {

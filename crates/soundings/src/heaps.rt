@@ -115,23 +115,33 @@ pub fn assigned(
 // "Sh" in region 0, and a record of it and the number 7.
 fn label(heap: &mut [u32], table: &mut [u32], roots: &[u32], consts: &[u32], c: Control) -> Kept {
     let sh = stored(heap, table, roots, consts, c, 0, Kind::Raw, &[0x53, 0x68]);
-    stored(heap, table, roots, consts, sh.c, 0, Kind::Record, &[sh.word, 15])
+    stored(
+        heap,
+        table,
+        roots,
+        consts,
+        sh.c,
+        0,
+        Kind::Record,
+        &[sh.word, 15],
+    )
 }
 
 // The heap of document 01's image: "Sh" at 2, its record at 5, which is root 0.
-pub fn labelled(
-    heap: &mut [u32],
-    table: &mut [u32],
-    roots: &mut [u32],
-    consts: &[u32],
-) -> Control {
+pub fn labelled(heap: &mut [u32], table: &mut [u32], roots: &mut [u32], consts: &[u32]) -> Control {
     let c = with_regions(heap, table, roots, consts, 4, 1);
     let top = label(heap, table, roots, consts, c);
     rooted(heap, table, roots, consts, top.c, 0, top.word)
 }
 
 // Two raw values of 7 words, headers counted, in region 0: they fill a page.
-fn sevens(heap: &mut [u32], table: &mut [u32], roots: &[u32], consts: &[u32], c: Control) -> Control {
+fn sevens(
+    heap: &mut [u32],
+    table: &mut [u32],
+    roots: &[u32],
+    consts: &[u32],
+    c: Control,
+) -> Control {
     let a = stored(heap, table, roots, consts, c, 0, Kind::Raw, &[5u32; 6]);
     let b = stored(heap, table, roots, consts, a.c, 0, Kind::Raw, &[6u32; 6]);
     b.c
@@ -151,19 +161,35 @@ fn ten_and_four(
 }
 
 // Roots that name the 10, 7, 7 and 4.
-fn four_roots(heap: &[u32], table: &[u32], roots: &mut [u32], consts: &[u32], c: Control) -> Control {
+fn four_roots(
+    heap: &[u32],
+    table: &[u32],
+    roots: &mut [u32],
+    consts: &[u32],
+    c: Control,
+) -> Control {
     let d = rooted(heap, table, roots, consts, c, 0, 72);
     let e = rooted(heap, table, roots, consts, d, 1, 8);
     let f = rooted(heap, table, roots, consts, e, 2, 36);
     rooted(heap, table, roots, consts, f, 3, 112)
 }
 
+fn four_values(
+    heap: &mut [u32],
+    table: &mut [u32],
+    roots: &[u32],
+    consts: &[u32],
+    c: Control,
+) -> Control {
+    let d = sevens(heap, table, roots, consts, c);
+    ten_and_four(heap, table, roots, consts, d)
+}
+
 // Raw values of 7, 7, 10 and 4 words, all named by roots.
 pub fn four(heap: &mut [u32], table: &mut [u32], roots: &mut [u32], consts: &[u32]) -> Control {
     let c = with_regions(heap, table, roots, consts, 4, 1);
-    let d = sevens(heap, table, roots, consts, c);
-    let e = ten_and_four(heap, table, roots, consts, d);
-    four_roots(heap, table, roots, consts, e)
+    let d = four_values(heap, table, roots, consts, c);
+    four_roots(heap, table, roots, consts, d)
 }
 
 // One word of a part changed behind the calls.

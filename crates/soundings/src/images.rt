@@ -1,6 +1,4 @@
 // The image text. Standard input is the example of document 01: its heap of "Sh", before the collection.
-ghost use Prim.Native.Nat.{_<_};
-ghost use lib.ListN.{length};
 use crate::heaps;
 use crate::lent;
 use crate::say;
@@ -41,6 +39,18 @@ fn writes_not(name: &[u8], heap: &[u32], table: &[u32], roots: &[u32], consts: &
     written(v, &bytes);
 }
 
+fn collected(heap: &mut [u32], table: &mut [u32], roots: &mut [u32], consts: &[u32], c: Control) {
+    let after = heaps::record_of(collect(heap, table, roots, consts, c));
+    writes(
+        b"collect and write it:\n",
+        heap,
+        table,
+        roots,
+        consts,
+        after,
+    );
+}
+
 fn example(text: &[u8]) {
     let mut heap = [7u32; 32];
     let mut table = [7u32; 256];
@@ -49,9 +59,15 @@ fn example(text: &[u8]) {
     say::text(b"read the example: ");
     let c = say::opened(read_image(text, &mut heap, &mut table, &mut roots, &mut consts));
     lent::show(&heap, &table, &roots, c);
-    writes_not(b"write it into 201 bytes: ", &heap, &table, &roots, &consts, c);
-    let after = heaps::record_of(collect(&mut heap, &mut table, &mut roots, &consts, c));
-    writes(b"collect and write it:\n", &heap, &table, &roots, &consts, after);
+    writes_not(
+        b"write it into 201 bytes: ",
+        &heap,
+        &table,
+        &roots,
+        &consts,
+        c,
+    );
+    collected(&mut heap, &mut table, &mut roots, &consts, c);
 }
 
 fn other_roots(text: &[u8]) {
@@ -104,12 +120,18 @@ fn cut(text: &[u8]) {
     }
 }
 
-fn longer(text: &mut [u8], n: usize)
-    requires { ⌜ n < length (now text) ⌝ }
-{
-    text[n] = 10;
-    let e = n + 1;
-    reads(b"it with a newline more", &text[0..e]);
+fn end_line(text: &mut [u8], n: usize) {
+    if n < text.len() {
+        text[n] = 10;
+    }
+}
+
+fn longer(text: &mut [u8], n: usize) {
+    end_line(text, n);
+    if n < text.len() {
+        let e = n + 1;
+        reads(b"it with a newline more", &text[0..e]);
+    }
 }
 
 fn all(text: &mut [u8], n: usize) {

@@ -66,13 +66,7 @@ fn hands_back<'a>(
     say::text(b"\n");
 }
 
-fn paging<'a>(
-    heap: &'a [u32],
-    table: &'a [u32],
-    roots: &'a [u32],
-    consts: &'a [u32],
-    c: Control,
-) {
+fn paging<'a>(heap: &'a [u32], table: &'a [u32], roots: &'a [u32], consts: &'a [u32], c: Control) {
     hands_back(heap, table, roots, consts, c, 0);
     hands_back(heap, table, roots, consts, c, 1);
     hands_back(heap, table, roots, consts, c, 2);
@@ -95,13 +89,7 @@ fn walks<'a>(
     say::text(b"\n");
 }
 
-fn walking<'a>(
-    heap: &'a [u32],
-    table: &'a [u32],
-    roots: &'a [u32],
-    consts: &'a [u32],
-    c: Control,
-) {
+fn walking<'a>(heap: &'a [u32], table: &'a [u32], roots: &'a [u32], consts: &'a [u32], c: Control) {
     walks(b"0", heap, table, roots, consts, c, 0, &[0u32; 0]);
     walks(b"0 by 0", heap, table, roots, consts, c, 0, &[0]);
     walks(b"0 by 1", heap, table, roots, consts, c, 0, &[1]);
@@ -213,7 +201,16 @@ fn looks() {
     paging(&heap, &table, &roots, &consts, c);
     walking(&heap, &table, &roots, &consts, c);
     heaps::poke(&mut roots, 0, 12);
-    walks(b"0, which is 12", &heap, &table, &roots, &consts, c, 0, &[0u32; 0]);
+    walks(
+        b"0, which is 12",
+        &heap,
+        &table,
+        &roots,
+        &consts,
+        c,
+        0,
+        &[0u32; 0],
+    );
 }
 
 fn changes() {

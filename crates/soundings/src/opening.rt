@@ -61,7 +61,14 @@ fn broken_page() {
     let mut table = [7u32; 256];
     let mut roots = [7u32; 2];
     let consts = [0u32; 0];
-    opens_not(b"40 words, P 16", &mut heap, &mut table, &mut roots, &consts, 4);
+    opens_not(
+        b"40 words, P 16",
+        &mut heap,
+        &mut table,
+        &mut roots,
+        &consts,
+        4,
+    );
 }
 
 fn long_table() {
@@ -69,7 +76,14 @@ fn long_table() {
     let mut table = [7u32; 257];
     let mut roots = [7u32; 2];
     let consts = [0u32; 0];
-    opens_not(b"a table of 257 words", &mut heap, &mut table, &mut roots, &consts, 4);
+    opens_not(
+        b"a table of 257 words",
+        &mut heap,
+        &mut table,
+        &mut roots,
+        &consts,
+        4,
+    );
 }
 
 fn many_roots() {
@@ -77,7 +91,14 @@ fn many_roots() {
     let mut table = [7u32; 256];
     let mut roots = [7u32; 1025];
     let consts = [0u32; 0];
-    opens_not(b"1,025 roots", &mut heap, &mut table, &mut roots, &consts, 4);
+    opens_not(
+        b"1,025 roots",
+        &mut heap,
+        &mut table,
+        &mut roots,
+        &consts,
+        4,
+    );
 }
 
 fn limits() {
@@ -123,10 +144,24 @@ fn two_pages() {
     let mut table = [7u32; 256];
     let mut roots = [7u32; 2];
     let consts = [0u32; 0];
-    let c = opens(b"P 16, N 2, two roots", &mut heap, &mut table, &mut roots, &consts, 4);
+    let c = opens(
+        b"P 16, N 2, two roots",
+        &mut heap,
+        &mut table,
+        &mut roots,
+        &consts,
+        4,
+    );
     let one = pushes(b"push: ", &mut heap, &mut table, &roots, &consts, c);
     let two = pushes(b"push again: ", &mut heap, &mut table, &roots, &consts, one);
-    pushes_not(b"push with no page left: ", &mut heap, &mut table, &roots, &consts, two);
+    pushes_not(
+        b"push with no page left: ",
+        &mut heap,
+        &mut table,
+        &roots,
+        &consts,
+        two,
+    );
 }
 
 fn full() {
@@ -135,7 +170,14 @@ fn full() {
     let mut roots = [0u32; 1];
     let consts = [0u32; 0];
     let c = heaps::with_regions(&mut heap, &mut table, &mut roots, &consts, 4, 64);
-    pushes_not(b"push with 64 regions, a page free: ", &mut heap, &mut table, &roots, &consts, c);
+    pushes_not(
+        b"push with 64 regions, a page free: ",
+        &mut heap,
+        &mut table,
+        &roots,
+        &consts,
+        c,
+    );
 }
 
 pub fn soundings() {

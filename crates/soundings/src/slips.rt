@@ -15,7 +15,16 @@ fn full_page(
     c: Control,
 ) -> heaps::Kept {
     let y = heaps::stored(heap, table, roots, consts, c, 1, Kind::Record, &[1]);
-    let x = heaps::stored(heap, table, roots, consts, y.c, 0, Kind::Record, &[y.word, 1, 1, 1, 1, 1, 1, 1, 1, 1, 1, 1, 1]);
+    let x = heaps::stored(
+        heap,
+        table,
+        roots,
+        consts,
+        y.c,
+        0,
+        Kind::Record,
+        &[y.word, 1, 1, 1, 1, 1, 1, 1, 1, 1, 1, 1, 1],
+    );
     let d = heaps::assigned(heap, table, roots, consts, x.c, y.word, x.word);
     heaps::Kept { word: x.word, c: d }
 }
@@ -28,7 +37,14 @@ fn page_end() {
     let c = heaps::with_regions(&mut heap, &mut table, &mut roots, &consts, 4, 2);
     let x = full_page(&mut heap, &mut table, &roots, &consts, c);
     let d = heaps::rooted(&heap, &table, &mut roots, &consts, x.c, 0, x.word);
-    collects(b"a page that ends full", &mut heap, &mut table, &mut roots, &consts, d);
+    collects(
+        b"a page that ends full",
+        &mut heap,
+        &mut table,
+        &mut roots,
+        &consts,
+        d,
+    );
 }
 
 // Two numbers' records in region 0: the one that a record of region 1 names is handed back.
@@ -52,9 +68,25 @@ fn scanned() {
     let consts = [0u32; 0];
     let c = heaps::with_regions(&mut heap, &mut table, &mut roots, &consts, 4, 2);
     let y = leaves(&mut heap, &mut table, &roots, &consts, c);
-    let x = heaps::stored(&mut heap, &mut table, &roots, &consts, y.c, 0, Kind::Record, &[y.word, 8]);
+    let x = heaps::stored(
+        &mut heap,
+        &mut table,
+        &roots,
+        &consts,
+        y.c,
+        0,
+        Kind::Record,
+        &[y.word, 8],
+    );
     let d = heaps::rooted(&heap, &table, &mut roots, &consts, x.c, 0, x.word);
-    collects(b"a region met while it is scanned", &mut heap, &mut table, &mut roots, &consts, d);
+    collects(
+        b"a region met while it is scanned",
+        &mut heap,
+        &mut table,
+        &mut roots,
+        &consts,
+        d,
+    );
 }
 
 // The words of a raw value are the pointers to itself, to its last word and past the heap.
@@ -64,9 +96,25 @@ fn raw_words() {
     let mut roots = [0u32; 1];
     let consts = [0u32; 0];
     let c = heaps::with_regions(&mut heap, &mut table, &mut roots, &consts, 4, 1);
-    let x = heaps::stored(&mut heap, &mut table, &roots, &consts, c, 0, Kind::Raw, &[8, 20, 4000]);
+    let x = heaps::stored(
+        &mut heap,
+        &mut table,
+        &roots,
+        &consts,
+        c,
+        0,
+        Kind::Raw,
+        &[8, 20, 4000],
+    );
     let d = heaps::rooted(&heap, &table, &mut roots, &consts, x.c, 0, x.word);
-    collects(b"raw words 8 20 4000", &mut heap, &mut table, &mut roots, &consts, d);
+    collects(
+        b"raw words 8 20 4000",
+        &mut heap,
+        &mut table,
+        &mut roots,
+        &consts,
+        d,
+    );
 }
 
 fn forwards() {
@@ -75,7 +123,14 @@ fn forwards() {
     let mut roots = [0u32; 4];
     let consts = [0u32; 0];
     let c = heaps::four(&mut heap, &mut table, &mut roots, &consts);
-    collects(b"with a page too few", &mut heap, &mut table, &mut roots, &consts, c);
+    collects(
+        b"with a page too few",
+        &mut heap,
+        &mut table,
+        &mut roots,
+        &consts,
+        c,
+    );
 }
 
 fn more_pages() {

@@ -57,11 +57,29 @@ fn stores_not(
 // What is refused while pages are left: 5 comes before 8, and 8 before 7.
 fn lengths(heap: &mut [u32], table: &mut [u32], roots: &[u32], consts: &[u32], c: Control) {
     stores_not(b"14 words", heap, table, roots, consts, c, 0, &[1u32; 14]);
-    stores_not(b"14 words in region 1 of 1", heap, table, roots, consts, c, 1, &[1u32; 14]);
+    stores_not(
+        b"14 words in region 1 of 1",
+        heap,
+        table,
+        roots,
+        consts,
+        c,
+        1,
+        &[1u32; 14],
+    );
 }
 
 fn bad_words(heap: &mut [u32], table: &mut [u32], roots: &[u32], consts: &[u32], c: Control) {
-    stores_not(b"a record of 4", heap, table, roots, consts, c, 0, &[4u32; 1]);
+    stores_not(
+        b"a record of 4",
+        heap,
+        table,
+        roots,
+        consts,
+        c,
+        0,
+        &[4u32; 1],
+    );
     stores_not(b"14 words 4", heap, table, roots, consts, c, 0, &[4u32; 14]);
 }
 
@@ -72,22 +90,75 @@ fn first_two(
     consts: &[u32],
     c: Control,
 ) -> Control {
-    let a = stores(b"13 words", heap, table, roots, consts, c, Kind::Record, &[1u32; 13]);
-    stores(b"no words", heap, table, roots, consts, a, Kind::Record, &[1u32; 0])
+    let a = stores(
+        b"13 words",
+        heap,
+        table,
+        roots,
+        consts,
+        c,
+        Kind::Record,
+        &[1u32; 13],
+    );
+    stores(
+        b"no words",
+        heap,
+        table,
+        roots,
+        consts,
+        a,
+        Kind::Record,
+        &[1u32; 0],
+    )
 }
 
 fn last_page(heap: &mut [u32], table: &mut [u32], roots: &[u32], consts: &[u32], c: Control) {
-    let d = stores(b"13 words again", heap, table, roots, consts, c, Kind::Record, &[1u32; 13]);
-    stores_not(b"no words, no page left", heap, table, roots, consts, d, 0, &[1u32; 0]);
+    let d = stores(
+        b"13 words again",
+        heap,
+        table,
+        roots,
+        consts,
+        c,
+        Kind::Record,
+        &[1u32; 13],
+    );
+    stores_not(
+        b"no words, no page left",
+        heap,
+        table,
+        roots,
+        consts,
+        d,
+        0,
+        &[1u32; 0],
+    );
+}
+
+fn last_two(heap: &mut [u32], table: &mut [u32], roots: &[u32], consts: &[u32], c: Control) {
+    let d = stores(
+        b"raw words 4 8",
+        heap,
+        table,
+        roots,
+        consts,
+        c,
+        Kind::Raw,
+        &[4, 8],
+    );
+    last_page(heap, table, roots, consts, d);
+}
+
+fn refusals(heap: &mut [u32], table: &mut [u32], roots: &[u32], consts: &[u32], c: Control) {
+    lengths(heap, table, roots, consts, c);
+    bad_words(heap, table, roots, consts, c);
 }
 
 // Three pages, one region.
 fn three_pages(heap: &mut [u32], table: &mut [u32], roots: &[u32], consts: &[u32], c: Control) {
     let a = first_two(heap, table, roots, consts, c);
-    lengths(heap, table, roots, consts, a);
-    bad_words(heap, table, roots, consts, a);
-    let b = stores(b"raw words 4 8", heap, table, roots, consts, a, Kind::Raw, &[4, 8]);
-    last_page(heap, table, roots, consts, b);
+    refusals(heap, table, roots, consts, a);
+    last_two(heap, table, roots, consts, a);
 }
 
 fn broken_row() {
@@ -97,7 +168,16 @@ fn broken_row() {
     let consts = [0u32; 0];
     let c = heaps::with_regions(&mut heap, &mut table, &mut roots, &consts, 4, 1);
     heaps::poke(&mut table, 2, 1);
-    stores_not(b"where a is 1", &mut heap, &mut table, &roots, &consts, c, 0, &[1]);
+    stores_not(
+        b"where a is 1",
+        &mut heap,
+        &mut table,
+        &roots,
+        &consts,
+        c,
+        0,
+        &[1],
+    );
 }
 
 fn values() {
