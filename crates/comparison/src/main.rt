@@ -87,7 +87,7 @@ fn samples_compared() {
     let mut sums = [0u32; 32];
     let mut made = [0u32; 16];
     let mut living = [0u32; 16];
-    all_samples(2000, &mut sums, &mut made, &mut living);
+    all_samples(4000, &mut sums, &mut made, &mut living);
     report::samples(&sums, &made, &living);
 }
 

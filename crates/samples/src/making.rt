@@ -313,7 +313,7 @@ fn steps(
     let mut now = s;
     let mut left: u32 = 40000;
     while 0 < left {
-        if left < 39970 {
+        if left < 39988 {
             if now.c.count <= keep {
                 return now;
             }

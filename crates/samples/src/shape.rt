@@ -37,11 +37,11 @@ fn most_pages(n: u32) -> u32
 fn pages_for(x: u32, n: u32) -> u32 {
     let y = next(x);
     let class = below(x, 16);
-    if class < 8 {
+    if class < 4 {
         return 2 + below(y, 14);
     }
     if class < 14 {
-        return 2 + below(y, 126);
+        return 8 + below(y, 120);
     }
     if class < 15 {
         return 2 + below(y, most_pages(n) - 1);
@@ -56,7 +56,7 @@ fn regions_for(x: u32) -> u32 {
         return below(y, 2);
     }
     if class < 6 {
-        return 1 + below(y, 6);
+        return 1 + below(y, 4);
     }
     if class == 6 {
         return 1 + below(y, 20);
@@ -64,13 +64,13 @@ fn regions_for(x: u32) -> u32 {
     64
 }
 
-// Half of the samples are left with a few free pages only.
+// A quarter of the samples are left with few free pages.
 fn keep_for(x: u32, pages: u32, regions: u32) -> u32 {
     let y = next(x);
-    if below(x, 2) == 0 {
-        return below(y, pages);
+    if below(x, 4) == 0 {
+        return below(y, 2 * (regions % 65) + 3);
     }
-    below(y, 2 * (regions % 65) + 3)
+    below(y, pages)
 }
 
 fn roots_for(x: u32) -> u32 {
