@@ -71,13 +71,17 @@ fn fields(heap: &[u32], tally: &mut [u32], a: usize, m: usize)
     }
 }
 
+fn length(tally: &mut [u32], header: usize) {
+    if header < 8 {
+        add(tally, 4, 1);
+    }
+}
+
 // The value at a, whose header this is.
 fn value(heap: &[u32], tally: &mut [u32], a: usize, header: usize)
     requires { ⌜ (a < 4294967296) × (header < 4294967296) ⌝ }
 {
-    if header < 8 {
-        add(tally, 4, 1);
-    }
+    length(tally, header);
     if header % 8 == 1 {
         add(tally, 2, 1);
         fields(heap, tally, a, header / 8);

@@ -100,17 +100,21 @@ fn constant(x: u32) -> u32 {
     34
 }
 
-// The first words of the buffer become words for fields, or words of any kind, some of which look like pointers.
+// A word for a field, or any word: it may look like a pointer.
+fn value_word(pool: &[u32], x: u32, pointers: u32, any: bool) -> u32 {
+    if any {
+        return x / 16;
+    }
+    word_for(pool, x, pointers)
+}
+
+// The first words of the buffer become words for a value.
 fn fill_words(words: &mut [u32], pool: &[u32], x: u32, pointers: u32, any: bool, m: usize) -> u32 {
     let mut y = x;
     let mut i: usize = 0;
     while i < m {
         y = next(y);
-        if any {
-            set(words, i, (y / 16) as usize);
-        } else {
-            set(words, i, word_for(pool, y, pointers) as usize);
-        }
+        set(words, i, wide(value_word(pool, y, pointers, any)));
         i += 1;
     }
     y
@@ -218,7 +222,8 @@ fn one_value(
     let m = length_for(table, y, j, s.c.n);
     let any = below(next(y), 4) == 0;
     let z = fill_words(words, pool, y, pointers, any, m);
-    let at = Stand { x: z, c: s.c };
+    let c = s.c;
+    let at = Stand { x: z, c: c };
     store_words(
         heap,
         table,
@@ -287,7 +292,8 @@ fn one_step(
     pointers: u32,
 ) -> Stand {
     let x = next(s.x);
-    let at = Stand { x: x, c: s.c };
+    let c = s.c;
+    let at = Stand { x: x, c: c };
     let class = below(x, 8);
     if class < 6 {
         return one_value(heap, table, roots, consts, pool, words, at, pointers);
