@@ -80,14 +80,19 @@ fn lost(sums: &mut [u32], pages: u32) {
     add(sums, 19, 1);
 }
 
-fn finished(sums: &mut [u32], c: Control, after: Control) {
-    add(sums, 1, 1);
+fn moved(sums: &mut [u32], c: Control, after: Control) {
     if c.count < after.count {
         gained(sums, after.count - c.count);
+        return;
     }
     if after.count < c.count {
         lost(sums, c.count - after.count);
     }
+}
+
+fn finished(sums: &mut [u32], c: Control, after: Control) {
+    add(sums, 1, 1);
+    moved(sums, c, after);
 }
 
 fn refused(sums: &mut [u32], why: Refusal, c: Control) {
