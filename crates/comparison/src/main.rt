@@ -4,19 +4,42 @@ mod files;
 mod report;
 mod trial;
 
-use samples::census;
+use rules::Control;
 use samples::chance;
 use samples::making::make;
 use samples::shape::Shape;
 use samples::shape::shape_of;
 use trial::both;
 
-// Records of a number and of the first two, a raw "Sh", a record of no words.
-fn constants() -> [u32; 10] {
-    [9, 7, 19, 83, 104, 17, 2, 10, 1, 0]
+fn made(
+    heap: &mut [u32],
+    table: &mut [u32],
+    roots: &mut [u32],
+    consts: &[u32],
+    x: u32,
+    shape: Shape,
+) -> Control {
+    let mut pool = [1u32; 64];
+    let mut words = [0u32; 253];
+    make(heap, table, roots, consts, &mut pool, &mut words, x, shape)
 }
 
-// Makes the sample and collects it twice.
+// The sample collected twice.
+fn tried(
+    heap: &mut [u32],
+    table: &mut [u32],
+    roots: &mut [u32],
+    consts: &[u32],
+    c: Control,
+    sums: &mut [u32],
+    living: &mut [u32],
+) {
+    let compared = both(heap, table, roots, consts, c);
+    let answer = compared.answer;
+    counts::ended(sums, answer, c, compared.agree);
+    counts::left(sums, living, heap, table, roots, consts, answer);
+}
+
 fn collected(
     heap: &mut [u32],
     table: &mut [u32],
@@ -24,22 +47,18 @@ fn collected(
     x: u32,
     shape: Shape,
     sums: &mut [u32],
-    made: &mut [u32],
+    before: &mut [u32],
     living: &mut [u32],
 ) {
-    let consts = constants();
-    let mut pool = [1u32; 64];
-    let mut words = [0u32; 253];
-    let c = make(heap, table, roots, &consts, &mut pool, &mut words, x, shape);
-    counts::made(sums, made, heap, roots, c);
-    let compared = both(heap, table, roots, &consts, c);
-    let answer = compared.answer;
-    counts::ended(sums, answer, c, compared.agree);
-    counts::left(sums, living, heap, table, roots, &consts, answer);
+    // records of a number and of the first two, a raw "Sh", a record of no words
+    let consts = [9u32, 7, 19, 83, 104, 17, 2, 10, 1, 0];
+    let c = made(heap, table, roots, &consts, x, shape);
+    counts::made(sums, before, heap, roots, c);
+    tried(heap, table, roots, &consts, c, sums, living);
 }
 
 // Lends the sample parts of its lengths.
-fn sample(i: u32, sums: &mut [u32], made: &mut [u32], living: &mut [u32]) {
+fn sample(i: u32, sums: &mut [u32], before: &mut [u32], living: &mut [u32]) {
     let mut heap = [0u32; 65536];
     let mut table = [0u32; 256];
     let mut roots = [0u32; 1024];
@@ -60,15 +79,15 @@ fn sample(i: u32, sums: &mut [u32], made: &mut [u32], living: &mut [u32]) {
         x,
         shape,
         sums,
-        made,
+        before,
         living,
     );
 }
 
-fn all_samples(most: u32, sums: &mut [u32], made: &mut [u32], living: &mut [u32]) {
+fn all_samples(most: u32, sums: &mut [u32], before: &mut [u32], living: &mut [u32]) {
     let mut i: u32 = 0;
     while i < most {
-        sample(i, sums, made, living);
+        sample(i, sums, before, living);
         i += 1;
     }
 }
@@ -85,10 +104,10 @@ fn all_images(sums: &mut [u32]) {
 
 fn samples_compared() {
     let mut sums = [0u32; 32];
-    let mut made = [0u32; 16];
+    let mut before = [0u32; 16];
     let mut living = [0u32; 16];
-    all_samples(4000, &mut sums, &mut made, &mut living);
-    report::samples(&sums, &made, &living);
+    all_samples(4000, &mut sums, &mut before, &mut living);
+    report::samples(&sums, &before, &living);
 }
 
 fn images_compared() {
