@@ -14,9 +14,9 @@ use Rattle.rules.specs.Memory.{Store}
 use Rattle.rules.specs.Pages.{Run, begun}
 use Rattle.rules.specs.Collection.{finished, freshen, evacuateAll, workStack, ending, collected}
 use Rattle.rules.specs.Refusals.{refused}
-use Rattle.facts.specs.View.{root}
+use Rattle.rules.specs.Seen.{root}
 use Rattle.facts.proofs.Sound.{Sound}
-use Rattle.working.specs.Unbounded.{freshenFor, unbounded}
+use Rattle.rules.specs.Wanted.{freshenFor, unbounded}
 use Rattle.working.proofs.Wanting.{follows-some, ends-finished, fresh-follows, roots-follow, stack-ends}
 use Rattle.working.proofs.Fresh.{Fresh, fresh-start}
 use Rattle.working.proofs.Roots.{rel-grows, AllBecame}

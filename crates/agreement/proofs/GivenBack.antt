@@ -25,7 +25,8 @@ use Rattle.working.proofs.Invariant.{Ghost, Inv}
 use Rattle.motion.specs.Leaves.{Desk, desk, low, freeFirst, taken, freeLast, given, pageStart}
 use Rattle.motion.specs.Whole.{giveOn, giveBack as giveDesk, linkOn, giveChain, giveAll}
 use Rattle.agreement.proofs.Matching.{Matching}
-use Rattle.agreement.proofs.Walked.{steps-keep, along-all, one-page, clear-else, first-link}
+use Rattle.facts.proofs.Cleared.{one-page, clear-else, first-link}
+use Rattle.agreement.proofs.Walked.{steps-keep, along-all}
 
 -- ---- one page, both ways: it is the only free page, or it follows page z
 

@@ -23,7 +23,7 @@ use Rattle.rules.specs.Pages.{Run, withHeap, store}
 use Rattle.rules.specs.Pages as Q
 use Rattle.rules.specs.Collection.{regionAt, evacuateAt, moveTo, wake}
 use Rattle.rules.proofs.Chains.{page-of}
-use Rattle.facts.specs.View.{seen, Reached}
+use Rattle.rules.specs.Seen.{seen, Reached}
 use Rattle.facts.proofs.Steps.{steps-le}
 use Rattle.facts.proofs.Laid.{old, mine, old≢spare, old≢mine, old≢beyond, mine≢beyond}
 use Rattle.facts.proofs.Copied.{to, went}

@@ -19,7 +19,8 @@ use Rattle.working.proofs.Invariant.{Ghost, Inv}
 use Rattle.motion.specs.Leaves.{Desk}
 use Rattle.motion.specs.Whole.{own, ownChain, ownAll}
 use Rattle.agreement.proofs.Matching.{Matching}
-use Rattle.agreement.proofs.Walked.{steps-keep, along-all, one-page, first-link, From, Before, from-split, before-none, from-none}
+use Rattle.facts.proofs.Cleared.{one-page, first-link}
+use Rattle.agreement.proofs.Walked.{steps-keep, along-all, From, Before, from-split, before-none, from-none}
 
 module _ (s : Store) (S : Sound s) (g : Ghost) (r : Run) (I : Inv s S g r) (d : Desk) (M : Matching s S g r d) where
   abbrev n : ℕ

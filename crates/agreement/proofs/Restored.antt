@@ -32,7 +32,8 @@ use Rattle.motion.specs.Leaves.{Desk}
 use Rattle.motion.specs.Whole.{undoOf, undoTurn, undoVals, undoPage, undoChain, undoHeaders}
 use Rattle.agreement.proofs.Matching.{Matching}
 use Rattle.agreement.proofs.Stuck.{Stuck}
-use Rattle.agreement.proofs.Walked.{steps-keep, along-all, one-page, first-link, From, Before, from-split, before-none, from-none}
+use Rattle.facts.proofs.Cleared.{one-page, first-link}
+use Rattle.agreement.proofs.Walked.{steps-keep, along-all, From, Before, from-split, before-none, from-none}
 
 -- ---- headers and forwards as numbers
 

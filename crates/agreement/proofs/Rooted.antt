@@ -17,7 +17,7 @@ use Rattle.rules.specs.Memory.{Store}
 use Rattle.rules.specs.Pages.{Run}
 use Rattle.rules.specs.Collection.{evacuate, evacuateAll}
 use Rattle.rules.proofs.Pointers.{is-number}
-use Rattle.facts.specs.View.{seen, Reached}
+use Rattle.rules.specs.Seen.{seen, Reached}
 use Rattle.facts.proofs.Steps.{steps-le}
 use Rattle.facts.proofs.Copied.{to, Rel, num, stay, went}
 use Rattle.facts.proofs.Sound.{Good, Sound}

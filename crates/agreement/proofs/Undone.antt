@@ -22,7 +22,8 @@ use Rattle.motion.specs.Leaves.{Desk, taken}
 use Rattle.motion.specs.Whole.{undoHeaders, relink, relinkAll, undo, lacking}
 use Rattle.agreement.proofs.Matching.{Matching}
 use Rattle.agreement.proofs.Stuck.{Stuck}
-use Rattle.agreement.proofs.Walked.{along-front, one-page, clear-length, clear-else, clear-in}
+use Rattle.facts.proofs.Cleared.{one-page, clear-length, clear-else, clear-in}
+use Rattle.agreement.proofs.Walked.{along-front}
 use Rattle.agreement.proofs.Restored.{headers-back, old-back}
 
 once-front : (ks ms : List ℕ) → Once (ks ++ ms) → Once ks

@@ -1,21 +1,15 @@
 -- What a loop over numbers or along links keeps: if each turn keeps a fact about what is left to do, then the fact holds at the end, with
 -- nothing left. Each is one recursion.
 use Prim.Native.Nat.{ℕ, zero, suc, _+_, _-_, _*_, _/_, _^_, _≤_, _<_}
-use native.Mathlib.Nat.{le-refl, mul-div-left}
 use native.Mathlib.Omega.{arith}
 use native.Mathlib.Decide.{ℕ-discrete}
 use mathlib.Core.Path.{_≡_, refl, sym, ap, _∙_, subst}
 use mathlib.Core.Logic.{_≢_, _⊎_, inl, inr}
 use mathlib.Core.List.{List, [], _∷_, _++_, List·Memᴰ, List·Memᴰ·head, List·Memᴰ·tail}
-use lib.ListN.{length, replicate, length-replicate, getD-replicate}
+use lib.ListN.{length}
 use borrow.Author.Tests.{lt-ltb}
-use Rattle.laws.specs.Lists.{at}
 use Rattle.laws.specs.Each.{steps, along}
-use Rattle.laws.proofs.Lists.{apart, length-put, at-put-in}
 use Rattle.laws.proofs.Once.{Linked, linked-none, linked-first}
-use Rattle.rules.specs.Memory.{firstOf, firstLink}
-use Rattle.rules.specs.Pages.{clearPage}
-use Rattle.facts.proofs.Laid.{put-elsewhere}
 
 module _ {S : Type 0} where
   -- numbers: `Good x s` is that the numbers below x are done
@@ -49,45 +43,6 @@ module _ {S : Type 0} where
         let v = turn k ks s i in
         let rest = along-all f ks (l k) (g k s) (u .1) (λ y p. small y (List·Memᴰ·tail p)) (omega arith) (v .1) in
         rw (u .0, along, lt-ltb k m (small k (List·Memᴰ·head refl)), v .0) rest
-
--- ---- pages
-
--- no word is in two pages
-pub one-page : (n k l x : ℕ) → k ≢ l → k * 2 ^ n ≤ x → x < k * 2 ^ n + 2 ^ n → l * 2 ^ n ≤ x → x < l * 2 ^ n + 2 ^ n → ⊥
-one-page n k l x ne a b c d = go (apart (2 ^ n) k l ne)
-  where
-    go : (k * 2 ^ n + 2 ^ n ≤ l * 2 ^ n) ⊎ (l * 2 ^ n + 2 ^ n ≤ k * 2 ^ n) → ⊥
-    go (inl q) = omega arith
-    go (inr q) = omega arith
-
-module _ (n : ℕ) (h : List ℕ) (k : ℕ) (inside : k * 2 ^ n + 2 ^ n ≤ length h) where
-  abbrev Z : List ℕ
-  Z = replicate (2 ^ n) 0
-
-  len-Z : length Z ≡ 2 ^ n
-  len-Z = length-replicate {A = ℕ} (2 ^ n) 0
-
-  fits : k * 2 ^ n + length Z ≤ length h
-  fits = let b = len-Z in omega arith
-
-  pub clear-length : length (clearPage n h k) ≡ length h
-  unfolding clearPage
-  clear-length = length-put h (k * 2 ^ n) Z fits
-
-  pub clear-else : (l x : ℕ) → l ≢ k → l * 2 ^ n ≤ x → x < l * 2 ^ n + 2 ^ n → at (clearPage n h k) x ≡ at h x
-  unfolding clearPage
-  clear-else l x ne p q = put-elsewhere n h k (k * 2 ^ n) Z l x fits (le-refl _) (let e = len-Z in omega arith) ne p q
-
-  pub clear-in : (x : ℕ) → k * 2 ^ n ≤ x → x < k * 2 ^ n + 2 ^ n → at (clearPage n h k) x ≡ 0
-  unfolding clearPage
-  clear-in x p q =
-      let e : k * 2 ^ n + (x - k * 2 ^ n) ≡ x = omega arith in
-      let len = len-Z in
-      ap (at (clearPage n h k)) (sym e) ∙ at-put-in h (k * 2 ^ n) Z (x - k * 2 ^ n) fits (omega arith) ∙ getD-replicate {A = ℕ} (2 ^ n) (x - k * 2 ^ n) 0 0 (omega arith)
-
--- the link to a region's first page
-pub first-link : (n : ℕ) (t : List ℕ) (j k : ℕ) → 16 ≤ 2 ^ n → firstOf t j ≡ k * 2 ^ n → firstLink n t j ≡ suc k
-first-link n t j k big e = ap suc (ap (λ x. x / 2 ^ n) e ∙ mul-div-left k {n = 2 ^ n} (omega arith))
 
 -- ---- the pages of many regions
 

@@ -14,7 +14,7 @@ use Rattle.rules.specs.Memory.{Store}
 use Rattle.rules.specs.Pages.{Run, withHeap}
 use Rattle.rules.specs.Collection.{evacuateAt, evacuate}
 use Rattle.rules.proofs.Pointers.{pointer, pointer-is}
-use Rattle.facts.specs.View.{seen, Reached}
+use Rattle.rules.specs.Seen.{seen, Reached}
 use Rattle.facts.proofs.Copied.{num, stay}
 use Rattle.facts.proofs.Sound.{Good, a-number, to-heap, to-const, Sound}
 use Rattle.working.proofs.Invariant.{Ghost, Inv, later-refl, Became}

@@ -13,7 +13,7 @@ use Rattle.laws.specs.Lists.{at}
 use Rattle.rules.specs.declared.Refusal.{Refusal}
 use Rattle.rules.specs.Words.{wordOf, isRecord}
 use Rattle.rules.specs.Calls.{headerIn, fieldsIn, isThere, isNumber, Walked, ends, stops, stepInto, walkFrom}
-use Rattle.facts.specs.View.{View, whole, ofRecord, masked, readValue, readBy, path, reading, Reached, root, field}
+use Rattle.rules.specs.Seen.{View, whole, ofRecord, masked, readValue, readBy, path, reading, Reached, root, field}
 
 -- two values alike: header and length are one; a record's fields are related, a raw value's words are the same
 pub record Alike (R : ℕ → ℕ → Type 0) (x y : List ℕ) : Type 0 where

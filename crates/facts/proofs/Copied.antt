@@ -10,7 +10,7 @@ use lib.ListN.{length}
 use Rattle.laws.specs.Lists.{at}
 use Rattle.rules.specs.Words.{wordOf}
 use Rattle.rules.specs.Calls.{isNumber}
-use Rattle.facts.specs.View.{View, Reached}
+use Rattle.rules.specs.Seen.{View, Reached}
 use Rattle.facts.proofs.Alike.{Alike, Same, reached-like}
 
 -- a value of the pointer old now has the pointer new

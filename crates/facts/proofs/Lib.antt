@@ -1,5 +1,6 @@
 pub mod Steps
 pub mod Laid
+pub mod Cleared
 pub mod Looked
 pub mod Alike
 pub mod Copied
@@ -12,3 +13,4 @@ pub mod Passing
 pub mod Given
 pub mod Observing
 pub mod Framed
+pub mod Judged

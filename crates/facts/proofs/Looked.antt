@@ -17,7 +17,7 @@ use Rattle.rules.specs.Words.{Word, number, inHeap, inConst, wordOf, headOf, pa
 use Rattle.rules.specs.Calls.{lookIn, isNumber}
 pub use Rattle.rules.proofs.Pointers.{pointer, pointer-is, words-of}
 use Rattle.rules.proofs.Chains.{length-page, at-page, page-of}
-use Rattle.facts.specs.View.{homeIn, seen}
+use Rattle.rules.specs.Seen.{homeIn, seen}
 use Rattle.facts.proofs.Steps.{Stands, Steps, steps-le, Holds, stands-to}
 use Rattle.facts.proofs.Copied.{Plain}
 

@@ -27,6 +27,7 @@ use Rattle.facts.proofs.Steps.{Stands, Steps, Holds}
 use Rattle.facts.proofs.Laid.{mine-inj, spare≢mine, spare≢beyond, mine≢beyond, Owner, spare, beyond, mine, Body, Clean, Layout}
 use Rattle.facts.proofs.Filled.{steps-end, filled-steps, filled-rest, fields-in}
 use Rattle.facts.proofs.Goods.{page-ends, body-holds, body-ends, good-of, const-of}
+use Rattle.rules.proofs.Limits as Limits
 use Rattle.facts.proofs.Sound.{Within, Good, Constants, Chained, in-free, in-region, Sound}
 
 -- ---- the rules, each by itself
@@ -97,22 +98,7 @@ owner-spare (suc i) e = spare≢mine e refl
 -- ---- the limits
 
 pub within-of : (s : Store) → withinLimits s ≡ true → Within s
-unfolding limits
-within-of s l =
-    let (l₇, k₁) = both l in
-    let (l₆, r₁) = both l₇ in
-    let (l₅, t₁) = both l₆ in
-    let (l₄, h₁) = both l₅ in
-    let (l₃, w₂) = both l₄ in
-    let (l₂, w₁) = both l₃ in
-    let (n₄, n₈) = both l₂ in
-    record {
-      paged = record { low = leb-true _ _ n₄; high = leb-true _ _ n₈; size = leb-true _ _ h₁; whole = eqb-true _ _ w₁ };
-      two = leb-true _ _ w₂;
-      table = eqb-true _ _ t₁;
-      roots = leb-true _ _ r₁;
-      consts = leb-true _ _ k₁;
-    }
+within-of s l = Limits.within _ _ _ _ _ l
 
 -- ---- 8, which asks for the constants alone
 

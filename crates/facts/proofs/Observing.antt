@@ -15,8 +15,7 @@ use Rattle.rules.specs.declared.Valued.{Valued}
 use Rattle.rules.specs.Memory.{Store}
 use Rattle.rules.specs.Audit.{usedBy}
 use Rattle.rules.specs.Calls.{lookIn, Walked, ends, stops, walkFrom, walkSays, walk, fetch, usedWords}
-use Rattle.facts.specs.View.{seen, readBy, path, reading}
-use Rattle.facts.specs.Observed.{readAt, Meet}
+use Rattle.rules.specs.Seen.{seen, readBy, path, reading, readAt, Meet}
 use Rattle.facts.proofs.Alike.{MeetIn}
 use Rattle.facts.proofs.Sound.{Passes}
 

@@ -28,6 +28,7 @@ use Rattle.facts.proofs.Steps.{steps-le, Holds}
 use Rattle.facts.proofs.Laid.{spare≢beyond, mine≢beyond, Body}
 use Rattle.facts.proofs.Filled.{vals-used, filled-of, fields-of}
 use Rattle.facts.proofs.Goods.{page-ends, body-holds, body-ends, of-good, of-const}
+use Rattle.facts.proofs.Cleared.{first-link}
 use Rattle.facts.proofs.Sound.{Within, Chained, in-free, in-region, Sound, Passes}
 use Rattle.facts.proofs.Means.{Rules, sound-of}
 
@@ -65,8 +66,8 @@ module _ (s : Store) (S : Sound s) where
 
   -- ---- the chains are those that the facts name
 
-  first-page : (j : ℕ) (b : j < R) → firstLink n (s .table) j ≡ suc (S .laid .mine-links j b .0)
-  first-page j b = ap suc (ap (λ x. x / 2 ^ n) (S .laid .mine-links j b .1) ∙ mul-div-left (S .laid .mine-links j b .0) {n = 2 ^ n} (let g = S .laid .big in omega arith))
+  pub first-page : (j : ℕ) (b : j < R) → firstLink n (s .table) j ≡ suc (S .laid .mine-links j b .0)
+  first-page j b = first-link n (s .table) j (S .laid .mine-links j b .0) (S .laid .big) (S .laid .mine-links j b .1)
 
   chain-is : (j : ℕ) → j < R → (chain N n (s .heap) (firstLink n (s .table) j) ≡ S .pages j) × (chainEnd N n (s .heap) (firstLink n (s .table) j) ≡ 0)
   chain-is j b =

@@ -12,17 +12,14 @@ use Rattle.rules.specs.Words.{number, inHeap, inConst, wordOf, isRecord}
 use Rattle.rules.specs.Pages.{begun}
 use Rattle.rules.specs.Audit.{brokenRule}
 use Rattle.rules.specs.Refusals.{Paged, withinLimits, commonTest}
+use Rattle.rules.proofs.Limits as Limits
 use Rattle.facts.proofs.Steps.{Stands, Steps, steps-le}
 use Rattle.facts.proofs.Laid.{mine-inj, spare≢mine, Owner, spare, mine, last-in, Layout}
 
 -- ---- Lengths and n within their limits.
 
-pub record Within (s : Store) : Type 0 where
-  pub paged : Paged (s .ctl .n) (length (s .heap))
-  pub two : 2 * 2 ^ s .ctl .n ≤ length (s .heap)
-  pub table : length (s .table) ≡ 256
-  pub roots : length (s .roots) ≤ 1024
-  pub consts : length (s .consts) ≤ 65535
+abbrev pub Within : Store → Type 0
+Within s = Limits.Within (s .ctl .n) (length (s .heap)) (length (s .table)) (length (s .roots)) (length (s .consts))
 
 -- ---- Good pointers.
 

@@ -8,9 +8,7 @@ use native.Mathlib.Omega.{arith}
 use native.Mathlib.Numerals.{sub-one}
 use lib.Dec.{eqb, eqb·zero-suc, eqb·suc-suc}
 use lib.ListN.{length, getD}
-use lib.Seq.{slice, take-length}
 use Rattle.laws.specs.Lists.{all, allFrom}
-use Rattle.laws.proofs.Tests.{and-yes}
 use Rattle.rules.specs.declared.Region.{Region}
 use Rattle.rules.specs.Memory.{origin, originRegion, addressPage, chain, regionPages}
 use Rattle.rules.specs.Words.{wordOf, pointerAddress, valsIn, fieldsPass, goodIn}
@@ -32,10 +30,6 @@ Records g n h t m j = allFrom (λ i. all (pagePass g n h) (regionPages n h t i))
 pub page-records : (g : ℕ → Bool) (n N : ℕ) (h : List ℕ) (e : N ≡ length h / 2 ^ n) (f k p : ℕ) → p ≡ 2 ^ n → (r : Bool) (b : ℕ) → b ≡ (k - 1) * 2 ^ n → 0 < f → (k ≡ 0 → ⊥) → k ≤ N
     → (all (pagePass g n h) (chain f n h k) && r) ≡ (all (fieldsPass g) (valsIn h (b + 2) (b + p)) && (all (pagePass g n h) (chain (f - 1) n h (getD h b 0)) && r))
 page-records g n N h e f k p qp r b q l z c = pages-go n N h e f k (pagePass g n h) r b q l z c ∙ rw (q, qp, ← page-vals n h (k - 1))
-
--- all words of a list
-pub words-all : (p : ℕ → Bool) (h : List ℕ) → (all p (slice 0 (length h) h) && true) ≡ all p h
-words-all p h = rw (take-length h) (and-yes _)
 
 -- ---- pointing into region j
 

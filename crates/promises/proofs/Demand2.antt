@@ -1,34 +1,46 @@
 -- Demand 2, of the definitions. "A finished collection leaves exactly the words that document 01 works out. It is refused for pages exactly when
--- that working needs more than the free list has. The due answer and used words are document 01's sums. Numbers read back as they were written."
+-- that working needs more than the free list has. The due answer and used words are document 01's sums. Numbers and images
+-- read back as they were written."
 -- (What a collection leaves is the definition `collect`; that the code leaves it is the code's contract.)
-use Prim.Native.Nat.{ℕ, suc, _+_, _*_, _^_, _<_}
+use Prim.Native.Nat.{ℕ, suc, _+_, _*_, _^_, _≤_, _<_}
+use native.Mathlib.Omega.{arith}
 use mathlib.Core.Path.{_≡_, refl, sym, ap, _∙_}
-use mathlib.Core.Logic.{_↔_}
+use mathlib.Core.Logic.{_↔_, _⊎_, inl, inr}
 use mathlib.Core.Bool.{Bool, true, false}
 use mathlib.Core.List.{List, [], _∷_, map}
-use lib.ListN.{length}
+use lib.ListN.{length, take}
 use lib.IntN.{ℤ}
 use lib.Dec.{ltb}
 use borrow.Author.Tests.{ltb-true, lt-ltb}
 use Rattle.laws.specs.Sums.{sumOver}
+use Rattle.rules.specs.declared.Control.{Control}
 use Rattle.rules.specs.declared.Refusal.{Refusal}
 use Rattle.rules.specs.declared.Plain.{Plain}
 use Rattle.rules.specs.declared.Valued.{Valued}
 use Rattle.rules.specs.declared.Told.{Told}
+use Rattle.rules.specs.declared.Opened.{Opened}
 use Rattle.rules.specs.declared.Worded.{Worded}
 use Rattle.rules.specs.declared.Numbered.{Numbered}
 use Rattle.rules.specs.Memory.{Store, pageCount, regionPages}
 use Rattle.rules.specs.Words.{Val, pageVals, usedOf}
 use Rattle.rules.specs.Audit.{usedOn, usedBy}
-use Rattle.rules.specs.Refusals.{refused, withinLimits, commonTest}
+use Rattle.rules.specs.Refusals.{Outcome, outcome, refused, leaving, withinLimits, commonTest}
 use Rattle.rules.specs.Calls.{wordOfNumber, numberOfWord, audit, due, usedWords}
-use Rattle.rules.specs.Collection.{collect}
-use Rattle.facts.proofs.Sound.{Passes}
+use Rattle.rules.specs.Pages.{Run}
+use Rattle.rules.specs.Collection.{fromSpace, collected, collect}
+use Rattle.rules.specs.Image.{writeImage, readImage}
+use Rattle.rules.specs.Wanted.{wanted}
+use Rattle.facts.proofs.Sound.{Sound, Passes}
 use Rattle.facts.proofs.Passing.{audit-yes, meaning}
 use Rattle.facts.proofs.Observing.{used-is}
-use Rattle.working.specs.Unbounded.{wanted}
-use Rattle.working.proofs.Refused.{refused-wants}
+use Rattle.working.proofs.Running.{Ran, Refusing}
+use Rattle.working.proofs.Ending.{left-store}
+use Rattle.working.proofs.Refused.{refused-wants, done-pages}
+use Rattle.working.proofs.Collecting.{run-ends}
+use Rattle.promises.specs.Left.{leftPlain}
+use Rattle.promises.specs.Texts.{Words32, storeLeft}
 use Rattle.promises.proofs.NumbersBack.{number-back, word-back}
+use Rattle.promises.proofs.Images.{written-reads-back, read-writes-back}
 
 -- the sum of a list of numbers
 abbrev pub sum : List ℕ → ℕ
@@ -41,6 +53,10 @@ wordsOn s k = map (λ (v : Val). suc (length (v .words))) (pageVals (s .ctl .n) 
 pub record Demand2 : Type 0 where
   -- a collection of a heap that passes is refused 4 exactly when its working, had it as many pages as it wants, takes more than are free
   pub lacks : (s : Store) → audit s ≡ Plain.Done (s .ctl) → (collect s ≡ refused s Refusal.NoPage) ↔ (s .ctl .count < wanted s)
+  -- one that finishes took from the free list the pages that its working wants, the regions then have just these, and what the regions had went
+  -- back to the list
+  pub finishes : (s s′ : Store) → audit s ≡ Plain.Done (s .ctl) → collect s ≡ leaving s′
+      → (wanted s ≤ s .ctl .count) × (length (fromSpace s′) ≡ wanted s) × (s′ .ctl .count + wanted s ≡ s .ctl .count + length (fromSpace s))
   -- a collection is due exactly when 3 times the free count is below N
   pub dues : (s : Store) → withinLimits s ≡ true → commonTest s ≡ true
       → (b : Bool) × (due s ≡ Told.Done b (s .ctl)) × ((b ≡ true) ↔ (3 * s .ctl .count < pageCount (s .ctl .n) (s .heap)))
@@ -50,6 +66,13 @@ pub record Demand2 : Type 0 where
   -- numbers read back as they were written, and 32-bit words too
   pub numbers : (i : ℤ) (w : ℕ) → wordOfNumber i ≡ Worded.Done w → numberOfWord w ≡ Numbered.Done i
   pub words : (w : ℕ) (i : ℤ) → w < 2 ^ 32 → numberOfWord w ≡ Numbered.Done i → wordOfNumber i ≡ Worded.Done w
+  -- images read back as they were written, into parts of the image's lengths; and what was read is written as it was
+  pub images : (s : Store) (bytes : List ℕ) (m : ℕ) (c : Control) → Words32 s → writeImage s bytes .answer ≡ Valued.Done m c
+      → (heap table roots consts : List ℕ) → length heap ≡ length (s .heap) → length table ≡ length (s .table) → length roots ≡ length (s .roots) → length consts ≡ length (s .consts)
+      → readImage (take m (writeImage s bytes .bytes)) heap table roots consts ≡ outcome (Opened.Done (s .ctl)) (s .heap) (s .table) (s .roots) (s .consts)
+  pub texts : (text heap table roots consts : List ℕ) (c : Control) → readImage text heap table roots consts .answer ≡ Opened.Done c
+      → (bytes : List ℕ) (m : ℕ) (d : Control) → writeImage (storeLeft (readImage text heap table roots consts) c) bytes .answer ≡ Valued.Done m d
+      → take m (writeImage (storeLeft (readImage text heap table roots consts) c) bytes .bytes) ≡ text
 
 -- the words that values take, as a sum
 used-sum : (vs : List Val) → usedOf vs ≡ sum (map (λ (v : Val). suc (length (v .words))) vs)
@@ -77,5 +100,30 @@ using-words : (s : Store) → audit s ≡ Plain.Done (s .ctl) → (j : ℕ) → 
 unfolding usedBy
 using-words s e j b = used-is s (audit-yes s .0 e) j b ∙ ap (λ u. Valued.Done u (s .ctl)) (used-pages s (regionPages (s .ctl .n) (s .heap) (s .table) j))
 
+finishing : (s s′ : Store) → audit s ≡ Plain.Done (s .ctl) → collect s ≡ leaving s′
+    → (wanted s ≤ s .ctl .count) × (length (fromSpace s′) ≡ wanted s) × (s′ .ctl .count + wanted s ≡ s .ctl .count + length (fromSpace s))
+unfolding collect
+finishing s s′ e f = go (run-ends s S)
+  where
+    p : Passes s
+    p = audit-yes s .0 e
+
+    S : Sound s
+    S = meaning s .0 p
+
+    is : collected s ≡ leaving s′
+    is = rw (p .limits, p .common, p .unbroken) at f
+
+    go : ((collected s ≡ refused s Refusal.NoPage) × Refusing s S) ⊎ ((roots : List ℕ) × (r : Run) × (A : Ran s S roots r) × (collected s ≡ leaving (left-store s S roots r A)))
+        → (wanted s ≤ s .ctl .count) × (length (fromSpace s′) ≡ wanted s) × (s′ .ctl .count + wanted s ≡ s .ctl .count + length (fromSpace s))
+    go (inl u) =
+        let q = ap (λ (o : Outcome Plain). o .answer) (sym (u .0) ∙ is) in
+        let z : _≡_ {A = ℕ} 0 1 = cc in
+        absurd (omega arith)
+    go (inr u) =
+        let q : left-store s S (u .0) (u .1) (u .2) ≡ s′ = ap leftPlain (sym (u .3) ∙ is) in
+        let t = rw q at (done-pages s S (u .0) (u .1) (u .2)) in
+        (t .enough, sym (t .taken), t .left)
+
 pub demand2 : Demand2
-demand2 = record { lacks = lacking; dues = dueing; uses = using-words; numbers = number-back; words = word-back }
+demand2 = record { lacks = lacking; finishes = finishing; dues = dueing; uses = using-words; numbers = number-back; words = word-back; images = written-reads-back; texts = read-writes-back }

@@ -16,15 +16,17 @@ use Rattle.rules.specs.declared.Valued.{Valued}
 use Rattle.rules.specs.declared.Opened.{Opened}
 use Rattle.rules.specs.Memory.{Store, lent}
 use Rattle.rules.specs.Audit.{rule8}
-use Rattle.rules.specs.Refusals.{refused}
+use Rattle.rules.specs.Refusals.{refused, leaving}
 use Rattle.rules.specs.Calls.{setUp, walk, audit, usedWords}
-use Rattle.rules.specs.Collection.{collect}
-use Rattle.facts.specs.View.{homeIn, seen, Reached}
-use Rattle.facts.specs.Observed.{readAt, Meet, wordsAt}
-use Rattle.facts.specs.Observed as Observed
-use Rattle.facts.proofs.Passing.{audit-yes}
-use Rattle.working.proofs.Collecting.{leaving, theorem3}
-use Rattle.working.specs.Unbounded.{wanted, Pages}
+use Rattle.rules.specs.Collection.{collected, collect}
+use Rattle.rules.specs.Seen.{homeIn, seen, Reached, readValue, readAt, Meet, wordsAt}
+use Rattle.rules.proofs.Seen.{Alike, reading-tells}
+use Rattle.rules.specs.Pages.{Run}
+use Rattle.facts.proofs.Sound.{Sound, Passes}
+use Rattle.facts.proofs.Passing.{meaning, audit-yes}
+use Rattle.working.proofs.Running.{Ran, Refusing}
+use Rattle.working.proofs.Ending.{left-store}
+use Rattle.working.proofs.Collecting.{passes′, live, live-once, live-exactly, left-counts, never-more, left-reads, left-meets, run-ends}
 use Rattle.promises.specs.Run.{Call, run, fresh}
 use Rattle.promises.proofs.Keeps.{fresh-run-passes}
 
@@ -49,32 +51,48 @@ pub record Finished (s s′ : Store) : Type 0 where
 pub record Demand3 : Type 0 where
   -- a collection of a heap that passes is refused 4, with all as it was, or finishes, and nothing else
   pub collection : (s : Store) → audit s ≡ Plain.Done (s .ctl) → (collect s ≡ refused s Refusal.NoPage) ⊎ ((s′ : Store) × (collect s ≡ leaving s′) × Finished s s′)
+  -- what equal readings of two values say: the same region, kind and length, the same numbers in the fields, the same raw words
+  pub reading : (home home′ : ℕ) (v v′ : List ℕ) → readValue home v ≡ readValue home′ v′ → Alike home home′ v v′
   -- 6. from a fresh heap whose constants keep rule 8, any run of calls, refused ones included, each given the same lent words and its own last
   -- record, leaves a heap that passes
   pub any-run : (n : ℕ) (heap table roots consts : List ℕ) (c : Control) → rule8 (lent heap table roots consts c) ≡ true
       → setUp n heap table roots consts .answer ≡ Opened.Done c → (calls : List Call)
       → audit (run calls (fresh n heap table roots consts c)) ≡ Plain.Done (run calls (fresh n heap table roots consts c) .ctl)
 
+-- what a run that is done leaves
+finished : (s : Store) (S : Sound s) (roots : List ℕ) (r : Run) (A : Ran s S roots r) → Finished s (left-store s S roots r A)
+finished s S roots r A = record {
+  passes = audit-yes _ .1 (passes′ s S roots r A);
+  reads = left-reads s S roots r A;
+  meets = left-meets s S roots r A;
+  live = live s S roots r A;
+  once = live-once s S roots r A;
+  exactly = live-exactly s S roots r A;
+  counts = left-counts s S roots r A;
+  never-more = never-more s S roots r A;
+}
+
+collecting : (s : Store) → audit s ≡ Plain.Done (s .ctl) → (collect s ≡ refused s Refusal.NoPage) ⊎ ((s′ : Store) × (collect s ≡ leaving s′) × Finished s s′)
+unfolding collect
+collecting s e = go (run-ends s S)
+  where
+    p : Passes s
+    p = audit-yes s .0 e
+
+    S : Sound s
+    S = meaning s .0 p
+
+    is : collect s ≡ collected s
+    is = rw (p .limits, p .common, p .unbroken)
+
+    go : ((collected s ≡ refused s Refusal.NoPage) × Refusing s S) ⊎ ((roots : List ℕ) × (r : Run) × (A : Ran s S roots r) × (collected s ≡ leaving (left-store s S roots r A)))
+        → (collect s ≡ refused s Refusal.NoPage) ⊎ ((s′ : Store) × (collect s ≡ leaving s′) × Finished s s′)
+    go (inl u) = inl (is ∙ u .0)
+    go (inr u) = inr (left-store s S (u .0) (u .1) (u .2), is ∙ u .3, finished s S (u .0) (u .1) (u .2))
+
 pub demand3 : Demand3
 demand3 = record {
-  collection = λ s e. go s (theorem3 s e);
+  collection = collecting;
+  reading = reading-tells;
   any-run = λ n heap table roots consts c t e calls. audit-yes _ .1 (fresh-run-passes n heap table roots consts c t e calls);
 }
-  where
-    finished : (s s′ : Store) → Observed.Demand3 s s′ → Finished s s′
-    finished s s′ d =
-        record {
-          passes = d .passes;
-          reads = d .reads;
-          meets = d .meets;
-          live = d .counted .live;
-          once = d .counted .once;
-          exactly = d .counted .exactly;
-          counts = d .counted .counts;
-          never-more = d .never-more;
-        }
-
-    go : (s : Store) → ((collect s ≡ refused s Refusal.NoPage) × (s .ctl .count < wanted s)) ⊎ ((s′ : Store) × (collect s ≡ leaving s′) × Observed.Demand3 s s′ × Pages s s′)
-        → (collect s ≡ refused s Refusal.NoPage) ⊎ ((s′ : Store) × (collect s ≡ leaving s′) × Finished s s′)
-    go s (inl u) = inl (u .0)
-    go s (inr u) = inr (u .0, u .1, finished s (u .0) (u .2))

@@ -12,15 +12,14 @@ use Rattle.rules.specs.declared.Refusal.{Refusal}
 use Rattle.rules.specs.declared.Opened.{Opened}
 use Rattle.rules.specs.Memory.{Store, lent, control, limits, pageCount}
 use Rattle.rules.specs.Audit.{rule8}
-use Rattle.rules.specs.Refusals.{refused}
+use Rattle.rules.specs.Refusals.{refused, leaving}
 use Rattle.rules.specs.Calls.{setUp}
 use Rattle.rules.specs.Collection.{collected, collect}
 use Rattle.facts.proofs.Means.{constants-of}
 use Rattle.facts.proofs.Passing.{meaning}
 use Rattle.facts.proofs.Sound.{Sound, Passes}
-use Rattle.facts.specs.Observed.{Demand3}
 use Rattle.working.proofs.Running.{Refusing}
-use Rattle.working.proofs.Collecting.{leaving, collects}
+use Rattle.working.proofs.Collecting.{collects}
 use Rattle.promises.specs.Left.{leftPlain}
 use Rattle.promises.specs.Run.{Call, aPush, aPop, aCollect, anAudit, aDue, anAllocate, aFetch, aFetchRefusal, anAssign, aSetRoot, aWalk, aUsedWords, aPage, aPageRefusal, aWordOfNumber, aNumberOfWord, aWriteImage, after, run, fresh}
 use Rattle.promises.proofs.KeepsGood.{audited-keeps}
@@ -51,7 +50,7 @@ pub collect-keeps : (s : Store) → Sound s → Sound (leftPlain (collect s))
 unfolding collect
 collect-keeps s S = audited-keeps (λ o. Sound (leftPlain o)) (refused s) s (collected s) (λ r. S) (λ l c b. go (collects s S))
   where
-    go : ((collected s ≡ refused s Refusal.NoPage) × Refusing s S) ⊎ ((s′ : Store) × (collected s ≡ leaving s′) × Sound s′ × Demand3 s s′) → Sound (leftPlain (collected s))
+    go : ((collected s ≡ refused s Refusal.NoPage) × Refusing s S) ⊎ ((s′ : Store) × (collected s ≡ leaving s′) × Sound s′) → Sound (leftPlain (collected s))
     go (inl u) = rw (u .0) S
     go (inr u) = rw (u .1) (u .2)
 

@@ -18,8 +18,7 @@ use Rattle.rules.specs.Memory.{Store}
 use Rattle.rules.specs.Words.{number, inHeap, inConst, wordOf, headOf, isRecord, valueAt, look}
 use Rattle.rules.specs.Refusals.{refused}
 use Rattle.rules.specs.Calls.{lookIn, headerIn, fieldsIn, isNumber, Walked, ends, walkSays, walk, pointsInto, letGo, popOn, popTop, pop}
-use Rattle.facts.specs.View.{homeIn, seen, path}
-use Rattle.facts.specs.Observed.{readAt}
+use Rattle.rules.specs.Seen.{homeIn, seen, path, readAt}
 use Rattle.facts.proofs.Steps.{Stands, Steps, steps-le}
 use Rattle.facts.proofs.Laid.{Body}
 use Rattle.facts.proofs.Framed.{below-end, value-kept}

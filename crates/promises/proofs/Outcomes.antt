@@ -25,17 +25,16 @@ use Rattle.rules.specs.declared.Numbered.{Numbered}
 use Rattle.rules.specs.Memory.{pageWords, Store, pageCount, row, endOf, topOf}
 use Rattle.rules.specs.Words.{Word, number, inHeap, inConst, wordOf, pointerAddress, isRecord, goodHeap, goodConst, goodIn}
 use Rattle.rules.specs.Audit.{goodWord}
-use Rattle.rules.specs.Refusals.{Outcome, outcome, refused, withinLimits, commonTest, unbroken}
+use Rattle.rules.specs.Refusals.{Outcome, outcome, refused, leaving, withinLimits, commonTest, unbroken}
 use Rattle.rules.specs.Pages.{Run, begun, takePage, room, place}
 use Rattle.rules.specs.Calls.{lookIn, headerIn, fieldsIn, wordOfNumber, numberOfWord, setUp, pushOn, push, popOn, popTop, pop, headerFor, allocateOn, allocateIn, allocate, fetch, isThere, fetchRefusal, assignAt, assignBy, assign, setRoot, ends, stops, isNumber, stepInto, walkFrom, walkSays, walk, audit, due, usedWords, pageByNumber, pageRefusal}
 use Rattle.rules.specs.Collection.{Ended, finished, lacksPage, unfinished, freshen, evacuateAll, workStack, leaves, ending, collected, collect}
 use Rattle.rules.specs.Image.{Written, writeText, writeImage, Frames, frames, malformed, readText, storeOf, sameLengths, readStore, readOn, readImage}
 use Rattle.rules.proofs.Limits.{admits}
-use Rattle.facts.specs.Observed.{Demand3}
 use Rattle.facts.proofs.Passing.{meaning}
 use Rattle.facts.proofs.Sound.{Sound}
 use Rattle.working.proofs.Running.{Refusing as LacksPage}
-use Rattle.working.proofs.Collecting.{leaving, collects}
+use Rattle.working.proofs.Collecting.{collects}
 use Rattle.promises.proofs.Ordered.{Lawful, is-done, tested, stopped, passed, after-admission, after-audit, onPlain, onValued, onOpened, onText, toPlain, toValued, toTold, toWorded, toNumbered}
 use Rattle.promises.specs.Order.{Test, test, numbers, whyPlain, whyValued, setUpTests, noPage, badLink, pushTests, popTests, allocateTests, fetchTests, isConst, assignTests, setRootTests, stepTests, stepNumbers, walkTests, auditTests, dueTests, usedTests, pageTests, lacks, collectTests, writeTests, isMalformed, faultLine, wordsOf, readTests, wordTests, numberTests}
 
@@ -351,7 +350,7 @@ collect-lawful s =
     (λ l c b. fresh (collects s (meaning s .0 (record { limits = l; common = c; unbroken = b }))) (freshen (s .ctl .n) (s .ctl .regions) 0 (begun s)) refl)
   where
     Ends : Sound s → Type 0
-    Ends S = ((collected s ≡ refused s Refusal.NoPage) × LacksPage s S) ⊎ ((s′ : Store) × (collected s ≡ leaving s′) × Sound s′ × Demand3 s s′)
+    Ends S = ((collected s ≡ refused s Refusal.NoPage) × LacksPage s S) ⊎ ((s′ : Store) × (collected s ≡ leaving s′) × Sound s′)
 
     none-left : lacks s ≡ true → collected s ≡ refused s Refusal.NoPage → Lawful (onPlain s) (test (lacks s) Refusal.NoPage ∷ []) (collected s)
     none-left e q = rw (e, q) (stopped (onPlain s) Refusal.NoPage [])

@@ -5,7 +5,7 @@ ghost use Prim.Native.Nat.{ℕ, suc};
 ghost use mathlib.Core.List.{List, _∷_};
 ghost use lib.ListN.{length, replicate, set};
 ghost use Rattle.laws.specs.Lists.{put, all};
-ghost use Rattle.rules.specs.Memory.{lent, pageCount, pageLink, pageEnd, bodyAddress, endOf, topOf, setEnd, setTop, setRow};
+ghost use Rattle.rules.specs.Memory.{lent, pageCount, pageLink, pageEnd, bodyAddress, endOf, setEnd, setTop};
 ghost use Rattle.rules.specs.Words.{goodIn};
 ghost use Rattle.rules.specs.Refusals.{Paged, outcome};
 ghost use Rattle.rules.specs.Calls.{dueAt, due as dueOf, push as pushOf, setUp, freshPages, rowFits, headerFor, wordsFit, allocateIn, allocate as allocateOf};
@@ -21,6 +21,11 @@ use pages::page_end;
 use pages::page_words;
 use pages::take_page;
 use pages::within_limits;
+use rows::end_of;
+use rows::set_end;
+use rows::set_row;
+use rows::set_top;
+use rows::top_of;
 use rules::Address;
 use rules::Control;
 use rules::Kind;
@@ -53,18 +58,6 @@ pub fn due(heap: &[u32], table: &[u32], roots: &[u32], consts: &[u32], c: Contro
         return Told::Refused(why, c);
     }
     Told::Done(due_at(c.count, page_count(heap.len(), c.n)), c)
-}
-
-// The four table words of region j.
-pub fn set_row(table: &mut [u32], j: Region, e: Address, fp: Address, a: Address, b: u32)
-    requires { ⌜ (length (now table) ≡ 256) × (j .0 < 64) × (e .0 ≤ 65536) × (fp .0 ≤ 65536) × (a .0 ≤ 65536) ⌝ }
-    ensures { λ _. ⌜ now (table .exit) ≡ setRow (now (table .entry)) (j .0) (e .0) (fp .0) (a .0) b ⌝ }
-{
-    let row = 4 * j.0;
-    table[row] = e.0 as u32;
-    table[row + 1] = fp.0 as u32;
-    table[row + 2] = a.0 as u32;
-    table[row + 3] = b;
 }
 
 // A region more, with one page.
@@ -146,42 +139,6 @@ pub fn set_up(
         last: last,
         count: pages as u32,
     })
-}
-
-// Region j's e.
-pub fn end_of(table: &[u32], j: Region) -> Address
-    requires { ⌜ (length (now table) ≡ 256) × (j .0 < 64) ⌝ }
-    ensures { λ r. ⌜ (r .0 ≡ endOf (now (table .entry)) (j .0)) × (r .0 < 2 ^ 32) ⌝ }
-{
-    let row = 4 * j.0;
-    Address(table[row] as usize)
-}
-
-// Region j's a.
-pub fn top_of(table: &[u32], j: Region) -> Address
-    requires { ⌜ (length (now table) ≡ 256) × (j .0 < 64) ⌝ }
-    ensures { λ r. ⌜ (r .0 ≡ topOf (now (table .entry)) (j .0)) × (r .0 < 2 ^ 32) ⌝ }
-{
-    let row = 4 * j.0;
-    Address(table[row + 2] as usize)
-}
-
-// Another e for region j.
-pub fn set_end(table: &mut [u32], j: Region, e: Address)
-    requires { ⌜ (length (now table) ≡ 256) × (j .0 < 64) × (e .0 ≤ 65536) ⌝ }
-    ensures { λ _. ⌜ now (table .exit) ≡ setEnd (now (table .entry)) (j .0) (e .0) ⌝ }
-{
-    let row = 4 * j.0;
-    table[row] = e.0 as u32;
-}
-
-// Another a for region j.
-pub fn set_top(table: &mut [u32], j: Region, a: Address)
-    requires { ⌜ (length (now table) ≡ 256) × (j .0 < 64) × (a .0 ≤ 65536) ⌝ }
-    ensures { λ _. ⌜ now (table .exit) ≡ setTop (now (table .entry)) (j .0) (a .0) ⌝ }
-{
-    let row = 4 * j.0;
-    table[row + 2] = a.0 as u32;
 }
 
 // Whether region j's e and a are fit for an allocation: e is a multiple of P from P to NP, a lies from e-P+2 to e.
@@ -312,7 +269,7 @@ fn put_value(
     if !link_fits(heap, k, c.n, c.count) {
         return Valued::Refused(Refusal::Broken(0), c);
     }
-    let taken = take_page(heap, k, j, c);
+    let rest = take_page(heap, k, j, c);
     join_page(heap, table, j, k, c.n);
     let body = body_address(k, c.n);
     store_value(heap, table, j, body, header, words);
@@ -321,9 +278,9 @@ fn put_value(
         Control {
             n: c.n,
             regions: c.regions,
-            first: taken.first,
-            last: taken.last,
-            count: taken.count,
+            first: rest.first,
+            last: rest.last,
+            count: rest.count,
         },
     )
 }

@@ -1,8 +1,8 @@
-// The rows of the region table, read by name, and the addresses of the pages that links name.
+// The rows of the region table, read and written by name, and the addresses of the pages that links name.
 ghost use mathlib.Core.Path.{_≡_};
 ghost use Prim.Native.Nat.{_+_, _-_, _*_, _/_, _^_, _≤_, _<_};
 ghost use lib.ListN.{length};
-ghost use Rattle.rules.specs.Memory.{pageAddress, linkPage, endOf, firstOf, topOf, statusOf, firstLink};
+ghost use Rattle.rules.specs.Memory.{pageAddress, linkPage, endOf, firstOf, topOf, statusOf, setEnd, setTop, setRow, firstLink};
 use rules::Address;
 use rules::Region;
 use rules::address_page;
@@ -40,6 +40,36 @@ pub fn status_of(table: &[u32], j: Region) -> u32
     ensures { λ r. ⌜ r ≡ statusOf (now (table .entry)) (j .0) ⌝ }
 {
     table[4 * j.0 + 3]
+}
+
+// Another e for region j.
+pub fn set_end(table: &mut [u32], j: Region, e: Address)
+    requires { ⌜ (length (now table) ≡ 256) × (j .0 < 64) × (e .0 ≤ 65536) ⌝ }
+    ensures { λ _. ⌜ now (table .exit) ≡ setEnd (now (table .entry)) (j .0) (e .0) ⌝ }
+{
+    let row = 4 * j.0;
+    table[row] = e.0 as u32;
+}
+
+// Another a for region j.
+pub fn set_top(table: &mut [u32], j: Region, a: Address)
+    requires { ⌜ (length (now table) ≡ 256) × (j .0 < 64) × (a .0 ≤ 65536) ⌝ }
+    ensures { λ _. ⌜ now (table .exit) ≡ setTop (now (table .entry)) (j .0) (a .0) ⌝ }
+{
+    let row = 4 * j.0;
+    table[row + 2] = a.0 as u32;
+}
+
+// The four table words of region j.
+pub fn set_row(table: &mut [u32], j: Region, e: Address, fp: Address, a: Address, b: u32)
+    requires { ⌜ (length (now table) ≡ 256) × (j .0 < 64) × (e .0 ≤ 65536) × (fp .0 ≤ 65536) × (a .0 ≤ 65536) ⌝ }
+    ensures { λ _. ⌜ now (table .exit) ≡ setRow (now (table .entry)) (j .0) (e .0) (fp .0) (a .0) b ⌝ }
+{
+    let row = 4 * j.0;
+    table[row] = e.0 as u32;
+    table[row + 1] = fp.0 as u32;
+    table[row + 2] = a.0 as u32;
+    table[row + 3] = b;
 }
 
 // The link to the region's first page.

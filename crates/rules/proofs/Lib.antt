@@ -14,3 +14,5 @@ pub mod Soundings
 pub mod Fresh
 pub mod Rows
 pub mod Pointers
+pub mod Seen
+pub mod Judged

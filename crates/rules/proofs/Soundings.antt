@@ -24,6 +24,7 @@ use Rattle.rules.specs.Pages.{linkFits, takePage, clearPage, giveBack, g
 use Rattle.rules.specs.Calls.{wordOfNumber, rowFits, allocateOn, allocateIn, allocate, audit, due}
 use Rattle.rules.specs.Collection.{freshen, wake, moveOn, moveTo, regionAt, evacuateAt, evacuate, evacuateAll, scanFields, scanValue, nextFrom, nextScan, work, workStack, leaves, ending, collected, collect}
 use Rattle.rules.specs.Image.{digitOf, hex, hexWords, frame, trim, pageFrames, imageText, valueOf, digits, words, endFrame, readWords, readFrame, trimmed, partFits, headFits, readFrames, layout, readText, joined, programFits, collectProgram}
+use Rattle.rules.specs.Wanted.{anyPage, freshenFor, roomFor, moveFor, evacuateAtFor, evacuateFor, rootsFor, fieldsFor, valueFor, workFor, stackFor, unbounded, wanted}
 
 -- ---- What a sounding is, and when it holds.
 
@@ -36,6 +37,8 @@ pub data Sounding : Type 0 where
   -- the heap passes the audit; its collection leaves the other heap, which passes too; or it is refused
   collectsTo : Store → Store → Sounding
   collectsNot : Store → ℕ → Sounding
+  -- its working wants so many pages
+  wants : Store → ℕ → Sounding
   -- numbers all 1, so many, allocated as a record in region 0: the pointer, or the refusal
   stores : Store → ℕ → ℕ → Sounding
   storesNot : Store → ℕ → ℕ → Sounding
@@ -99,6 +102,7 @@ holds (hasNone i k) = isNoWord k (wordOfNumber i)
 holds (prints text text′) = same (collectProgram (bytes text)) (bytes text′)
 holds (collectsTo s s′) = isDone (audit s) && leavesPassing s′ (collect s) (collect s .answer)
 holds (collectsNot s k) = isDone (audit s) && isRefusal k s (collect s) (collect s .answer)
+holds (wants s m) = eqb (wanted s) m
 holds (stores s m w) = isPointer w (allocate s 0 Kind.Record (ones m) .answer)
 holds (storesNot s m k) = isNoPointer k (allocate s 0 Kind.Record (ones m) .answer)
 holds (isDue s b) = saysDue b (due s)
@@ -166,6 +170,18 @@ deadAfter =
     heapOf (control 4 2 1 2 2) (48 ∷ 32 ∷ 34 ∷ 0 ∷ 64 ∷ 48 ∷ 50 ∷ []) (2 ∷ 7 ∷ []) (11 ∷ 1 ∷ [])
     ((2 ∷ []) ∷ [] ∷ (0 ∷ 1 ∷ []) ∷ (0 ∷ 2 ∷ []) ∷ [])
 
+-- two regions: a record of the first points into the second; behind it stands a dead value
+abbrev pub apart : Store
+apart =
+    heapOf (control 4 2 3 4 2) (16 ∷ 0 ∷ 6 ∷ 0 ∷ 32 ∷ 16 ∷ 20 ∷ []) (8 ∷ []) []
+    ((0 ∷ 1 ∷ 9 ∷ 72 ∷ 11 ∷ 5 ∷ []) ∷ (0 ∷ 2 ∷ 9 ∷ 7 ∷ []) ∷ (4 ∷ []) ∷ [] ∷ [])
+
+-- each live value in its region, the dead one gone
+abbrev pub apartAfter : Store
+apartAfter =
+    heapOf (control 4 2 1 2 2) (48 ∷ 32 ∷ 36 ∷ 0 ∷ 64 ∷ 48 ∷ 52 ∷ []) (136 ∷ []) []
+    ((2 ∷ []) ∷ [] ∷ (0 ∷ 1 ∷ 9 ∷ 200 ∷ []) ∷ (0 ∷ 2 ∷ 9 ∷ 7 ∷ []) ∷ [])
+
 -- N 128, with a free count
 abbrev pub board : ℕ → Store
 board count = lent (replicate 2048 0) (replicate 256 0) [] [] (control 4 0 1 128 count)
@@ -202,8 +218,13 @@ soundings =
     ∷ isDue (board 43) false
     -- "No live value: each region has one empty page."
     ∷ collectsTo dead deadAfter
+    -- beside the starred: values stay in their regions, and the pages that the workings above want
+    ∷ collectsTo apart apartAfter
+    ∷ wants four 3
+    ∷ wants fourTight 3
+    ∷ wants apart 2
     ∷ []
 
 pub soundings-hold : all holds soundings ≡ true
-unfolding put padded all allFrom zeros times lastOr same limits pageWords link origin chain chainEnd regionPages freePages pagesFrom wordOf headOf isRecord fit vals pageVals usedOf standsAt fieldsPass goodOn goodHeap goodConst goodIn ifLast rule2 opens endsWell lastLink rule3 endsAt topFits rule4 filled pageFilled rule5 rule6 rule7 constField rule8 clean rule9 firstFailing brokenRule common linkFits takePage clearPage giveBack giveBackAll join room store place rowFits allocateOn allocateIn allocate audit due freshen wake moveOn moveTo regionAt evacuateAt evacuate evacuateAll scanFields scanValue nextFrom nextScan work workStack leaves ending collected collect digitOf hex hexWords frame trim pageFrames imageText valueOf digits words endFrame readWords readFrame trimmed partFits headFits readFrames layout readText joined programFits collectProgram bytes
+unfolding put padded all allFrom zeros times lastOr same limits pageWords link origin chain chainEnd regionPages freePages pagesFrom wordOf headOf isRecord fit vals pageVals usedOf standsAt fieldsPass goodOn goodHeap goodConst goodIn ifLast rule2 opens endsWell lastLink rule3 endsAt topFits rule4 filled pageFilled rule5 rule6 rule7 constField rule8 clean rule9 firstFailing brokenRule common linkFits takePage clearPage giveBack giveBackAll join room store place rowFits allocateOn allocateIn allocate audit due freshen wake moveOn moveTo regionAt evacuateAt evacuate evacuateAll scanFields scanValue nextFrom nextScan work workStack leaves ending collected collect digitOf hex hexWords frame trim pageFrames imageText valueOf digits words endFrame readWords readFrame trimmed partFits headFits readFrames layout readText joined programFits collectProgram bytes anyPage freshenFor roomFor moveFor evacuateAtFor evacuateFor rootsFor fieldsFor valueFor workFor stackFor unbounded wanted
 soundings-hold = refl

@@ -6,3 +6,5 @@ pub mod Pages
 pub mod Calls
 pub mod Collection
 pub mod Image
+pub mod Seen
+pub mod Wanted

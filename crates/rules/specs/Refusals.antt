@@ -109,6 +109,10 @@ unchanged a s = outcome a (s .heap) (s .table) (s .roots) (s .consts)
 abbrev pub refused : Store → Refusal → Outcome Plain
 refused s r = unchanged (Plain.Refused r (s .ctl)) s
 
+-- done, and what is left is the store s
+abbrev pub leaving : Store → Outcome Plain
+leaving s = unchanged (Plain.Done (s .ctl)) s
+
 abbrev pub refusedValue : Store → Refusal → Outcome Valued
 refusedValue s r = unchanged (Valued.Refused r (s .ctl)) s
 

@@ -11,30 +11,26 @@ use Rattle.laws.specs.Lists.{at}
 use Rattle.laws.specs.Sums.{sumOver}
 use Rattle.laws.proofs.Once.{Once, once-none, once-more}
 use Rattle.rules.specs.declared.Refusal.{Refusal}
-use Rattle.rules.specs.declared.Plain.{Plain}
 use Rattle.rules.specs.declared.Valued.{Valued}
 use Rattle.rules.specs.Memory.{Store}
 use Rattle.rules.specs.Audit.{usedBy}
 use Rattle.rules.specs.Pages.{Run}
-use Rattle.rules.specs.Collection.{finished, leaves, ending, collected, collect}
-use Rattle.rules.specs.Calls.{audit}
-use Rattle.rules.specs.Refusals.{Outcome, outcome, refused}
-use Rattle.facts.specs.View.{homeIn, seen, Reached}
-use Rattle.facts.specs.Observed.{wordsAt, Counted, Demand3}
+use Rattle.rules.specs.Refusals.{refused, leaving}
+use Rattle.rules.specs.Calls.{walk, usedWords}
+use Rattle.rules.specs.Collection.{finished, leaves, ending, collected}
+use Rattle.rules.specs.Seen.{homeIn, seen, Reached, readAt, Meet, wordsAt}
 use Rattle.facts.proofs.Steps.{Stands, Steps}
-use Rattle.facts.proofs.Alike.{readings, meetings}
+use Rattle.facts.proofs.Alike.{Same, readings, meetings}
 use Rattle.facts.proofs.Copied.{Moved, to, Rel, copied-same, reached-moved}
 use Rattle.facts.proofs.Observing.{read-is, meet-is, used-is, used-known}
 use Rattle.facts.proofs.Sound.{Sound, Passes}
-use Rattle.facts.proofs.Passing.{meaning, audit-yes}
+use Rattle.facts.proofs.Passing.{meaning}
 use Rattle.working.proofs.Log.{pointers, olds, in-olds, olds-in}
 use Rattle.working.proofs.Invariant.{Kept}
 use Rattle.working.proofs.Evacuating.{of-pointers}
 use Rattle.working.proofs.Running.{Ran, Refusing, runs}
 use Rattle.working.proofs.Ending.{left-store, left-sound, left-filled}
 use Rattle.working.proofs.Views.{left-copied, home-before}
-use Rattle.working.specs.Unbounded.{wanted, Pages}
-use Rattle.working.proofs.Refused.{refusing-more, done-pages}
 use Rattle.working.proofs.Counting.{used-filled, used-bound}
 
 -- each pointer of the log is moved once
@@ -59,7 +55,7 @@ module _ (s : Store) (S : Sound s) (roots : List ℕ) (r : Run) (A : Ran s S roo
   abbrev s′ : Store
   s′ = left-store s S roots r A
 
-  abbrev live : List ℕ
+  abbrev pub live : List ℕ
   live = olds (pointers log)
 
   passes : Passes s
@@ -68,7 +64,7 @@ module _ (s : Store) (S : Sound s) (roots : List ℕ) (r : Run) (A : Ran s S roo
   pub passes′ : Passes s′
   passes′ = meaning s′ .1 (left-sound s S roots r A)
 
-  live-once : Once live
+  pub live-once : Once live
   live-once = once-pointers log (A .end .inv .logged .once)
 
   -- ---- used words
@@ -76,20 +72,14 @@ module _ (s : Store) (S : Sound s) (roots : List ℕ) (r : Run) (A : Ran s S roo
   used′ : (j : ℕ) → j < R → usedBy n (s′ .heap) (s′ .table) j ≡ sumOver (wordsAt (seen s) j) live
   used′ j jR = used-filled s′ (left-sound s S roots r A) j jR ∙ left-filled s S roots r A j ∙ A .end .inv .tallied j jR
 
-  exactly : (w : ℕ) → List·Memᴰ w live ↔ (Reached (seen s) (s .roots) w × (homeIn s w ≢ 0))
-  exactly w = (
+  pub live-exactly : (w : ℕ) → List·Memᴰ w live ↔ (Reached (seen s) (s .roots) w × (homeIn s w ≢ 0))
+  live-exactly w = (
     λ m. let t = in-olds (pointers log) m in let c = left-copied s S roots r A in (c .live (t .1), c .moving (t .1) .1),
     λ t. olds-in (reached-moved (seen s) (seen s′) (Kept s) (pointers log) (s .roots) roots (left-copied s S roots r A) (t .0) (t .1) .1),
   )
 
-  counted : Counted s s′
-  counted =
-      record {
-        live = live;
-        once = live-once;
-        exactly = exactly;
-        counts = λ j jR. used-is s′ passes′ j jR ∙ ap (λ u. Valued.Done u (s′ .ctl)) (used′ j jR);
-      }
+  pub left-counts : (j : ℕ) → j < R → usedWords s′ j ≡ Valued.Done (sumOver (wordsAt (seen s) j) live) (s′ .ctl)
+  left-counts j jR = used-is s′ passes′ j jR ∙ ap (λ u. Valued.Done u (s′ .ctl)) (used′ j jR)
 
   -- a live value is one of a region's pages, or counts nothing for the region
   where-live : (j : ℕ) → j < R → (w : ℕ) → List·Memᴰ w live
@@ -120,77 +110,52 @@ module _ (s : Store) (S : Sound s) (roots : List ℕ) (r : Run) (A : Ran s S roo
   pub never-raised : (j : ℕ) → j < R → usedBy n (s′ .heap) (s′ .table) j ≤ usedBy n (s .heap) (s .table) j
   never-raised j jR = let a = used-bound s S j jR live live-once (where-live j jR) in let b = used′ j jR in omega arith
 
-  -- ---- the demand
-  pub demand3 : Demand3 s s′
-  demand3 =
+  pub never-more : (j u u′ : ℕ) → usedWords s j ≡ Valued.Done u (s .ctl) → usedWords s′ j ≡ Valued.Done u′ (s′ .ctl) → u′ ≤ u
+  never-more j u u′ e e′ =
+      let a = used-known s passes j u e in
+      let b = used-known s′ passes′ j u′ e′ in
+      let c = never-raised j (a .0) in
+      let x = a .1 in
+      let y = b .1 in
+      omega arith
+
+  -- ---- paths
+
+  same : Same (seen s) (seen s′) (Rel (Kept s) (pointers log))
+  same = copied-same (seen s) (seen s′) (Kept s) (pointers log) (s .roots) roots (left-copied s S roots r A)
+
+  pub left-reads : (i : ℕ) (fs : List ℕ) → readAt s (walk s i fs) ≡ readAt s′ (walk s′ i fs)
+  left-reads i fs =
       let c = left-copied s S roots r A in
-      let same = copied-same (seen s) (seen s′) (Kept s) (pointers log) (s .roots) roots c in
-      record {
-        passes = audit-yes s′ .1 passes′;
-        reads = λ i fs.
-            read-is s passes i fs
-            ∙ readings (seen s) (seen s′) (Rel (Kept s) (pointers log)) same (s .roots) roots (c .count) (c .roots) i fs
-            ∙ sym (read-is s′ passes′ i fs);
-        meets = λ i fs j gs.
-            let m = meetings (seen s) (seen s′) (Rel (Kept s) (pointers log)) same (s .roots) roots (c .count) (c .roots) i fs j gs in
-            let p = meet-is s passes i fs j gs in
-            let q = meet-is s′ passes′ i fs j gs in
-            (λ x. q .1 (m .0 (p .0 x)), λ x. p .1 (m .1 (q .0 x)));
-        counted = counted;
-        never-more = λ j u u′ e e′.
-            let a = used-known s passes j u e in
-            let b = used-known s′ passes′ j u′ e′ in
-            let c = never-raised j (a .0) in
-            let x = a .1 in
-            let y = b .1 in
-            omega arith;
-      }
+      read-is s passes i fs
+      ∙ readings (seen s) (seen s′) (Rel (Kept s) (pointers log)) same (s .roots) roots (c .count) (c .roots) i fs
+      ∙ sym (read-is s′ passes′ i fs)
 
--- ---- the theorem
+  pub left-meets : (i : ℕ) (fs : List ℕ) (j : ℕ) (gs : List ℕ) → Meet s i fs j gs ↔ Meet s′ i fs j gs
+  left-meets i fs j gs =
+      let c = left-copied s S roots r A in
+      let m = meetings (seen s) (seen s′) (Rel (Kept s) (pointers log)) same (s .roots) roots (c .count) (c .roots) i fs j gs in
+      let p = meet-is s passes i fs j gs in
+      let q = meet-is s′ passes′ i fs j gs in
+      (λ x. q .1 (m .0 (p .0 x)), λ x. p .1 (m .1 (q .0 x)))
 
--- an outcome that is done and leaves s′
-abbrev pub leaving : Store → Outcome Plain
-leaving s = outcome (Plain.Done (s .ctl)) (s .heap) (s .table) (s .roots) (s .consts)
+-- ---- the four steps on a sound heap: refused for want of a page, or done
 
--- the four steps on a sound heap: refused for want of a page, or done
-pub collects : (s : Store) (S : Sound s)
-    → ((collected s ≡ refused s Refusal.NoPage) × Refusing s S) ⊎ ((s′ : Store) × (collected s ≡ leaving s′) × Sound s′ × Demand3 s s′)
+pub run-ends : (s : Store) (S : Sound s)
+    → ((collected s ≡ refused s Refusal.NoPage) × Refusing s S) ⊎ ((roots : List ℕ) × (r : Run) × (A : Ran s S roots r) × (collected s ≡ leaving (left-store s S roots r A)))
 unfolding ending leaves
-collects s S = go (runs s S)
+run-ends s S = go (runs s S)
   where
     go : ((collected s ≡ refused s Refusal.NoPage) × Refusing s S) ⊎ ((roots : List ℕ) × (r : Run) × (collected s ≡ ending s roots (finished r)) × Ran s S roots r)
-        → ((collected s ≡ refused s Refusal.NoPage) × Refusing s S) ⊎ ((s′ : Store) × (collected s ≡ leaving s′) × Sound s′ × Demand3 s s′)
+        → ((collected s ≡ refused s Refusal.NoPage) × Refusing s S) ⊎ ((roots : List ℕ) × (r : Run) × (A : Ran s S roots r) × (collected s ≡ leaving (left-store s S roots r A)))
     go (inl u) = inl u
-    go (inr u) =
-        let A = u .3 in
-        inr (left-store s S (u .0) (u .1) A, u .2, left-sound s S (u .0) (u .1) A, demand3 s S (u .0) (u .1) A)
+    go (inr u) = inr (u .0, u .1, u .3, u .2)
 
--- and with the pages that its working wants
-pub collects-pages : (s : Store) (S : Sound s)
-    → ((collected s ≡ refused s Refusal.NoPage) × (s .ctl .count < wanted s)) ⊎ ((s′ : Store) × (collected s ≡ leaving s′) × Demand3 s s′ × Pages s s′)
-unfolding ending leaves
-collects-pages s S = go (runs s S)
+pub collects : (s : Store) (S : Sound s)
+    → ((collected s ≡ refused s Refusal.NoPage) × Refusing s S) ⊎ ((s′ : Store) × (collected s ≡ leaving s′) × Sound s′)
+collects s S = go (run-ends s S)
   where
-    go : ((collected s ≡ refused s Refusal.NoPage) × Refusing s S) ⊎ ((roots : List ℕ) × (r : Run) × (collected s ≡ ending s roots (finished r)) × Ran s S roots r)
-        → ((collected s ≡ refused s Refusal.NoPage) × (s .ctl .count < wanted s)) ⊎ ((s′ : Store) × (collected s ≡ leaving s′) × Demand3 s s′ × Pages s s′)
-    go (inl u) = inl (u .0, refusing-more s S (u .1))
-    go (inr u) =
-        let A = u .3 in
-        inr (left-store s S (u .0) (u .1) A, u .2, demand3 s S (u .0) (u .1) A, done-pages s S (u .0) (u .1) A)
-
--- the call on a heap that the audit passes: refused, and then its working wants more pages than are free; or done, and then they are enough
-pub theorem3 : (s : Store) → audit s ≡ Plain.Done (s .ctl)
-    → ((collect s ≡ refused s Refusal.NoPage) × (s .ctl .count < wanted s)) ⊎ ((s′ : Store) × (collect s ≡ leaving s′) × Demand3 s s′ × Pages s s′)
-unfolding collect
-theorem3 s e = go (collects-pages s (meaning s .0 p))
-  where
-    p : Passes s
-    p = audit-yes s .0 e
-
-    is : collect s ≡ collected s
-    is = rw (p .limits, p .common, p .unbroken)
-
-    go : ((collected s ≡ refused s Refusal.NoPage) × (s .ctl .count < wanted s)) ⊎ ((s′ : Store) × (collected s ≡ leaving s′) × Demand3 s s′ × Pages s s′)
-        → ((collect s ≡ refused s Refusal.NoPage) × (s .ctl .count < wanted s)) ⊎ ((s′ : Store) × (collect s ≡ leaving s′) × Demand3 s s′ × Pages s s′)
-    go (inl u) = inl (is ∙ u .0, u .1)
-    go (inr u) = inr (u .0, is ∙ u .1, u .2, u .3)
+    go : ((collected s ≡ refused s Refusal.NoPage) × Refusing s S) ⊎ ((roots : List ℕ) × (r : Run) × (A : Ran s S roots r) × (collected s ≡ leaving (left-store s S roots r A)))
+        → ((collected s ≡ refused s Refusal.NoPage) × Refusing s S) ⊎ ((s′ : Store) × (collected s ≡ leaving s′) × Sound s′)
+    go (inl u) = inl u
+    go (inr u) = inr (left-store s S (u .0) (u .1) (u .2), u .3, left-sound s S (u .0) (u .1) (u .2))

@@ -13,8 +13,7 @@ use Rattle.laws.specs.Sums.{sumOver}
 use Rattle.laws.proofs.Once.{Last, last-in}
 use Rattle.rules.specs.Memory.{Store}
 use Rattle.rules.specs.Pages.{Run}
-use Rattle.facts.specs.View.{seen}
-use Rattle.facts.specs.Observed.{wordsAt}
+use Rattle.rules.specs.Seen.{seen, wordsAt}
 use Rattle.facts.proofs.Steps.{steps-le}
 use Rattle.facts.proofs.Laid.{Owner, spare}
 use Rattle.facts.proofs.Looked.{look-at, home-at}

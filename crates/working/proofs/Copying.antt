@@ -14,7 +14,7 @@ use Rattle.laws.proofs.Once.{Last, last-in, last-is}
 use Rattle.rules.specs.Memory.{Store, pageCount, topOf, statusOf}
 use Rattle.rules.specs.Pages.{Run, withHeap, store, room, place}
 use Rattle.rules.specs.Collection.{wake, moveOn, moveTo}
-use Rattle.facts.specs.View.{seen, Reached}
+use Rattle.rules.specs.Seen.{seen, Reached}
 use Rattle.facts.proofs.Steps.{Stands, Steps, steps-le}
 use Rattle.facts.proofs.Laid.{Owner, old, spare, mine, Layout, upd, upd-other}
 use Rattle.facts.proofs.Copied.{to}

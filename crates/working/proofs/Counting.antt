@@ -17,10 +17,9 @@ use Rattle.laws.proofs.Sums.{sum-append, once-sum}
 use Rattle.rules.specs.Memory.{Store}
 use Rattle.rules.specs.Words.{usedOf, pageVals}
 use Rattle.rules.specs.Audit.{usedOn, usedBy}
-use Rattle.facts.specs.View.{seen}
+use Rattle.rules.specs.Seen.{seen, wordsAt}
 use Rattle.facts.proofs.Steps.{Stands, Steps, here, over, steps-le, steps-then, apart}
 use Rattle.facts.proofs.Laid.{mine}
-use Rattle.facts.specs.Observed.{wordsAt}
 use Rattle.facts.proofs.Looked.{page-holds, page-ends, look-at, home-at}
 use Rattle.facts.proofs.Filled.{vals-used}
 use Rattle.facts.proofs.Framed.{below-end}

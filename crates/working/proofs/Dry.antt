@@ -11,7 +11,7 @@ use Rattle.rules.specs.Memory.{endOf, topOf, statusOf, setStatus}
 use Rattle.rules.specs.Words.{Word, number, inHeap, inConst, wordOf, Head, rec, raw, moved, wrong, headOf}
 use Rattle.rules.specs.Pages.{Scan, Run, withHeap, withTable, withStack, join, store}
 use Rattle.rules.specs.Collection.{wake, regionAt, nextScan}
-use Rattle.working.specs.Unbounded.{anyPage, freshRow, freshenFor, joined, roomFor, stored, forwarded, moveFor, evacuateAtFor, evacuateFor, rootsFor, fieldSet, fieldsFor, valueFor, workFor, stackFor}
+use Rattle.rules.specs.Wanted.{anyPage, freshRow, freshenFor, joined, roomFor, stored, forwarded, moveFor, evacuateAtFor, evacuateFor, rootsFor, fieldSet, fieldsFor, valueFor, workFor, stackFor}
 use Rattle.working.proofs.Taken.{takes-none}
 
 -- no page is free, and the heap has at least m words

@@ -19,7 +19,7 @@ use Rattle.rules.specs.Words.{Head, rec, raw, moved, wrong, headOf, lengthBy}
 use Rattle.rules.specs.Pages.{Run, room, place}
 use Rattle.rules.specs.Collection.{moveOn, moveTo, regionAt, evacuateAt, evacuate}
 use Rattle.rules.proofs.Chains.{page-of}
-use Rattle.facts.specs.View.{seen, Reached}
+use Rattle.rules.specs.Seen.{seen, Reached}
 use Rattle.facts.proofs.Steps.{steps-le}
 use Rattle.facts.proofs.Laid.{old}
 use Rattle.facts.proofs.Copied.{to, Rel, num, stay, went}
@@ -29,7 +29,7 @@ use Rattle.working.proofs.Owned.{old≢beyond}
 use Rattle.working.proofs.Log.{pointers}
 use Rattle.working.proofs.Placed.{Roomed}
 use Rattle.working.proofs.Moving.{still, still-whose}
-use Rattle.working.specs.Unbounded.{anyPage, joined, roomFor, moveFor, evacuateAtFor, evacuateFor}
+use Rattle.rules.specs.Wanted.{anyPage, joined, roomFor, moveFor, evacuateAtFor, evacuateFor}
 use Rattle.working.proofs.Dry.{Dry, page-dry, join-dry, forward-dry}
 use Rattle.working.proofs.Invariant.{lacking-on, Ghost, Kept, Inv, later-refl, Lacking, Became}
 use Rattle.working.proofs.Evacuating.{in-log, in-pointers, room-or}

@@ -17,7 +17,7 @@ use Rattle.facts.proofs.Laid.{Owner, old, spare, mine, Layout, upd, upd-same, u
 use Rattle.facts.proofs.Sound.{Sound}
 use Rattle.working.proofs.Owned.{old≢spare, old≢mine, spare≢mine, Owned, taken-owned}
 use Rattle.working.proofs.Taken.{taken, takes, takes-none, taken-laid, k-link, others}
-use Rattle.working.specs.Unbounded.{anyPage, freshRow, freshenFor}
+use Rattle.rules.specs.Wanted.{anyPage, freshRow, freshenFor}
 use Rattle.working.proofs.Wanting.{follows-some, page-follows}
 use Rattle.working.proofs.Dry.{Dry, page-dry, fresh-dry}
 use Rattle.working.proofs.Fresh.{row-width, row-else, row-end, row-first, row-top, row-status, Fresh}

@@ -14,10 +14,9 @@ use Rattle.laws.proofs.Once.{Once}
 use Rattle.rules.specs.Memory.{Store, pageCount, bodyAddress, endOf, topOf, statusOf}
 use Rattle.rules.specs.Words.{inConst, wordOf, rec, raw, headOf}
 use Rattle.rules.specs.Pages.{Scan, Run}
-use Rattle.facts.specs.View.{seen}
+use Rattle.rules.specs.Seen.{seen, wordsAt}
 use Rattle.facts.proofs.Laid.{Owner, old, Layout}
 use Rattle.facts.proofs.Copied.{Moved, to, Rel}
-use Rattle.facts.specs.Observed.{wordsAt}
 use Rattle.facts.proofs.Sound.{InConst, Sound}
 use Rattle.working.proofs.Owned.{Owned, total}
 use Rattle.working.proofs.Log.{pointers, olds, Log}

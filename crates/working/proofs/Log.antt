@@ -10,7 +10,7 @@ use mathlib.Core.Option.{none}
 use mathlib.Core.List.{List, [], _∷_, List·Memᴰ, List·Memᴰ·head, List·Memᴰ·tail, List·Memᴰ·cases-cons}
 use Rattle.rules.specs.Memory.{Store}
 use Rattle.laws.specs.Lists.{at}
-use Rattle.facts.specs.View.{seen, Reached}
+use Rattle.rules.specs.Seen.{seen, Reached}
 use Rattle.laws.proofs.Lists.{apart as pages-apart}
 use Rattle.facts.proofs.Steps.{Stands, Steps, steps-le, steps-same, stands-same, apart}
 use Rattle.laws.proofs.Once.{Once, once-more}

@@ -15,7 +15,7 @@ use Rattle.rules.specs.Collection.{finished, leaves, ending, collected, fromSpa
 use Rattle.rules.specs.Refusals.{Outcome, refused}
 use Rattle.facts.proofs.Sound.{Sound}
 use Rattle.facts.proofs.Passing.{pages-are}
-use Rattle.working.specs.Unbounded.{unbounded, wanted, Pages}
+use Rattle.rules.specs.Wanted.{unbounded, wanted}
 use Rattle.working.proofs.Owned.{total, total-same}
 use Rattle.working.proofs.Dry.{Dry}
 use Rattle.working.proofs.Running.{Refusing, few, out, Ran, runs}
@@ -103,6 +103,12 @@ module _ (s : Store) (S : Sound s) where
           absurd (omega arith)
 
 -- ---- the pages of a collection that is done
+
+-- what its working wanted are the pages that the regions then have; the free list has lost them, and got those that the regions had
+pub record Pages (s s′ : Store) : Type 0 where
+  pub taken : wanted s ≡ length (fromSpace s′)
+  pub enough : wanted s ≤ s .ctl .count
+  pub left : s′ .ctl .count + wanted s ≡ s .ctl .count + length (fromSpace s)
 
 pub done-pages : (s : Store) (S : Sound s) (roots : List ℕ) (r : Run) (A : Ran s S roots r) → Pages s (left-store s S roots r A)
 done-pages s S roots r A =

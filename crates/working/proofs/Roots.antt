@@ -11,14 +11,14 @@ use Rattle.laws.proofs.Once.{once-tail, once-head}
 use Rattle.rules.specs.Memory.{Store, pageCount, topOf}
 use Rattle.rules.specs.Pages.{Scan, Run, withStack}
 use Rattle.rules.specs.Collection.{finished, lacksPage, evacuate, evacuateAll, work, workStack}
-use Rattle.facts.specs.View.{seen, Reached}
+use Rattle.rules.specs.Seen.{seen, Reached}
 use Rattle.facts.proofs.Copied.{Moved, to, Rel, num, stay, went}
 use Rattle.facts.proofs.Sound.{Good, Sound}
 use Rattle.working.proofs.Owned.{total}
 use Rattle.working.proofs.Log.{pointers}
 use Rattle.working.proofs.Next.{headOr}
 use Rattle.working.proofs.Aside.{stack-laid}
-use Rattle.working.specs.Unbounded.{evacuateFor, rootsFor, workFor, stackFor}
+use Rattle.rules.specs.Wanted.{evacuateFor, rootsFor, workFor, stackFor}
 use Rattle.working.proofs.Wanting.{follows-some, evacuate-follows}
 use Rattle.working.proofs.Dry.{roots-dry}
 use Rattle.working.proofs.Invariant.{lacking-on, Ghost, Kept, regionsOf, Waits, Pending, Inv, Later, later-refl, later-trans, Lacking, Became, Enough}

@@ -14,7 +14,7 @@ use Rattle.rules.specs.Memory.{Store}
 use Rattle.rules.specs.Pages.{Run, begun}
 use Rattle.rules.specs.Collection.{finished, lacksPage, freshen, evacuateAll, workStack, ending, collected}
 use Rattle.rules.specs.Refusals.{refused}
-use Rattle.facts.specs.View.{root}
+use Rattle.rules.specs.Seen.{root}
 use Rattle.facts.proofs.Steps.{steps-le}
 use Rattle.facts.proofs.Laid.{mine}
 use Rattle.facts.proofs.Copied.{Rel}
@@ -22,7 +22,7 @@ use Rattle.facts.proofs.Sound.{Sound}
 use Rattle.working.proofs.Owned.{total}
 use Rattle.working.proofs.Log.{pointers, Log}
 use Rattle.working.proofs.Next.{Row, row-last, Vals, vals-none}
-use Rattle.working.specs.Unbounded.{freshenFor, rootsFor, stackFor, unbounded}
+use Rattle.rules.specs.Wanted.{freshenFor, rootsFor, stackFor, unbounded}
 use Rattle.working.proofs.Wanting.{follows-some, ends-finished, fresh-follows, roots-follow, stack-ends}
 use Rattle.working.proofs.Dry.{Dry, roots-dry, stack-dry}
 use Rattle.working.proofs.Invariant.{lacking-on, Ghost, Kept, Pending, Inv, Lacking}

@@ -16,14 +16,14 @@ use Rattle.rules.specs.Words.{rec, headOf, lengthBy, recordBy, isRecord}
 use Rattle.rules.specs.Pages.{Run, withHeap}
 use Rattle.rules.specs.Collection.{evacuate, scanFields}
 use Rattle.rules.specs.Calls.{lookIn, headerIn, fieldsIn}
-use Rattle.facts.specs.View.{seen, Reached, field}
+use Rattle.rules.specs.Seen.{seen, Reached, field}
 use Rattle.facts.proofs.Laid.{upd-same}
 use Rattle.facts.proofs.Copied.{to}
 use Rattle.facts.proofs.Looked.{look-at}
 use Rattle.facts.proofs.Sound.{Good, Sound}
 use Rattle.working.proofs.Owned.{old≢beyond}
 use Rattle.working.proofs.Log.{Copy}
-use Rattle.working.specs.Unbounded.{evacuateFor, fieldSet, fieldsFor}
+use Rattle.rules.specs.Wanted.{evacuateFor, fieldSet, fieldsFor}
 use Rattle.working.proofs.Wanting.{follows-some, evacuate-follows}
 use Rattle.working.proofs.Dry.{Dry, field-dry, fields-dry}
 use Rattle.working.proofs.Invariant.{lacking-on, Ghost, Kept, Inv, Later, later-trans, Lacking, Became}

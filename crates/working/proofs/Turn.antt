@@ -20,7 +20,7 @@ use Rattle.facts.proofs.Sound.{Sound}
 use Rattle.working.proofs.Owned.{mine-inj, total, total-tail}
 use Rattle.working.proofs.Next.{Row}
 use Rattle.working.proofs.Rows.{InRow, row-in, row-once, pages-differ}
-use Rattle.working.specs.Unbounded.{fieldsFor, valueFor}
+use Rattle.rules.specs.Wanted.{fieldsFor, valueFor}
 use Rattle.working.proofs.Invariant.{lacking-on, Ghost, Waits, Pending, Inv, Later, later-refl, Lacking}
 use Rattle.working.proofs.Scanning.{Ready, scans-fields}
 

@@ -14,7 +14,7 @@ use Rattle.rules.specs.Memory.{Store}
 use Rattle.rules.specs.Words.{wordOf, rec, raw, headOf, recordBy, isRecord, goodConst, valueAt, look}
 use Rattle.rules.specs.Pages.{Run}
 use Rattle.rules.specs.Calls.{lookIn, headerIn, isNumber}
-use Rattle.facts.specs.View.{homeIn, seen}
+use Rattle.rules.specs.Seen.{homeIn, seen}
 use Rattle.facts.proofs.Copied.{Moved, to, Rel, num, stay, OneValue, Copied}
 use Rattle.rules.proofs.Pointers.{pointer, words-of, record-head, raw-head}
 use Rattle.facts.proofs.Looked.{look-at, home-at, seen-plain}

@@ -13,7 +13,7 @@ use Rattle.rules.specs.Memory.{endOf, topOf, setStatus}
 use Rattle.rules.specs.Words.{Word, number, inHeap, inConst, wordOf, Head, rec, raw, moved, wrong, headOf}
 use Rattle.rules.specs.Pages.{Scan, Run, withTable, withStack, takePage, room, place}
 use Rattle.rules.specs.Collection.{Ended, finished, lacksPage, unfinished, freshen, moveOn, moveTo, regionAt, evacuateAt, evacuate, evacuateAll, scanFields, scanValue, nextScan, work, workStack}
-use Rattle.working.specs.Unbounded.{pageOr, anyPage, freshRow, freshenFor, roomFor, stored, moveFor, evacuateAtFor, evacuateFor, rootsFor, fieldSet, fieldsFor, valueFor, workFor, stackFor}
+use Rattle.rules.specs.Wanted.{pageOr, anyPage, freshRow, freshenFor, roomFor, stored, moveFor, evacuateAtFor, evacuateFor, rootsFor, fieldSet, fieldsFor, valueFor, workFor, stackFor}
 
 -- ---- as long as there are pages
 

@@ -25,7 +25,7 @@ use Rattle.working.proofs.Owned.{old≢beyond}
 use Rattle.working.proofs.Log.{olds, in-olds}
 use Rattle.working.proofs.Next.{Row, headOr, After, after-here, after-there, next-row}
 use Rattle.working.proofs.Rows.{InRow, row-in}
-use Rattle.working.specs.Unbounded.{valueFor, workFor}
+use Rattle.rules.specs.Wanted.{valueFor, workFor}
 use Rattle.working.proofs.Wanting.{follows-some, value-follows}
 use Rattle.working.proofs.Dry.{work-dry}
 use Rattle.working.proofs.Invariant.{lacking-on, Ghost, regionsOf, Inv, Lacking, Enough}

@@ -1,0 +1,50 @@
+-- A page cleared: its words are 0, and since no word is in two pages every other page is as it was. With it the link to a region's first page.
+use Prim.Native.Nat.{ℕ, suc, _+_, _-_, _*_, _/_, _^_, _≤_, _<_}
+use native.Mathlib.Nat.{le-refl, mul-div-left}
+use native.Mathlib.Omega.{arith}
+use mathlib.Core.Path.{_≡_, sym, ap, _∙_}
+use mathlib.Core.Logic.{_≢_, _⊎_, inl, inr}
+use mathlib.Core.List.{List}
+use lib.ListN.{length, replicate, length-replicate, getD-replicate}
+use Rattle.laws.specs.Lists.{at}
+use Rattle.laws.proofs.Lists.{apart, length-put, at-put-in}
+use Rattle.rules.specs.Memory.{firstOf, firstLink}
+use Rattle.rules.specs.Pages.{clearPage}
+use Rattle.facts.proofs.Laid.{put-elsewhere}
+
+-- no word is in two pages
+pub one-page : (n k l x : ℕ) → k ≢ l → k * 2 ^ n ≤ x → x < k * 2 ^ n + 2 ^ n → l * 2 ^ n ≤ x → x < l * 2 ^ n + 2 ^ n → ⊥
+one-page n k l x ne a b c d = go (apart (2 ^ n) k l ne)
+  where
+    go : (k * 2 ^ n + 2 ^ n ≤ l * 2 ^ n) ⊎ (l * 2 ^ n + 2 ^ n ≤ k * 2 ^ n) → ⊥
+    go (inl q) = omega arith
+    go (inr q) = omega arith
+
+module _ (n : ℕ) (h : List ℕ) (k : ℕ) (inside : k * 2 ^ n + 2 ^ n ≤ length h) where
+  abbrev Z : List ℕ
+  Z = replicate (2 ^ n) 0
+
+  len-Z : length Z ≡ 2 ^ n
+  len-Z = length-replicate {A = ℕ} (2 ^ n) 0
+
+  fits : k * 2 ^ n + length Z ≤ length h
+  fits = let b = len-Z in omega arith
+
+  pub clear-length : length (clearPage n h k) ≡ length h
+  unfolding clearPage
+  clear-length = length-put h (k * 2 ^ n) Z fits
+
+  pub clear-else : (l x : ℕ) → l ≢ k → l * 2 ^ n ≤ x → x < l * 2 ^ n + 2 ^ n → at (clearPage n h k) x ≡ at h x
+  unfolding clearPage
+  clear-else l x ne p q = put-elsewhere n h k (k * 2 ^ n) Z l x fits (le-refl _) (let e = len-Z in omega arith) ne p q
+
+  pub clear-in : (x : ℕ) → k * 2 ^ n ≤ x → x < k * 2 ^ n + 2 ^ n → at (clearPage n h k) x ≡ 0
+  unfolding clearPage
+  clear-in x p q =
+      let e : k * 2 ^ n + (x - k * 2 ^ n) ≡ x = omega arith in
+      let len = len-Z in
+      ap (at (clearPage n h k)) (sym e) ∙ at-put-in h (k * 2 ^ n) Z (x - k * 2 ^ n) fits (omega arith) ∙ getD-replicate {A = ℕ} (2 ^ n) (x - k * 2 ^ n) 0 0 (omega arith)
+
+-- the link to a region's first page
+pub first-link : (n : ℕ) (t : List ℕ) (j k : ℕ) → 16 ≤ 2 ^ n → firstOf t j ≡ k * 2 ^ n → firstLink n t j ≡ suc k
+first-link n t j k big e = ap suc (ap (λ x. x / 2 ^ n) e ∙ mul-div-left k {n = 2 ^ n} (omega arith))

@@ -1,0 +1,4 @@
+pub mod Chain
+pub mod Given
+pub mod Going
+pub mod Popped
