@@ -1,4 +1,5 @@
 // The images of data/: each is read, collected and written, and the text compared with its answer.
+use crate::counts;
 use crate::trial::both;
 use check::same;
 use image::read_image;
@@ -93,7 +94,7 @@ fn collected(
 ) -> usize {
     let compared = both(heap, table, roots, consts, c);
     let answer = compared.answer;
-    crate::counts::ended(sums, answer, c, compared.agree);
+    counts::ended(sums, answer, c, compared.agree);
     answer_text(heap, table, roots, consts, answer, out)
 }
 
@@ -170,12 +171,12 @@ fn as_answered(i: u32, text: &[u8], sums: &mut [u32]) -> bool {
 }
 
 fn image_read(i: u32, text: &[u8], n: usize, sums: &mut [u32]) {
-    add(sums, 0, 1);
+    add(sums, counts::HEAPS, 1);
     if text.len() < n {
         return;
     }
     if !as_answered(i, &text[0..n], sums) {
-        add(sums, 5, 1);
+        add(sums, counts::TEXTS_DIFFER, 1);
     }
 }
 

@@ -1,13 +1,21 @@
 // What stands in a heap, counted: so that a comparison can show which kinds of heap it met.
-//
-// The tally, in words:
-//   0 pages of regions    1 pages that are full    2 records    3 raw values    4 values of no words
-//   5 fields that are numbers    6 that point to constants    7 to values    8 to their own value    9 to a value that points back
 ghost use Prim.Native.Nat.{_≤_, _<_};
 use second::get;
 use second::set;
 
-// One more of a kind.
+// The places of a tally.
+pub const PAGES: usize = 0; // pages of regions
+pub const FULL_PAGES: usize = 1; // of these, full ones
+pub const RECORDS: usize = 2; // records
+pub const RAW_VALUES: usize = 3; // raw values
+pub const BARE_VALUES: usize = 4; // values of no words
+pub const NUMBERS: usize = 5; // fields that are numbers
+pub const TO_CONSTANTS: usize = 6; // fields that point to constants
+pub const TO_VALUES: usize = 7; // fields that point to values
+pub const TO_ITSELF: usize = 8; // of these, to their own value
+pub const THERE_AND_BACK: usize = 9; // of these, to another value that points back
+
+// So many more of a kind.
 pub fn add(tally: &mut [u32], kind: usize, m: usize)
     requires { ⌜ m < 4294967296 ⌝ }
 {
@@ -37,13 +45,13 @@ fn points_back(heap: &[u32], b: usize, a: usize) -> bool
 fn pointer(heap: &[u32], tally: &mut [u32], a: usize, b: usize)
     requires { ⌜ (a < 4294967296) × (b < 4294967296) ⌝ }
 {
-    add(tally, 7, 1);
+    add(tally, TO_VALUES, 1);
     if a == b {
-        add(tally, 8, 1);
+        add(tally, TO_ITSELF, 1);
         return;
     }
     if points_back(heap, b, a) {
-        add(tally, 9, 1);
+        add(tally, THERE_AND_BACK, 1);
     }
 }
 
@@ -55,10 +63,10 @@ fn field(heap: &[u32], tally: &mut [u32], a: usize, w: usize)
         return;
     }
     if w % 4 == 2 {
-        add(tally, 6, 1);
+        add(tally, TO_CONSTANTS, 1);
         return;
     }
-    add(tally, 5, 1);
+    add(tally, NUMBERS, 1);
 }
 
 fn fields(heap: &[u32], tally: &mut [u32], a: usize, m: usize)
@@ -73,7 +81,7 @@ fn fields(heap: &[u32], tally: &mut [u32], a: usize, m: usize)
 
 fn length(tally: &mut [u32], header: usize) {
     if header < 8 {
-        add(tally, 4, 1);
+        add(tally, BARE_VALUES, 1);
     }
 }
 
@@ -83,11 +91,11 @@ fn value(heap: &[u32], tally: &mut [u32], a: usize, header: usize)
 {
     length(tally, header);
     if header % 8 == 1 {
-        add(tally, 2, 1);
+        add(tally, RECORDS, 1);
         fields(heap, tally, a, header / 8);
         return;
     }
-    add(tally, 3, 1);
+    add(tally, RAW_VALUES, 1);
 }
 
 // The values from an address to the end of its page.
@@ -103,7 +111,7 @@ fn values(heap: &[u32], tally: &mut [u32], start: usize, end: usize)
         value(heap, tally, a, header);
         a = a + 1 + header / 8;
     }
-    add(tally, 1, 1);
+    add(tally, FULL_PAGES, 1);
 }
 
 // The page from an address on, if it is a region's.
@@ -113,7 +121,7 @@ fn page(heap: &[u32], tally: &mut [u32], a: usize, p: usize)
     if get(heap, a + 1) == 0 {
         return;
     }
-    add(tally, 0, 1);
+    add(tally, PAGES, 1);
     values(heap, tally, a + 2, a + p);
 }
 

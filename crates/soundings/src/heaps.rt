@@ -160,18 +160,32 @@ fn ten_and_four(
     b.c
 }
 
-// Roots that name the 10, 7, 7 and 4.
-fn four_roots(
+// The first two roots.
+fn two_named(
     heap: &[u32],
     table: &[u32],
     roots: &mut [u32],
     consts: &[u32],
     c: Control,
+    v: u32,
+    w: u32,
 ) -> Control {
-    let d = rooted(heap, table, roots, consts, c, 0, 72);
-    let e = rooted(heap, table, roots, consts, d, 1, 8);
-    let f = rooted(heap, table, roots, consts, e, 2, 36);
-    rooted(heap, table, roots, consts, f, 3, 112)
+    let d = rooted(heap, table, roots, consts, c, 0, v);
+    rooted(heap, table, roots, consts, d, 1, w)
+}
+
+// The first four roots.
+pub fn named(
+    heap: &[u32],
+    table: &[u32],
+    roots: &mut [u32],
+    consts: &[u32],
+    c: Control,
+    words: [u32; 4],
+) -> Control {
+    let d = two_named(heap, table, roots, consts, c, words[0], words[1]);
+    let e = rooted(heap, table, roots, consts, d, 2, words[2]);
+    rooted(heap, table, roots, consts, e, 3, words[3])
 }
 
 fn four_values(
@@ -185,11 +199,11 @@ fn four_values(
     ten_and_four(heap, table, roots, consts, d)
 }
 
-// Raw values of 7, 7, 10 and 4 words, all named by roots.
+// Raw values of 7, 7, 10 and 4 words, with roots that name the 10, 7, 7 and 4.
 pub fn four(heap: &mut [u32], table: &mut [u32], roots: &mut [u32], consts: &[u32]) -> Control {
     let c = with_regions(heap, table, roots, consts, 4, 1);
     let d = four_values(heap, table, roots, consts, c);
-    four_roots(heap, table, roots, consts, d)
+    named(heap, table, roots, consts, d, [72, 8, 36, 112])
 }
 
 // One word of a part changed behind the calls.

@@ -7,6 +7,7 @@ mod lent;
 mod looking;
 mod numbers;
 mod opening;
+mod popping;
 mod say;
 mod slips;
 mod storing;
@@ -20,4 +21,5 @@ fn main() {
     collecting::soundings();
     slips::soundings();
     images::soundings();
+    popping::soundings();
 }
