@@ -11,22 +11,39 @@ use second::get;
 
 // The places of the sums. Heaps of page exponent n are counted at 1 + n.
 pub const HEAPS: usize = 0; // heaps, or images
+
 pub const FINISHED: usize = 1; // finished
+
 pub const NO_PAGE: usize = 2; // refused for want of a page
+
 pub const REFUSED_ELSE: usize = 3; // refused for another reason
+
 pub const DIFFERENCES: usize = 4; // heaps on which the collectors differ
+
 pub const OF_NO_REGION: usize = 10; // heaps of no region
+
 pub const OF_ALL_REGIONS: usize = 11; // of 64 regions
+
 pub const OF_ALL_WORDS: usize = 12; // of 65,536 words
+
 pub const OF_ALL_ROOTS: usize = 13; // of 1,024 roots
+
 pub const FEW_FREE: usize = 14; // with fewer free pages than regions
+
 pub const NO_PAGE_LATER: usize = 15; // refused after each region had its fresh page
+
 pub const PAGES_GAINED: usize = 16; // pages gained
+
 pub const THAT_GAINED: usize = 17; // heaps that gained pages
+
 pub const PAGES_LOST: usize = 18; // pages lost
+
 pub const THAT_LOST: usize = 19; // heaps that lost pages
+
 pub const BROKEN_AFTER: usize = 20; // finished heaps that fail the audit
+
 pub const ROOTS_TO_VALUES: usize = 21; // roots that point to values
+
 pub const TEXTS_DIFFER: usize = 22; // images whose text differs from its answer
 
 fn add_if(sums: &mut [u32], kind: usize, holds: bool) {

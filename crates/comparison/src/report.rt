@@ -25,7 +25,11 @@ fn shapes(sums: &[u32]) {
     line(b"  of 64 regions", sums, counts::OF_ALL_REGIONS);
     line(b"  of 65,536 words", sums, counts::OF_ALL_WORDS);
     line(b"  of 1,024 roots", sums, counts::OF_ALL_ROOTS);
-    line(b"  with fewer free pages than regions", sums, counts::FEW_FREE);
+    line(
+        b"  with fewer free pages than regions",
+        sums,
+        counts::FEW_FREE,
+    );
     line(b"roots that point to values", sums, counts::ROOTS_TO_VALUES);
 }
 
@@ -36,10 +40,22 @@ fn kinds(tally: &[u32]) {
     line(b"  raw values", tally, census::RAW_VALUES);
     line(b"  values of no words", tally, census::BARE_VALUES);
     line(b"  fields that are numbers", tally, census::NUMBERS);
-    line(b"  fields that point to constants", tally, census::TO_CONSTANTS);
+    line(
+        b"  fields that point to constants",
+        tally,
+        census::TO_CONSTANTS,
+    );
     line(b"  fields that point to values", tally, census::TO_VALUES);
-    line(b"  fields that point to their own value", tally, census::TO_ITSELF);
-    line(b"  fields that point to a value that points back", tally, census::THERE_AND_BACK);
+    line(
+        b"  fields that point to their own value",
+        tally,
+        census::TO_ITSELF,
+    );
+    line(
+        b"  fields that point to a value that points back",
+        tally,
+        census::THERE_AND_BACK,
+    );
 }
 
 fn endings(sums: &[u32]) {
@@ -48,9 +64,17 @@ fn endings(sums: &[u32]) {
     line(b"  pages gained", sums, counts::PAGES_GAINED);
     line(b"  that lost pages", sums, counts::THAT_LOST);
     line(b"  pages lost", sums, counts::PAGES_LOST);
-    line(b"  that fail the audit afterwards", sums, counts::BROKEN_AFTER);
+    line(
+        b"  that fail the audit afterwards",
+        sums,
+        counts::BROKEN_AFTER,
+    );
     line(b"refused for want of a page", sums, counts::NO_PAGE);
-    line(b"  after each region had its fresh page", sums, counts::NO_PAGE_LATER);
+    line(
+        b"  after each region had its fresh page",
+        sums,
+        counts::NO_PAGE_LATER,
+    );
     line(b"refused else", sums, counts::REFUSED_ELSE);
     line(b"differences", sums, counts::DIFFERENCES);
 }
@@ -70,5 +94,9 @@ pub fn images(sums: &[u32]) {
     line(b"  refused for want of a page", sums, counts::NO_PAGE);
     line(b"  refused else", sums, counts::REFUSED_ELSE);
     line(b"  collectors that differ", sums, counts::DIFFERENCES);
-    line(b"  texts that differ from their answers", sums, counts::TEXTS_DIFFER);
+    line(
+        b"  texts that differ from their answers",
+        sums,
+        counts::TEXTS_DIFFER,
+    );
 }

@@ -5,14 +5,23 @@ use second::set;
 
 // The places of a tally.
 pub const PAGES: usize = 0; // pages of regions
+
 pub const FULL_PAGES: usize = 1; // of these, full ones
+
 pub const RECORDS: usize = 2; // records
+
 pub const RAW_VALUES: usize = 3; // raw values
+
 pub const BARE_VALUES: usize = 4; // values of no words
+
 pub const NUMBERS: usize = 5; // fields that are numbers
+
 pub const TO_CONSTANTS: usize = 6; // fields that point to constants
+
 pub const TO_VALUES: usize = 7; // fields that point to values
+
 pub const TO_ITSELF: usize = 8; // of these, to their own value
+
 pub const THERE_AND_BACK: usize = 9; // of these, to another value that points back
 
 // So many more of a kind.

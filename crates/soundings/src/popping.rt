@@ -26,17 +26,19 @@ fn uses(
 }
 
 // A dead value more, and the collection that drops it.
-fn uses_less(
-    heap: &mut [u32],
-    table: &mut [u32],
-    roots: &mut [u32],
-    consts: &[u32],
-    c: Control,
-) {
+fn uses_less(heap: &mut [u32], table: &mut [u32], roots: &mut [u32], consts: &[u32], c: Control) {
     let a = heaps::stored(heap, table, roots, consts, c, 0, Kind::Raw, &[1]);
     uses(b"0 with a dead value", heap, table, roots, consts, a.c, 0);
     let after = heaps::record_of(collect(heap, table, roots, consts, a.c));
-    uses(b"0 after a collection", heap, table, roots, consts, after, 0);
+    uses(
+        b"0 after a collection",
+        heap,
+        table,
+        roots,
+        consts,
+        after,
+        0,
+    );
 }
 
 fn counted() {
@@ -57,7 +59,15 @@ fn counted_not() {
     let consts = [0u32; 0];
     let c = heaps::labelled(&mut heap, &mut table, &mut roots, &consts);
     heaps::poke(&mut heap, 6, 12);
-    uses(b"1 of 1, a field being 12", &heap, &table, &roots, &consts, c, 1);
+    uses(
+        b"1 of 1, a field being 12",
+        &heap,
+        &table,
+        &roots,
+        &consts,
+        c,
+        1,
+    );
 }
 
 fn pops(
@@ -107,9 +117,23 @@ fn held_by_root() {
     let mut roots = [0u32; 1];
     let consts = [0u32; 0];
     let c = heaps::labelled(&mut heap, &mut table, &mut roots, &consts);
-    pops_not(b"while a root points into it", &mut heap, &mut table, &roots, &consts, c);
+    pops_not(
+        b"while a root points into it",
+        &mut heap,
+        &mut table,
+        &roots,
+        &consts,
+        c,
+    );
     heaps::poke(&mut roots, 0, 12);
-    pops_not(b"with a root that is 12", &mut heap, &mut table, &roots, &consts, c);
+    pops_not(
+        b"with a root that is 12",
+        &mut heap,
+        &mut table,
+        &roots,
+        &consts,
+        c,
+    );
 }
 
 // A value in region 1, and in region 0 a value that has its pointer as a word.
@@ -133,7 +157,14 @@ fn held_by_field() {
     let consts = [0u32; 0];
     let c = heaps::with_regions(&mut heap, &mut table, &mut roots, &consts, 4, 2);
     let d = pointed_at(&mut heap, &mut table, &roots, &consts, c, Kind::Record);
-    pops_not(b"while a field points into it", &mut heap, &mut table, &roots, &consts, d);
+    pops_not(
+        b"while a field points into it",
+        &mut heap,
+        &mut table,
+        &roots,
+        &consts,
+        d,
+    );
 }
 
 fn not_held() {
@@ -143,7 +174,14 @@ fn not_held() {
     let consts = [0u32; 0];
     let c = heaps::with_regions(&mut heap, &mut table, &mut roots, &consts, 4, 2);
     let d = pointed_at(&mut heap, &mut table, &roots, &consts, c, Kind::Raw);
-    pops(b"with its own field and a raw word", &mut heap, &mut table, &roots, &consts, d);
+    pops(
+        b"with its own field and a raw word",
+        &mut heap,
+        &mut table,
+        &roots,
+        &consts,
+        d,
+    );
 }
 
 // A region of two pages: they go back in the order of their chain.

@@ -84,7 +84,14 @@ fn page_behind() {
     let d = full_pages(&mut heap, &mut table, &roots, &consts, c);
     let e = pages_behind(&mut heap, &mut table, &roots, &consts, d);
     let f = heaps::named(&heap, &table, &mut roots, &consts, e, [8, 72, 136, 200]);
-    collects(b"full pages with pages behind", &mut heap, &mut table, &mut roots, &consts, f);
+    collects(
+        b"full pages with pages behind",
+        &mut heap,
+        &mut table,
+        &mut roots,
+        &consts,
+        f,
+    );
 }
 
 // Two records of numbers in region 0, at 2 and 4, and in region 1 a record of the second, which is handed back.
@@ -110,7 +117,16 @@ fn met_again(
     c: Control,
 ) -> heaps::Kept {
     let y = leaves(heap, table, roots, consts, c);
-    let x = heaps::stored(heap, table, roots, consts, y.c, 0, Kind::Record, &[y.word, 8]);
+    let x = heaps::stored(
+        heap,
+        table,
+        roots,
+        consts,
+        y.c,
+        0,
+        Kind::Record,
+        &[y.word, 8],
+    );
     let d = heaps::assigned(heap, table, roots, consts, x.c, 8, x.word);
     heaps::Kept { word: x.word, c: d }
 }
