@@ -1,7 +1,4 @@
 // Fetch, page, walk, assign and set root, on the heap of "Sh" with one record of the number 7 in the constants.
-use crate::heaps;
-use crate::lent;
-use crate::say;
 use pages::page_by_number;
 use pages::page_refusal;
 use paths::assign;
@@ -11,6 +8,9 @@ use paths::set_root;
 use paths::walk;
 use rules::Control;
 use rules::Page;
+use telling::heaps;
+use telling::lent;
+use telling::say;
 
 // The part that is handed back, and what the call of its own says of it.
 fn fetches<'a>(
@@ -108,7 +108,7 @@ fn assigns(
     w: u32,
     field: usize,
     word: u32,
-) -> Control {
+) {
     say::text(b"assign ");
     say::decimal(word);
     say::text(b" to field ");
@@ -116,52 +116,26 @@ fn assigns(
     say::text(b" of ");
     say::decimal(w);
     say::text(b": ");
-    say::plain(assign(heap, table, roots, consts, c, w, field, word))
-}
-
-fn assigns_so(
-    heap: &mut [u32],
-    table: &[u32],
-    roots: &[u32],
-    consts: &[u32],
-    c: Control,
-    field: usize,
-    word: u32,
-) {
-    let after = assigns(heap, table, roots, consts, c, 20, field, word);
-    lent::show(heap, table, roots, after);
-}
-
-fn assigns_not(
-    heap: &mut [u32],
-    table: &[u32],
-    roots: &[u32],
-    consts: &[u32],
-    c: Control,
-    w: u32,
-    field: usize,
-    word: u32,
-) {
     let before = lent::sum(heap, table, roots);
-    let after = assigns(heap, table, roots, consts, c, w, field, word);
-    lent::compare(before, lent::sum(heap, table, roots), c, after);
+    let after = say::plain(assign(heap, table, roots, consts, c, w, field, word));
+    lent::report(before, c, heap, table, roots, after);
 }
 
 // A target that is none, or that takes no word.
 fn targets(heap: &mut [u32], table: &[u32], roots: &[u32], consts: &[u32], c: Control) {
-    assigns_not(heap, table, roots, consts, c, 12, 0, 1);
-    assigns_not(heap, table, roots, consts, c, 6, 0, 1);
-    assigns_not(heap, table, roots, consts, c, 1, 0, 1);
-    assigns_not(heap, table, roots, consts, c, 2, 0, 1);
-    assigns_not(heap, table, roots, consts, c, 8, 0, 1);
+    assigns(heap, table, roots, consts, c, 12, 0, 1);
+    assigns(heap, table, roots, consts, c, 6, 0, 1);
+    assigns(heap, table, roots, consts, c, 1, 0, 1);
+    assigns(heap, table, roots, consts, c, 2, 0, 1);
+    assigns(heap, table, roots, consts, c, 8, 0, 1);
 }
 
 fn assigning(heap: &mut [u32], table: &[u32], roots: &[u32], consts: &[u32], c: Control) {
-    assigns_so(heap, table, roots, consts, c, 1, 5);
-    assigns_so(heap, table, roots, consts, c, 0, 20);
+    assigns(heap, table, roots, consts, c, 20, 1, 5);
+    assigns(heap, table, roots, consts, c, 20, 0, 20);
     targets(heap, table, roots, consts, c);
-    assigns_not(heap, table, roots, consts, c, 20, 2, 1);
-    assigns_not(heap, table, roots, consts, c, 20, 0, 12);
+    assigns(heap, table, roots, consts, c, 20, 2, 1);
+    assigns(heap, table, roots, consts, c, 20, 0, 12);
 }
 
 fn roots_to(

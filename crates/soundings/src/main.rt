@@ -1,15 +1,8 @@
-// The soundings of document 01 on real memory: each line asks the library one thing and prints what came.
-mod auditing;
-mod collecting;
-mod heaps;
-mod images;
-mod lent;
+// The soundings of document 01 on the calls, on real memory: each line asks the library one thing and prints what came.
 mod looking;
 mod numbers;
 mod opening;
 mod popping;
-mod say;
-mod slips;
 mod storing;
 
 fn main() {
@@ -17,9 +10,5 @@ fn main() {
     opening::soundings();
     storing::soundings();
     looking::soundings();
-    auditing::soundings();
-    collecting::soundings();
-    slips::soundings();
-    images::soundings();
     popping::soundings();
 }

@@ -1,7 +1,7 @@
 // Words and values: "a whole number i from -2^30 to 2^30-1, stored as 2i+1 modulo 2^32".
-use crate::say;
 use rules::Numbered;
 use rules::Worded;
+use telling::say;
 use values::number_of_word;
 use values::word_of_number;
 

@@ -1,12 +1,12 @@
 // Setting up and push.
-use crate::heaps;
-use crate::lent;
-use crate::say;
 use regions::push;
 use regions::set_up;
 use rules::Control;
+use telling::heaps;
+use telling::lent;
+use telling::say;
 
-fn open(
+fn opens(
     name: &[u8],
     heap: &mut [u32],
     table: &mut [u32],
@@ -17,34 +17,10 @@ fn open(
     say::text(b"set up ");
     say::text(name);
     say::text(b": ");
-    say::opened(set_up(heap, table, roots, consts, n))
-}
-
-fn opens(
-    name: &[u8],
-    heap: &mut [u32],
-    table: &mut [u32],
-    roots: &mut [u32],
-    consts: &[u32],
-    n: u32,
-) -> Control {
-    let c = open(name, heap, table, roots, consts, n);
-    lent::show(heap, table, roots, c);
-    c
-}
-
-// A refusal has no record to show.
-fn opens_not(
-    name: &[u8],
-    heap: &mut [u32],
-    table: &mut [u32],
-    roots: &mut [u32],
-    consts: &[u32],
-    n: u32,
-) {
     let before = lent::sum(heap, table, roots);
-    let c = open(name, heap, table, roots, consts, n);
-    lent::compare(before, lent::sum(heap, table, roots), c, c);
+    let c = say::opened(set_up(heap, table, roots, consts, n));
+    lent::report(before, say::no_record(), heap, table, roots, c);
+    c
 }
 
 // Four pages of 16 words, with another n.
@@ -53,7 +29,7 @@ fn exponent(name: &[u8], n: u32) {
     let mut table = [7u32; 256];
     let mut roots = [7u32; 2];
     let consts = [0u32; 0];
-    opens_not(name, &mut heap, &mut table, &mut roots, &consts, n);
+    opens(name, &mut heap, &mut table, &mut roots, &consts, n);
 }
 
 fn broken_page() {
@@ -61,7 +37,7 @@ fn broken_page() {
     let mut table = [7u32; 256];
     let mut roots = [7u32; 2];
     let consts = [0u32; 0];
-    opens_not(
+    opens(
         b"40 words, P 16",
         &mut heap,
         &mut table,
@@ -76,7 +52,7 @@ fn long_table() {
     let mut table = [7u32; 257];
     let mut roots = [7u32; 2];
     let consts = [0u32; 0];
-    opens_not(
+    opens(
         b"a table of 257 words",
         &mut heap,
         &mut table,
@@ -91,7 +67,7 @@ fn many_roots() {
     let mut table = [7u32; 256];
     let mut roots = [7u32; 1025];
     let consts = [0u32; 0];
-    opens_not(
+    opens(
         b"1,025 roots",
         &mut heap,
         &mut table,
@@ -110,7 +86,6 @@ fn limits() {
     many_roots();
 }
 
-// A push, and the heap after it.
 fn pushes(
     name: &[u8],
     heap: &mut [u32],
@@ -120,23 +95,10 @@ fn pushes(
     c: Control,
 ) -> Control {
     say::text(name);
-    let after = say::plain(push(heap, table, roots, consts, c));
-    lent::show(heap, table, roots, after);
-    after
-}
-
-fn pushes_not(
-    name: &[u8],
-    heap: &mut [u32],
-    table: &mut [u32],
-    roots: &[u32],
-    consts: &[u32],
-    c: Control,
-) {
-    say::text(name);
     let before = lent::sum(heap, table, roots);
     let after = say::plain(push(heap, table, roots, consts, c));
-    lent::compare(before, lent::sum(heap, table, roots), c, after);
+    lent::report(before, c, heap, table, roots, after);
+    after
 }
 
 fn two_pages() {
@@ -154,7 +116,7 @@ fn two_pages() {
     );
     let one = pushes(b"push: ", &mut heap, &mut table, &roots, &consts, c);
     let two = pushes(b"push again: ", &mut heap, &mut table, &roots, &consts, one);
-    pushes_not(
+    pushes(
         b"push with no page left: ",
         &mut heap,
         &mut table,
@@ -170,7 +132,7 @@ fn full() {
     let mut roots = [0u32; 1];
     let consts = [0u32; 0];
     let c = heaps::with_regions(&mut heap, &mut table, &mut roots, &consts, 4, 64);
-    pushes_not(
+    pushes(
         b"push with 64 regions, a page free: ",
         &mut heap,
         &mut table,

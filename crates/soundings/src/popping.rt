@@ -1,12 +1,12 @@
 // Used words and pop.
-use crate::heaps;
-use crate::lent;
-use crate::say;
 use collection::collect;
 use release::pop;
 use rules::Control;
 use rules::Kind;
 use rules::Region;
+use telling::heaps;
+use telling::lent;
+use telling::say;
 use used::used_words;
 
 fn uses(
@@ -81,24 +81,9 @@ fn pops(
     say::text(b"pop ");
     say::text(name);
     say::text(b": ");
-    let after = say::plain(pop(heap, table, roots, consts, c));
-    lent::show(heap, table, roots, after);
-}
-
-fn pops_not(
-    name: &[u8],
-    heap: &mut [u32],
-    table: &mut [u32],
-    roots: &[u32],
-    consts: &[u32],
-    c: Control,
-) {
-    say::text(b"pop ");
-    say::text(name);
-    say::text(b": ");
     let before = lent::sum(heap, table, roots);
     let after = say::plain(pop(heap, table, roots, consts, c));
-    lent::compare(before, lent::sum(heap, table, roots), c, after);
+    lent::report(before, c, heap, table, roots, after);
 }
 
 fn no_region() {
@@ -107,7 +92,7 @@ fn no_region() {
     let mut roots = [0u32; 1];
     let consts = [0u32; 0];
     let c = heaps::fresh(&mut heap, &mut table, &mut roots, &consts, 4);
-    pops_not(b"with no region", &mut heap, &mut table, &roots, &consts, c);
+    pops(b"with no region", &mut heap, &mut table, &roots, &consts, c);
 }
 
 // The region of "Sh", whose record a root names; and with that root spoiled.
@@ -117,7 +102,7 @@ fn held_by_root() {
     let mut roots = [0u32; 1];
     let consts = [0u32; 0];
     let c = heaps::labelled(&mut heap, &mut table, &mut roots, &consts);
-    pops_not(
+    pops(
         b"while a root points into it",
         &mut heap,
         &mut table,
@@ -126,7 +111,7 @@ fn held_by_root() {
         c,
     );
     heaps::poke(&mut roots, 0, 12);
-    pops_not(
+    pops(
         b"with a root that is 12",
         &mut heap,
         &mut table,
@@ -157,7 +142,7 @@ fn held_by_field() {
     let consts = [0u32; 0];
     let c = heaps::with_regions(&mut heap, &mut table, &mut roots, &consts, 4, 2);
     let d = pointed_at(&mut heap, &mut table, &roots, &consts, c, Kind::Record);
-    pops_not(
+    pops(
         b"while a field points into it",
         &mut heap,
         &mut table,

@@ -1,14 +1,13 @@
 // Allocation, and whether a collection is due.
-use crate::heaps;
-use crate::lent;
-use crate::say;
 use regions::allocate;
 use regions::due;
 use rules::Control;
 use rules::Kind;
 use rules::Region;
+use telling::heaps;
+use telling::lent;
+use telling::say;
 
-// An allocation in region 0, and the heap after it.
 fn stores(
     name: &[u8],
     heap: &mut [u32],
@@ -16,71 +15,68 @@ fn stores(
     roots: &[u32],
     consts: &[u32],
     c: Control,
+    j: Region,
     kind: Kind,
     words: &[u32],
 ) -> Control {
     say::text(b"allocate ");
     say::text(name);
     say::text(b": ");
-    let after = say::valued(allocate(heap, table, roots, consts, c, Region(0), kind, words));
-    lent::show(heap, table, roots, after);
+    let before = lent::sum(heap, table, roots);
+    let after = say::valued(allocate(heap, table, roots, consts, c, j, kind, words));
+    lent::report(before, c, heap, table, roots, after);
     after
 }
 
-fn stores_not(
-    name: &[u8],
-    heap: &mut [u32],
-    table: &mut [u32],
-    roots: &[u32],
-    consts: &[u32],
-    c: Control,
-    region: usize,
-    words: &[u32],
-) {
-    say::text(b"allocate ");
-    say::text(name);
-    say::text(b": ");
-    let before = lent::sum(heap, table, roots);
-    let after = say::valued(allocate(
+// What is refused while pages are left: 5 comes before 8, and 8 before 7.
+fn lengths(heap: &mut [u32], table: &mut [u32], roots: &[u32], consts: &[u32], c: Control) {
+    stores(
+        b"14 words",
         heap,
         table,
         roots,
         consts,
         c,
-        Region(region),
+        Region(0),
         Kind::Record,
-        words,
-    ));
-    lent::compare(before, lent::sum(heap, table, roots), c, after);
-}
-
-// What is refused while pages are left: 5 comes before 8, and 8 before 7.
-fn lengths(heap: &mut [u32], table: &mut [u32], roots: &[u32], consts: &[u32], c: Control) {
-    stores_not(b"14 words", heap, table, roots, consts, c, 0, &[1u32; 14]);
-    stores_not(
+        &[1u32; 14],
+    );
+    stores(
         b"14 words in region 1 of 1",
         heap,
         table,
         roots,
         consts,
         c,
-        1,
+        Region(1),
+        Kind::Record,
         &[1u32; 14],
     );
 }
 
 fn bad_words(heap: &mut [u32], table: &mut [u32], roots: &[u32], consts: &[u32], c: Control) {
-    stores_not(
+    stores(
         b"a record of 4",
         heap,
         table,
         roots,
         consts,
         c,
-        0,
+        Region(0),
+        Kind::Record,
         &[4u32; 1],
     );
-    stores_not(b"14 words 4", heap, table, roots, consts, c, 0, &[4u32; 14]);
+    stores(
+        b"14 words 4",
+        heap,
+        table,
+        roots,
+        consts,
+        c,
+        Region(0),
+        Kind::Record,
+        &[4u32; 14],
+    );
 }
 
 fn first_two(
@@ -97,6 +93,7 @@ fn first_two(
         roots,
         consts,
         c,
+        Region(0),
         Kind::Record,
         &[1u32; 13],
     );
@@ -107,6 +104,7 @@ fn first_two(
         roots,
         consts,
         a,
+        Region(0),
         Kind::Record,
         &[1u32; 0],
     )
@@ -120,17 +118,19 @@ fn last_page(heap: &mut [u32], table: &mut [u32], roots: &[u32], consts: &[u32],
         roots,
         consts,
         c,
+        Region(0),
         Kind::Record,
         &[1u32; 13],
     );
-    stores_not(
+    stores(
         b"no words, no page left",
         heap,
         table,
         roots,
         consts,
         d,
-        0,
+        Region(0),
+        Kind::Record,
         &[1u32; 0],
     );
 }
@@ -143,6 +143,7 @@ fn last_two(heap: &mut [u32], table: &mut [u32], roots: &[u32], consts: &[u32], 
         roots,
         consts,
         c,
+        Region(0),
         Kind::Raw,
         &[4, 8],
     );
@@ -168,14 +169,15 @@ fn broken_row() {
     let consts = [0u32; 0];
     let c = heaps::with_regions(&mut heap, &mut table, &mut roots, &consts, 4, 1);
     heaps::poke(&mut table, 2, 1);
-    stores_not(
+    stores(
         b"where a is 1",
         &mut heap,
         &mut table,
         &roots,
         &consts,
         c,
-        0,
+        Region(0),
+        Kind::Record,
         &[1],
     );
 }

@@ -1,9 +1,9 @@
--- `soundings::lent::pages` is safe and ends: the address grows up to the heap's length.
+-- `telling::lent::pages` is safe and ends: the address grows up to the heap's length.
 use Prim.Native.Nat.{_-_, _≤_}
 use lib.ListN.{length}
 use borrow.Author.Needs.{needs}
-use Rattle.soundings.proofs.lent.pages.Statement.{statement}
-use Rattle.soundings.proofs.lent.pages.Tie as tie
+use Rattle.telling.proofs.lent.pages.Statement.{statement}
+use Rattle.telling.proofs.lent.pages.Tie as tie
 
 abbrev Inv-loop : tie.InvT-loop
 Inv-loop heap a₀ a = a ≤ length heap

@@ -1,9 +1,9 @@
--- `soundings::say::list` is safe and ends: the place grows up to the part's length.
+-- `telling::say::list` is safe and ends: the place grows up to the part's length.
 use Prim.Native.Nat.{_-_, _≤_}
 use lib.ListN.{length}
 use borrow.Author.Needs.{needs}
-use Rattle.soundings.proofs.say.list.Statement.{statement}
-use Rattle.soundings.proofs.say.list.Tie as tie
+use Rattle.telling.proofs.say.list.Statement.{statement}
+use Rattle.telling.proofs.say.list.Tie as tie
 
 abbrev Inv-loop : tie.InvT-loop
 Inv-loop part i₀ i = i ≤ length part

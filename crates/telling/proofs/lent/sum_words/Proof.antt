@@ -1,9 +1,9 @@
--- `soundings::lent::sum_words` is safe and ends: the place grows up to the part's length, and a sum that is taken modulo 2^32-5 fits after it is multiplied.
+-- `telling::lent::sum_words` is safe and ends: the place grows up to the part's length, and a sum that is taken modulo 2^32-5 fits after it is multiplied.
 use Prim.Native.Nat.{_-_, _≤_, _<_}
 use lib.ListN.{length}
 use borrow.Author.Needs.{needs}
-use Rattle.soundings.proofs.lent.sum_words.Statement.{statement}
-use Rattle.soundings.proofs.lent.sum_words.Tie as tie
+use Rattle.telling.proofs.lent.sum_words.Statement.{statement}
+use Rattle.telling.proofs.lent.sum_words.Tie as tie
 
 abbrev Inv-loop : tie.InvT-loop
 Inv-loop part start sum₀ i₀ sum i = (i ≤ length part) × (sum < 4294967291)

@@ -1,28 +1,12 @@
 // The collection.
-use crate::heaps;
-use crate::lent;
-use crate::say;
 use collection::collect;
 use rules::Control;
 use rules::Kind;
+use telling::heaps;
+use telling::lent;
+use telling::say;
 
-// A collection, and the heap after it.
 pub fn collects(
-    name: &[u8],
-    heap: &mut [u32],
-    table: &mut [u32],
-    roots: &mut [u32],
-    consts: &[u32],
-    c: Control,
-) {
-    say::text(b"collect ");
-    say::text(name);
-    say::text(b": ");
-    let after = say::plain(collect(heap, table, roots, consts, c));
-    lent::show(heap, table, roots, after);
-}
-
-fn collects_not(
     name: &[u8],
     heap: &mut [u32],
     table: &mut [u32],
@@ -35,7 +19,7 @@ fn collects_not(
     say::text(b": ");
     let before = lent::sum(heap, table, roots);
     let after = say::plain(collect(heap, table, roots, consts, c));
-    lent::compare(before, lent::sum(heap, table, roots), c, after);
+    lent::report(before, c, heap, table, roots, after);
 }
 
 fn label() {
@@ -142,7 +126,7 @@ fn four_tight() {
     let mut roots = [0u32; 4];
     let consts = [0u32; 0];
     let c = heaps::four(&mut heap, &mut table, &mut roots, &consts);
-    collects_not(
+    collects(
         b"7, 7, 10, 4 words, two pages free",
         &mut heap,
         &mut table,
@@ -158,7 +142,7 @@ fn bare() {
     let mut roots = [0u32; 3];
     let consts = [0u32; 0];
     let c = heaps::fresh(&mut heap, &mut table, &mut roots, &consts, 4);
-    collects_not(
+    collects(
         b"R 0, roots all numbers",
         &mut heap,
         &mut table,
@@ -205,7 +189,7 @@ fn no_fresh_page() {
     let mut roots = [0u32; 1];
     let consts = [0u32; 0];
     let c = heaps::with_regions(&mut heap, &mut table, &mut roots, &consts, 4, 2);
-    collects_not(
+    collects(
         b"two empty regions, one page free",
         &mut heap,
         &mut table,
@@ -222,7 +206,7 @@ fn broken() {
     let consts = [0u32; 0];
     let c = heaps::labelled(&mut heap, &mut table, &mut roots, &consts);
     heaps::poke(&mut roots, 0, 12);
-    collects_not(
+    collects(
         b"a root that is 12",
         &mut heap,
         &mut table,

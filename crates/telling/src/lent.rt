@@ -1,4 +1,4 @@
-// The lent parts as they stand: what a line shows of a heap, and whether a refused call left every word.
+// The lent parts as they stand after a call.
 ghost use Prim.Native.Nat.{_<_};
 use crate::say;
 use rules::Control;
@@ -61,11 +61,20 @@ fn same(a: Control, b: Control) -> bool {
         && a.count == b.count
 }
 
-// Whether the words and the record are as they were.
-pub fn compare(before: u64, after: u64, a: Control, b: Control) {
-    if before == after && same(a, b) {
-        say::text(b", nothing changed\n");
-    } else {
-        say::text(b", changed\n");
+// What a call left: that nothing changed, or the record and the parts.
+pub fn report(
+    before: u64,
+    given: Control,
+    heap: &[u32],
+    table: &[u32],
+    roots: &[u32],
+    after: Control,
+) {
+    if same(given, after) {
+        if before == sum(heap, table, roots) {
+            say::text(b"; nothing changed\n");
+            return;
+        }
     }
+    show(heap, table, roots, after);
 }

@@ -1,8 +1,8 @@
 // The audit: the heap of "Sh" passes; each line spoils it in one place, or two, and is told the first broken rule.
-use crate::heaps;
-use crate::say;
 use audit::audit;
 use rules::Control;
+use telling::heaps;
+use telling::say;
 
 // A lent part.
 pub enum Part {

@@ -1,4 +1,4 @@
-// What is printed: text, numbers, parts of words, answers. A sounding is one line: what was asked, and what came.
+// What is printed: text, numbers, parts of words, answers.
 use rules::Control;
 use rules::Opened;
 use rules::Plain;

@@ -1,10 +1,10 @@
 // The slips that document 01 has seen elsewhere: on each heap a collector that makes the slip leaves other words.
 use crate::collecting::collects;
-use crate::heaps;
-use crate::say;
 use collection::collect;
 use rules::Control;
 use rules::Kind;
+use telling::heaps;
+use telling::say;
 
 // A record in region 1 and a record in region 0 that fills a page, each the other's field. The page after the full one is region 1's: the scan
 // of region 0 is over where that page starts.

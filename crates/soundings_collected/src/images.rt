@@ -1,12 +1,12 @@
 // The image text. Standard input is the example of document 01: its heap of "Sh", before the collection.
-use crate::heaps;
-use crate::lent;
-use crate::say;
 use collection::collect;
 use image::read_image;
 use image::write_image;
 use rules::Control;
 use rules::Valued;
+use telling::heaps;
+use telling::lent;
+use telling::say;
 
 // The text that a write left at the start of the lent bytes, or the refusal.
 fn written(v: Valued, bytes: &[u8]) {
