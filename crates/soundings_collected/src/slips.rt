@@ -30,22 +30,21 @@ fn full_page(
     heaps::Kept { word: x.word, c: d }
 }
 
-fn page_end() {
-    let mut heap = [0u32; 64];
-    let mut table = [0u32; 256];
-    let mut roots = [0u32; 1];
-    let consts = [0u32; 0];
-    let c = heaps::with_regions(&mut heap, &mut table, &mut roots, &consts, 4, 2);
-    let x = full_page(&mut heap, &mut table, &roots, &consts, c);
-    let d = heaps::rooted(&heap, &table, &mut roots, &consts, x.c, 0, x.word);
-    collects(
-        b"a page that ends full",
-        &mut heap,
-        &mut table,
-        &mut roots,
-        &consts,
-        d,
-    );
+fn rooted_full(
+    heap: &mut [u32],
+    table: &mut [u32],
+    roots: &mut [u32],
+    consts: &[u32],
+    c: Control,
+) -> Control {
+    let x = full_page(heap, table, roots, consts, c);
+    heaps::rooted(heap, table, roots, consts, x.c, 0, x.word)
+}
+
+fn page_end(heap: &mut [u32], table: &mut [u32], roots: &mut [u32], consts: &[u32]) {
+    let c = heaps::with_regions(heap, table, roots, consts, 4, 2);
+    let d = rooted_full(heap, table, roots, consts, c);
+    collects(b"a page that ends full", heap, table, roots, consts, d);
 }
 
 // A value in each region that fills its page.
@@ -75,22 +74,28 @@ fn pages_behind(
 }
 
 // What stands at the end of region 0's full page is the link of region 1's, and looks like a header.
-fn page_behind() {
-    let mut heap = [0u32; 128];
-    let mut table = [0u32; 256];
-    let mut roots = [0u32; 4];
-    let consts = [0u32; 0];
-    let c = heaps::with_regions(&mut heap, &mut table, &mut roots, &consts, 4, 2);
-    let d = full_pages(&mut heap, &mut table, &roots, &consts, c);
-    let e = pages_behind(&mut heap, &mut table, &roots, &consts, d);
-    let f = heaps::named(&heap, &table, &mut roots, &consts, e, [8, 72, 136, 200]);
+fn two_pages_each(
+    heap: &mut [u32],
+    table: &mut [u32],
+    roots: &mut [u32],
+    consts: &[u32],
+    c: Control,
+) -> Control {
+    let d = full_pages(heap, table, roots, consts, c);
+    let e = pages_behind(heap, table, roots, consts, d);
+    heaps::named(heap, table, roots, consts, e, [8, 72, 136, 200])
+}
+
+fn page_behind(heap: &mut [u32], table: &mut [u32], roots: &mut [u32], consts: &[u32]) {
+    let c = heaps::with_regions(heap, table, roots, consts, 4, 2);
+    let d = two_pages_each(heap, table, roots, consts, c);
     collects(
         b"full pages with pages behind",
-        &mut heap,
-        &mut table,
-        &mut roots,
-        &consts,
-        f,
+        heap,
+        table,
+        roots,
+        consts,
+        d,
     );
 }
 
@@ -131,88 +136,111 @@ fn met_again(
     heaps::Kept { word: x.word, c: d }
 }
 
-fn scanned() {
-    let mut heap = [0u32; 64];
-    let mut table = [0u32; 256];
-    let mut roots = [0u32; 1];
-    let consts = [0u32; 0];
-    let c = heaps::with_regions(&mut heap, &mut table, &mut roots, &consts, 4, 2);
-    let x = met_again(&mut heap, &mut table, &roots, &consts, c);
-    let d = heaps::rooted(&heap, &table, &mut roots, &consts, x.c, 0, x.word);
+fn rooted_again(
+    heap: &mut [u32],
+    table: &mut [u32],
+    roots: &mut [u32],
+    consts: &[u32],
+    c: Control,
+) -> Control {
+    let x = met_again(heap, table, roots, consts, c);
+    heaps::rooted(heap, table, roots, consts, x.c, 0, x.word)
+}
+
+fn scanned(heap: &mut [u32], table: &mut [u32], roots: &mut [u32], consts: &[u32]) {
+    let c = heaps::with_regions(heap, table, roots, consts, 4, 2);
+    let d = rooted_again(heap, table, roots, consts, c);
     collects(
         b"a region met while it is scanned",
-        &mut heap,
-        &mut table,
-        &mut roots,
-        &consts,
+        heap,
+        table,
+        roots,
+        consts,
         d,
     );
 }
 
 // The words of a raw value are the pointers to itself, to its last word and past the heap.
-fn raw_words() {
-    let mut heap = [0u32; 32];
-    let mut table = [0u32; 256];
-    let mut roots = [0u32; 1];
-    let consts = [0u32; 0];
-    let c = heaps::with_regions(&mut heap, &mut table, &mut roots, &consts, 4, 1);
-    let x = heaps::stored(
-        &mut heap,
-        &mut table,
-        &roots,
-        &consts,
-        c,
-        0,
-        Kind::Raw,
-        &[8, 20, 4000],
-    );
-    let d = heaps::rooted(&heap, &table, &mut roots, &consts, x.c, 0, x.word);
-    collects(
-        b"raw words 8 20 4000",
-        &mut heap,
-        &mut table,
-        &mut roots,
-        &consts,
-        d,
-    );
+fn like_pointers(
+    heap: &mut [u32],
+    table: &mut [u32],
+    roots: &mut [u32],
+    consts: &[u32],
+    c: Control,
+) -> Control {
+    let x = heaps::stored(heap, table, roots, consts, c, 0, Kind::Raw, &[8, 20, 4000]);
+    heaps::rooted(heap, table, roots, consts, x.c, 0, x.word)
 }
 
-fn forwards() {
-    let mut heap = [0u32; 64];
-    let mut table = [0u32; 256];
-    let mut roots = [0u32; 4];
-    let consts = [0u32; 0];
-    let c = heaps::four(&mut heap, &mut table, &mut roots, &consts);
-    collects(
-        b"with a page too few",
-        &mut heap,
-        &mut table,
-        &mut roots,
-        &consts,
-        c,
-    );
+fn raw_words(heap: &mut [u32], table: &mut [u32], roots: &mut [u32], consts: &[u32]) {
+    let c = heaps::with_regions(heap, table, roots, consts, 4, 1);
+    let d = like_pointers(heap, table, roots, consts, c);
+    collects(b"raw words 8 20 4000", heap, table, roots, consts, d);
 }
 
-fn more_pages() {
-    let mut heap = [0u32; 80];
-    let mut table = [0u32; 256];
-    let mut roots = [0u32; 4];
-    let consts = [0u32; 0];
-    let c = heaps::four(&mut heap, &mut table, &mut roots, &consts);
+fn forwards(heap: &mut [u32], table: &mut [u32], roots: &mut [u32], consts: &[u32]) {
+    let c = heaps::four(heap, table, roots, consts);
+    collects(b"with a page too few", heap, table, roots, consts, c);
+}
+
+fn more_pages(heap: &mut [u32], table: &mut [u32], roots: &mut [u32], consts: &[u32]) {
+    let c = heaps::four(heap, table, roots, consts);
     say::text(b"pages free before and after 7, 7, 10, 4 words: ");
     say::decimal(c.count);
-    let after = heaps::record_of(collect(&mut heap, &mut table, &mut roots, &consts, c));
+    let after = heaps::record_of(collect(heap, table, roots, consts, c));
     say::text(b" ");
     say::decimal(after.count);
     say::text(b"\n");
 }
 
+// The slips, in the order of document 01; the first has two sides.
+pub enum Case {
+    PageEnd,
+    PageBehind,
+    Scanned,
+    RawWords,
+    Forwards,
+    MorePages,
+}
+
+fn play(case: Case, heap: &mut [u32], table: &mut [u32], roots: &mut [u32], consts: &[u32]) {
+    match case {
+        Case::PageEnd => page_end(heap, table, roots, consts),
+        Case::PageBehind => page_behind(heap, table, roots, consts),
+        Case::Scanned => scanned(heap, table, roots, consts),
+        Case::RawWords => raw_words(heap, table, roots, consts),
+        Case::Forwards => forwards(heap, table, roots, consts),
+        Case::MorePages => more_pages(heap, table, roots, consts),
+    }
+}
+
+// A case on a heap of so many words and roots, with a record of the number 7 in the constants.
+fn on(case: Case, words: usize, named: usize) {
+    let mut heap = [0u32; 128];
+    let mut table = [0u32; 256];
+    let mut roots = [0u32; 4];
+    let consts = [9u32, 7];
+    if 128 < words {
+        return;
+    }
+    if 4 < named {
+        return;
+    }
+    play(
+        case,
+        &mut heap[0..words],
+        &mut table,
+        &mut roots[0..named],
+        &consts,
+    );
+}
+
 pub fn soundings() {
     say::text(b"Slips\n");
-    page_end();
-    page_behind();
-    scanned();
-    raw_words();
-    forwards();
-    more_pages();
+    on(Case::PageEnd, 64, 1);
+    on(Case::PageBehind, 128, 4);
+    on(Case::Scanned, 64, 1);
+    on(Case::RawWords, 32, 1);
+    on(Case::Forwards, 64, 4);
+    on(Case::MorePages, 80, 4);
 }
