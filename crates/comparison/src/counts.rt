@@ -1,13 +1,13 @@
 // What was met, counted over all heaps.
 ghost use Prim.Native.Nat.{_≤_, _<_};
 use audit::audit;
+use leaves::word;
 use rules::Control;
 use rules::Plain;
 use rules::Refusal;
 use rules::refusal_number;
 use samples::census;
 use samples::census::add;
-use second::get;
 
 // The places of the sums. Heaps of page exponent n are counted at 1 + n.
 pub const HEAPS: usize = 0; // heaps, or images
@@ -69,7 +69,7 @@ fn regions(sums: &mut [u32], c: Control) {
 fn named(sums: &mut [u32], roots: &[u32]) {
     let mut i: usize = 0;
     while i < roots.len() {
-        add_if(sums, ROOTS_TO_VALUES, get(roots, i) % 4 == 0);
+        add_if(sums, ROOTS_TO_VALUES, word(roots, i) % 4 == 0);
         i += 1;
     }
 }

@@ -1,7 +1,7 @@
 // The report: what was met, and how it came out.
 use crate::counts;
+use leaves::word;
 use samples::census;
-use second::get;
 
 fn text(s: &[u8]) {
     io::write_all(1, s);
@@ -10,7 +10,7 @@ fn text(s: &[u8]) {
 fn line(name: &[u8], sums: &[u32], kind: usize) {
     text(name);
     text(b" ");
-    io::print_decimal(1, get(sums, kind) as u64);
+    io::print_decimal(1, word(sums, kind) as u64);
     text(b"\n");
 }
 

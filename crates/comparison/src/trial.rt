@@ -1,14 +1,14 @@
 // One heap, both collectors: the first in place, the second from a copy into a heap of its own. Every word, the record and the answer are
 // compared.
 use collection::collect;
+use leaves::word;
+use leaves::write;
 use rules::Control;
 use rules::Plain;
 use rules::Refusal;
 use rules::refusal_number;
 use second::Ended;
 use second::collect_again;
-use second::get;
-use second::set;
 
 // What the first collector answered, and whether the second agrees.
 pub struct Compared {
@@ -19,7 +19,7 @@ pub struct Compared {
 fn copy(from: &[u32], to: &mut [u32]) {
     let mut i: usize = 0;
     while i < from.len() {
-        set(to, i, get(from, i));
+        write(to, i, word(from, i));
         i += 1;
     }
 }
@@ -28,7 +28,7 @@ fn copy(from: &[u32], to: &mut [u32]) {
 fn same(a: &[u32], b: &[u32]) -> bool {
     let mut i: usize = 0;
     while i < a.len() {
-        if get(a, i) != get(b, i) {
+        if word(a, i) != word(b, i) {
             return false;
         }
         i += 1;

@@ -1,7 +1,7 @@
 // What stands in a heap, counted: so that a comparison can show which kinds of heap it met.
 ghost use Prim.Native.Nat.{_≤_, _<_};
-use second::get;
-use second::set;
+use leaves::word;
+use leaves::write;
 
 // The places of a tally.
 pub const PAGES: usize = 0; // pages of regions
@@ -28,21 +28,21 @@ pub const THERE_AND_BACK: usize = 9; // of these, to another value that points b
 pub fn add(tally: &mut [u32], kind: usize, m: usize)
     requires { ⌜ m < 4294967296 ⌝ }
 {
-    set(tally, kind, get(tally, kind) + m);
+    write(tally, kind, (word(tally, kind) + m) % 4294967296);
 }
 
 // Whether the record at b has a field that points to a.
 fn points_back(heap: &[u32], b: usize, a: usize) -> bool
     requires { ⌜ (a < 4294967296) × (b < 4294967296) ⌝ }
 {
-    let header = get(heap, b);
+    let header = word(heap, b);
     if header % 8 != 1 {
         return false;
     }
     let m = header / 8;
     let mut i: usize = 0;
     while i < m {
-        if get(heap, b + 1 + i) == 4 * a {
+        if word(heap, b + 1 + i) == 4 * a {
             return true;
         }
         i += 1;
@@ -83,7 +83,7 @@ fn fields(heap: &[u32], tally: &mut [u32], a: usize, m: usize)
 {
     let mut i: usize = 0;
     while i < m {
-        field(heap, tally, a, get(heap, a + 1 + i));
+        field(heap, tally, a, word(heap, a + 1 + i));
         i += 1;
     }
 }
@@ -113,7 +113,7 @@ fn values(heap: &[u32], tally: &mut [u32], start: usize, end: usize)
 {
     let mut a = start;
     while a < end {
-        let header = get(heap, a);
+        let header = word(heap, a);
         if header == 0 {
             return;
         }
@@ -127,7 +127,7 @@ fn values(heap: &[u32], tally: &mut [u32], start: usize, end: usize)
 fn page(heap: &[u32], tally: &mut [u32], a: usize, p: usize)
     requires { ⌜ (a ≤ 65536) × (p ≤ 256) ⌝ }
 {
-    if get(heap, a + 1) == 0 {
+    if word(heap, a + 1) == 0 {
         return;
     }
     add(tally, PAGES, 1);

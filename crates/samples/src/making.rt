@@ -3,6 +3,8 @@ ghost use Prim.Native.Nat.{_<_};
 use crate::chance::below;
 use crate::chance::next;
 use crate::shape::Shape;
+use leaves::word;
+use leaves::write;
 use paths::assign;
 use paths::set_root;
 use regions::allocate;
@@ -14,8 +16,6 @@ use rules::Opened;
 use rules::Plain;
 use rules::Region;
 use rules::Valued;
-use second::get;
-use second::set;
 
 // Where the making stands: the generator and the record.
 pub struct Stand {
@@ -65,7 +65,7 @@ fn push_all(
 fn word_for(pool: &[u32], x: u32, pointers: u32) -> u32 {
     let y = next(x);
     if below(x, 4) < pointers {
-        return narrow(get(pool, below(y, 64) as usize));
+        return narrow(word(pool, below(y, 64) as usize));
     }
     if below(y, 3) == 0 {
         return constant(next(y));
@@ -114,7 +114,7 @@ fn fill_words(words: &mut [u32], pool: &[u32], x: u32, pointers: u32, any: bool,
     let mut i: usize = 0;
     while i < m {
         y = next(y);
-        set(words, i, wide(value_word(pool, y, pointers, any)));
+        write(words, i, wide(value_word(pool, y, pointers, any)));
         i += 1;
     }
     y
@@ -141,8 +141,8 @@ fn longest(n: u32) -> usize {
 fn rest_of(table: &[u32], j: usize) -> usize
     requires { ⌜ j < 4294967296 ⌝ }
 {
-    let e = get(table, 4 * j);
-    let a = get(table, 4 * j + 2);
+    let e = word(table, 4 * j);
+    let a = word(table, 4 * j + 2);
     if e <= a {
         return 0;
     }
@@ -177,7 +177,7 @@ fn store(
 ) -> Stand {
     match allocate(heap, table, roots, consts, s.c, Region(j), kind, words) {
         Valued::Done(w, c) => {
-            set(pool, below(s.x, 64) as usize, w as usize);
+            write(pool, below(s.x, 64) as usize, wide(w));
             Stand { x: s.x, c: c }
         }
         Valued::Refused(_, c) => Stand { x: s.x, c: c },
@@ -249,16 +249,16 @@ fn one_assign(
     pointers: u32,
 ) -> Stand {
     let x = next(s.x);
-    let target = narrow(get(pool, below(x, 64) as usize));
+    let target = narrow(word(pool, below(x, 64) as usize));
     let y = next(x);
     let field = below(y, 9) as usize;
     let z = next(y);
-    let word = if below(z, 4) == 0 {
+    let w = if below(z, 4) == 0 {
         target
     } else {
         word_for(pool, z, pointers)
     };
-    let c = record_of(assign(heap, table, roots, consts, s.c, target, field, word));
+    let c = record_of(assign(heap, table, roots, consts, s.c, target, field, w));
     Stand { x: z, c: c }
 }
 
@@ -272,9 +272,9 @@ fn one_pair(
     s: Stand,
 ) -> Stand {
     let x = next(s.x);
-    let a = narrow(get(pool, below(x, 64) as usize));
+    let a = narrow(word(pool, below(x, 64) as usize));
     let y = next(x);
-    let b = narrow(get(pool, below(y, 64) as usize));
+    let b = narrow(word(pool, below(y, 64) as usize));
     let c = record_of(assign(heap, table, roots, consts, s.c, a, 0, b));
     let d = record_of(assign(heap, table, roots, consts, c, b, 0, a));
     Stand { x: y, c: d }
@@ -343,8 +343,8 @@ fn name_roots(
     let mut i: usize = 0;
     while i < roots.len() {
         let x = next(now.x);
-        let word = word_for(pool, x, 3);
-        let c = record_of(set_root(heap, table, roots, consts, now.c, i, word));
+        let w = word_for(pool, x, 3);
+        let c = record_of(set_root(heap, table, roots, consts, now.c, i, w));
         now = Stand { x: x, c: c };
         i += 1;
     }

@@ -10,8 +10,8 @@ Inv-loop heap b a header m i₀ i = i ≤ m
 abbrev μ-loop : tie.MeasureT-loop
 μ-loop heap b a header m i₀ i = m - i
 
-get-requires : tie.Need-get-requires Inv-loop μ-loop
-get-requires c κs = search needs
+word-requires : tie.Need-word-requires Inv-loop μ-loop
+word-requires c κs = search needs
 
 returns : tie.Need-returns Inv-loop μ-loop
 returns c = search needs
@@ -19,14 +19,14 @@ returns c = search needs
 loop-holds : tie.Need-loop-holds Inv-loop μ-loop
 loop-holds c = search needs
 
-add-get : tie.Need-add-get Inv-loop μ-loop
-add-get c = search needs
+add-word : tie.Need-add-word Inv-loop μ-loop
+add-word c = search needs
 
-add-get-2 : tie.Need-add-get-2 Inv-loop μ-loop
-add-get-2 c = search needs
+add-word-2 : tie.Need-add-word-2 Inv-loop μ-loop
+add-word-2 c = search needs
 
-get-requires-2 : tie.Need-get-requires-2 Inv-loop μ-loop
-get-requires-2 c κs = search needs
+word-requires-2 : tie.Need-word-requires-2 Inv-loop μ-loop
+word-requires-2 c κs = search needs
 
 mul-if2 : tie.Need-mul-if2 Inv-loop μ-loop
 mul-if2 c = search needs
@@ -52,12 +52,12 @@ points-back-spec =
     (tie.spec
     Inv-loop
     μ-loop
-    get-requires
+    word-requires
     returns
     loop-holds
-    add-get
-    add-get-2
-    get-requires-2
+    add-word
+    add-word-2
+    word-requires-2
     mul-if2
     returns-2
     add-i
