@@ -180,6 +180,28 @@ pub fn walk_from<'a>(heap: &'a [u32], consts: &'a [u32], c: Control, w: u32, pat
     walk_from(heap, consts, c, next, &path[1..])
 }
 
+// How many steps one run of the recursion takes.
+const PIECE: usize = 256;
+
+// The word that a path ends on from the word w. A long path is walked piece by piece, each from where the last one ended: a walk then takes no
+// more of the stack than one piece does.
+fn walk_pieces<'a>(heap: &'a [u32], consts: &'a [u32], c: Control, w: u32, path: &[u32]) -> Valued
+    requires { ⌜ Paged (c .n) (length (now heap)) × (length (now consts) ≤ 65535) ⌝ }
+    ensures { λ r. ⌜ r ≡ walkSays c (walkFrom (lookOf (c .n) (c .regions) (now (heap .entry)) (now (consts .entry))) w (now (path .entry))) ⌝ }
+{
+    let mut at = w;
+    let mut i = 0;
+    while PIECE < path.len() - i {
+        let walked = walk_from(heap, consts, c, at, &path[i..i + PIECE]);
+        let Valued::Done(next, _) = walked else {
+            return walked;
+        };
+        at = next;
+        i += PIECE;
+    }
+    walk_from(heap, consts, c, at, &path[i..])
+}
+
 // The word that a path ends on: a root's number, and the field numbers.
 pub fn walk<'a>(
     heap: &'a [u32],
@@ -200,5 +222,5 @@ pub fn walk<'a>(
         return Valued::Refused(Refusal::NoSuch, c);
     }
     let start = roots[root];
-    walk_from(heap, consts, c, start, path)
+    walk_pieces(heap, consts, c, start, path)
 }

@@ -20,7 +20,7 @@ use Rattle.rules.specs.Refusals.{refused, leaving}
 use Rattle.rules.specs.Calls.{setUp, walk, audit, usedWords}
 use Rattle.rules.specs.Collection.{collected, collect}
 use Rattle.rules.specs.Seen.{homeIn, seen, Reached, readValue, readAt, Meet, wordsAt}
-use Rattle.rules.proofs.Seen.{Alike, reading-tells}
+use Rattle.rules.proofs.Seen.{ReadsAlike, reading-tells}
 use Rattle.rules.specs.Pages.{Run}
 use Rattle.facts.proofs.Sound.{Sound, Passes}
 use Rattle.facts.proofs.Passing.{meaning, audit-yes}
@@ -52,7 +52,7 @@ pub record Demand3 : Type 0 where
   -- a collection of a heap that passes is refused 4, with all as it was, or finishes, and nothing else
   pub collection : (s : Store) → audit s ≡ Plain.Done (s .ctl) → (collect s ≡ refused s Refusal.NoPage) ⊎ ((s′ : Store) × (collect s ≡ leaving s′) × Finished s s′)
   -- what equal readings of two values say: the same region, kind and length, the same numbers in the fields, the same raw words
-  pub reading : (home home′ : ℕ) (v v′ : List ℕ) → readValue home v ≡ readValue home′ v′ → Alike home home′ v v′
+  pub reading : (home home′ : ℕ) (v v′ : List ℕ) → readValue home v ≡ readValue home′ v′ → ReadsAlike home home′ v v′
   -- 6. from a fresh heap whose constants keep rule 8, any run of calls, refused ones included, each given the same lent words and its own last
   -- record, leaves a heap that passes
   pub any-run : (n : ℕ) (heap table roots consts : List ℕ) (c : Control) → rule8 (lent heap table roots consts c) ≡ true

@@ -63,6 +63,7 @@ frames-at (e ∷ es) line text i w = go (frameFits (e .kind) (partFits (e .most)
 pub record Well (text : List ℕ) (h : Head) : Type 0 where
   pub words : readText text ≡ frames (headList h ∷ framesAt (layout (headList h)) text 71)
   pub limits : Headed h
+  pub first : h ≡ headFrom (wordsAt 8 text 6)
 
 pub judged-well : (text : List ℕ) (h : Head) → judgedAs (readText text) ≡ Judged.Well h → Well text h
 judged-well text h e = go (frameFits 1 headFits text 0) refl
@@ -81,6 +82,7 @@ judged-well text h e = go (frameFits 1 headFits text 0) refl
         (record {
           words = text-on text first refl f ∙ ap (withFrame (headList first)) (frames-at (layout (headList first)) 2 text 71 q);
           limits = headed first (head-fits text first refl f);
+          first = refl;
         })
     rest f (Rest.Malformed line) q = not-judged line (sym (judged-on text first refl f ∙ ap (onRest first) q) ∙ e)
 
@@ -144,6 +146,10 @@ module _ (text : List ℕ) (h : Head) (w : Well text h) where
   unfolding sameLengths lengthsFit
   same heap table roots consts =
       rw (pages-at-length (h .pages) (2 ^ h .n) text pages-at, length-padded (h .roots) (wordsOf text roots-at), length-padded (h .consts) (wordsOf text consts-at))
+
+  pub same-lengths : (heap table roots consts : List ℕ)
+      → sameLengths (storeOf (headList h ∷ framesAt (layout (headList h)) text 71)) heap table roots consts ≡ lengthsFit h (length heap) (length table) (length roots) (length consts)
+  same-lengths heap table roots consts = rw stored (same heap table roots consts)
 
   module _ (heap table roots consts : List ℕ) where
     read-on : readImage text heap table roots consts ≡ readStore store-at heap table roots consts

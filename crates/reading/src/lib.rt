@@ -66,7 +66,7 @@ fn judge_pages(text: &[u8], c: Cursor, pages: usize, most: usize) -> Rest
 }
 
 // The words of the first frame.
-fn read_head(text: &[u8]) -> Head
+pub fn read_head(text: &[u8]) -> Head
     ensures { λ r. ⌜ r ≡ headFrom (wordsAt 8 (now (text .entry)) 6) ⌝ }
 {
     Head {
@@ -82,7 +82,7 @@ fn read_head(text: &[u8]) -> Head
 }
 
 // How many words so many pages have.
-fn heap_words(pages: u32, n: u32) -> usize
+pub fn heap_words(pages: u32, n: u32) -> usize
     requires { ⌜ n ≤ 8 ⌝ }
     ensures { λ r. ⌜ r ≡ pages * 2 ^ n ⌝ }
 {

@@ -12,7 +12,7 @@ use Rattle.rules.specs.Calls.{headerIn, isNumber}
 use Rattle.rules.specs.Seen.{masked, Reading, refusal, whole, ofRecord, ofRaw, readValue}
 
 -- two values that read the same
-pub record Alike (home home′ : ℕ) (v v′ : List ℕ) : Type 0 where
+pub record ReadsAlike (home home′ : ℕ) (v v′ : List ℕ) : Type 0 where
   pub homes : home ≡ home′
   pub kinds : isRecord (headerIn v) ≡ isRecord (headerIn v′)
   pub lengths : length (drop 1 v) ≡ length (drop 1 v′)
@@ -77,7 +77,7 @@ words-read : (h : ℕ) (v : List ℕ) → isRecord (headerIn v) ≡ false → wo
 unfolding readValue
 words-read h v e = rw e
 
-pub reading-tells : (h h′ : ℕ) (v v′ : List ℕ) → readValue h v ≡ readValue h′ v′ → Alike h h′ v v′
+pub reading-tells : (h h′ : ℕ) (v v′ : List ℕ) → readValue h v ≡ readValue h′ v′ → ReadsAlike h h′ v v′
 reading-tells h h′ v v′ e = record { homes = sym (home-read h v) ∙ ap homeOf e ∙ home-read h′ v′; kinds = same; lengths = long (isRecord (headerIn v)) refl; fields = field; words = word }
   where
     same : isRecord (headerIn v) ≡ isRecord (headerIn v′)

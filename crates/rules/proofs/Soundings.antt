@@ -37,6 +37,8 @@ pub data Sounding : Type 0 where
   -- the heap passes the audit; its collection leaves the other heap, which passes too; or it is refused
   collectsTo : Store → Store → Sounding
   collectsNot : Store → ℕ → Sounding
+  -- the first rule that it breaks
+  breaks : Store → ℕ → Sounding
   -- its working wants so many pages
   wants : Store → ℕ → Sounding
   -- numbers all 1, so many, allocated as a record in region 0: the pointer, or the refusal
@@ -102,6 +104,7 @@ holds (hasNone i k) = isNoWord k (wordOfNumber i)
 holds (prints text text′) = same (collectProgram (bytes text)) (bytes text′)
 holds (collectsTo s s′) = isDone (audit s) && leavesPassing s′ (collect s) (collect s .answer)
 holds (collectsNot s k) = isDone (audit s) && isRefusal k s (collect s) (collect s .answer)
+holds (breaks s k) = eqb (brokenRule s) k
 holds (wants s m) = eqb (wanted s) m
 holds (stores s m w) = isPointer w (allocate s 0 Kind.Record (ones m) .answer)
 holds (storesNot s m k) = isNoPointer k (allocate s 0 Kind.Record (ones m) .answer)
@@ -182,6 +185,17 @@ apartAfter =
     heapOf (control 4 2 1 2 2) (48 ∷ 32 ∷ 36 ∷ 0 ∷ 64 ∷ 48 ∷ 52 ∷ []) (136 ∷ []) []
     ((2 ∷ []) ∷ [] ∷ (0 ∷ 1 ∷ 9 ∷ 200 ∷ []) ∷ (0 ∷ 2 ∷ 9 ∷ 7 ∷ []) ∷ [])
 
+-- a root that is no good pointer; and so a field too
+abbrev pub badRoot : Store
+badRoot = heapOf (control 4 1 2 2 1) (16 ∷ 0 ∷ 4 ∷ []) (12 ∷ []) [] ((0 ∷ 1 ∷ 9 ∷ 8 ∷ []) ∷ [] ∷ [])
+
+abbrev pub badField : Store
+badField = heapOf (control 4 1 2 2 1) (16 ∷ 0 ∷ 4 ∷ []) (12 ∷ []) [] ((0 ∷ 1 ∷ 9 ∷ 12 ∷ []) ∷ [] ∷ [])
+
+-- a free page that holds a word
+abbrev pub dirty : Store
+dirty = heapOf (control 4 1 2 2 1) (16 ∷ 0 ∷ 4 ∷ []) (8 ∷ []) [] ((0 ∷ 1 ∷ 9 ∷ 8 ∷ []) ∷ (0 ∷ 0 ∷ 5 ∷ []) ∷ [])
+
 -- N 128, with a free count
 abbrev pub board : ℕ → Store
 board count = lent (replicate 2048 0) (replicate 256 0) [] [] (control 4 0 1 128 count)
@@ -218,8 +232,11 @@ soundings =
     ∷ isDue (board 43) false
     -- "No live value: each region has one empty page."
     ∷ collectsTo dead deadAfter
-    -- beside the starred: values stay in their regions, and the pages that the workings above want
+    -- beside the starred: values stay in their regions, the first broken rule is named, and the pages that the workings above want
     ∷ collectsTo apart apartAfter
+    ∷ breaks badRoot 7
+    ∷ breaks badField 6
+    ∷ breaks dirty 9
     ∷ wants four 3
     ∷ wants fourTight 3
     ∷ wants apart 2

@@ -25,7 +25,7 @@ fn wide(w: u32) -> usize
 }
 
 // The word at a place, 0 outside.
-pub fn get(words: &[u32], i: usize) -> usize
+fn get(words: &[u32], i: usize) -> usize
     ensures { λ r. ⌜ r < 4294967296 ⌝ }
 {
     if words.len() <= i {
@@ -35,7 +35,7 @@ pub fn get(words: &[u32], i: usize) -> usize
 }
 
 // A word stored, nothing outside.
-pub fn set(words: &mut [u32], i: usize, v: usize) {
+fn set(words: &mut [u32], i: usize, v: usize) {
     if words.len() <= i {
         return;
     }

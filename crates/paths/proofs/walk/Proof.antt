@@ -30,12 +30,12 @@ mul-start c = search needs
 shared-slice-read-start : tie.Need-shared-slice-read-start
 shared-slice-read-start c = search needs
 
-walk-from-requires : tie.Need-walk-from-requires
-walk-from-requires c κs = let a = tests-admit _ _ _ _ _ (c .before .before .before .before .first-tests .ensures) (c .before .before .enum-told .given .1) in (a .paged, a .consts)
+walk-pieces-requires : tie.Need-walk-pieces-requires
+walk-pieces-requires c κs = let a = tests-admit _ _ _ _ _ (c .before .before .before .before .first-tests .ensures) (c .before .before .enum-told .given .1) in (a .paged, a .consts)
 
 returns-3 : tie.Need-returns-3
 unfolding walk
-returns-3 c = let f = tests-pass _ _ _ _ _ (c .before .before .before .before .before .first-tests .ensures) (c .before .before .before .enum-told .given .1) in rw (f .0, f .1, lt-leb _ _ (c .before .before .if1 .left)) (c .walk-from .ensures)
+returns-3 c = let f = tests-pass _ _ _ _ _ (c .before .before .before .before .before .first-tests .ensures) (c .before .before .before .enum-told .given .1) in rw (f .0, f .1, lt-leb _ _ (c .before .before .if1 .left)) (c .walk-pieces .ensures)
 
 pub walk-spec : {M : Type 1} → statement M
 walk-spec =
@@ -48,5 +48,5 @@ walk-spec =
     returns-2
     mul-start
     shared-slice-read-start
-    walk-from-requires
+    walk-pieces-requires
     returns-3)

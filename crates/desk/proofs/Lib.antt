@@ -1,0 +1,4 @@
+pub mod Lengths
+pub mod Collected
+pub mod Programs
+pub mod Enough

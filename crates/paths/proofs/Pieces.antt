@@ -1,0 +1,104 @@
+-- A path walked piece by piece. The word that a walk of a front ends on is where the walk of the rest begins, since what is asked of that word at
+-- its end is asked again at the next step; and where the front stops the whole stops.
+use Prim.Native.Nat.{ℕ, suc, _+_, _-_, _≤_}
+use mathlib.Core.Path.{_≡_, refl, sym, ap, _∙_}
+use mathlib.Core.Bool.{Bool, true, false, not}
+use mathlib.Core.List.{List, [], _∷_, _++_}
+use native.Mathlib.Omega.{arith}
+use lib.Dec.{leb}
+use lib.ListN.{length, take, drop, take-append-drop, length-drop}
+use lib.Seq.{drop-drop, take-all}
+use Rattle.laws.specs.Choice.{_⇒_∣_}
+use Rattle.laws.specs.Lists.{at}
+use Rattle.rules.specs.declared.Control.{Control}
+use Rattle.rules.specs.declared.Refusal.{Refusal}
+use Rattle.rules.specs.declared.Valued.{Valued}
+use Rattle.rules.specs.Words.{wordOf, isRecord}
+use Rattle.rules.specs.Calls.{headerIn, fieldsIn, isThere, isNumber, Walked, ends, stops, stepInto, walkFrom, walkSays}
+
+-- a walk that goes on where another ends
+abbrev onward : Walked → (ℕ → Walked) → Walked
+onward (ends x) go = go x
+onward (stops r) go = stops r
+
+-- a step that both take, or refuse alike
+step-or : (a b d : Bool) (x y : Walked) (go : ℕ → Walked) → x ≡ onward y go
+    → (a ⇒ stops Refusal.NotGood ∣ b ⇒ stops Refusal.NoFields ∣ d ⇒ stops Refusal.NoSuch ∣ x)
+    ≡ onward (a ⇒ stops Refusal.NotGood ∣ b ⇒ stops Refusal.NoFields ∣ d ⇒ stops Refusal.NoSuch ∣ y) go
+step-or true b d x y go e = refl
+step-or false true d x y go e = refl
+step-or false false true x y go e = refl
+step-or false false false x y go e = e
+
+into : (v : List ℕ) (f : ℕ) (g h go : ℕ → Walked) → g (at v (suc f)) ≡ onward (h (at v (suc f))) go
+    → stepInto v f g ≡ onward (stepInto v f h) go
+unfolding stepInto
+into v f g h go e = step-or (not (isThere v)) (not (isRecord (headerIn v))) (leb (fieldsIn v) f) (g (at v (suc f))) (h (at v (suc f))) go e
+
+number-or : (b : Bool) (x y : Walked) (go : ℕ → Walked) → x ≡ onward y go
+    → (b ⇒ stops Refusal.NoFields ∣ x) ≡ onward (b ⇒ stops Refusal.NoFields ∣ y) go
+number-or true x y go e = refl
+number-or false x y go e = e
+
+module _ (view : ℕ → List ℕ) where
+  -- a word that is no good pointer stops every path
+  stuck : (w : ℕ) (q : List ℕ) → isNumber (wordOf w) ≡ false → isThere (view w) ≡ false → walkFrom view w q ≡ stops Refusal.NotGood
+  unfolding walkFrom stepInto
+  stuck w [] n t = rw (n, t)
+  stuck w (f ∷ fs) n t = rw (n, t)
+
+  from-end : (w : ℕ) (q : List ℕ) (b t : Bool) → isNumber (wordOf w) ≡ b → isThere (view w) ≡ t
+      → walkFrom view w q ≡ onward (b ⇒ ends w ∣ not t ⇒ stops Refusal.NotGood ∣ ends w) (λ x. walkFrom view x q)
+  from-end w q true t n h = refl
+  from-end w q false true n h = refl
+  from-end w q false false n h = stuck w q n h
+
+  joined : (p q : List ℕ) (w : ℕ) → walkFrom view w (p ++ q) ≡ onward (walkFrom view w p) (λ x. walkFrom view x q)
+  unfolding walkFrom
+  joined [] q w = from-end w q (isNumber (wordOf w)) (isThere (view w)) refl refl
+  joined (f ∷ fs) q w =
+      number-or
+      (isNumber (wordOf w))
+      (stepInto (view w) f (λ x. walkFrom view x (fs ++ q)))
+      (stepInto (view w) f (λ x. walkFrom view x fs))
+      (λ x. walkFrom view x q)
+      (into (view w) f (λ x. walkFrom view x (fs ++ q)) (λ x. walkFrom view x fs) (λ x. walkFrom view x q) (joined fs q (at (view w) (suc f))))
+
+  -- the walk of what lies behind i, by its piece up to e
+  split : (w i e : ℕ) (path : List ℕ) → i ≤ e
+      → walkFrom view w (drop i path) ≡ onward (walkFrom view w (take (e - i) (drop i path))) (λ x. walkFrom view x (drop e path))
+  split w i e path h =
+      let k : i + (e - i) ≡ e = omega arith in
+      let rest : drop (e - i) (drop i path) ≡ drop e path = drop-drop (e - i) i path ∙ ap (λ (n : ℕ). drop n path) k in
+      ap (walkFrom view w) (sym (take-append-drop (e - i) (drop i path)))
+      ∙ joined (take (e - i) (drop i path)) (drop (e - i) (drop i path)) w
+      ∙ ap (λ (l : List ℕ). onward (walkFrom view w (take (e - i) (drop i path))) (λ x. walkFrom view x l)) rest
+
+passed : (c : Control) {d : Control} {x : ℕ} (m : Walked) (go : ℕ → Walked) → Valued.Done x d ≡ walkSays c m → onward m go ≡ go x
+passed c {d} {x} (ends w) go e = let same : w ≡ x = cc in ap go same
+passed c (stops r) go e = absurd (let z : _≡_ {A = ℕ} 0 1 = cc in omega arith)
+
+halted : (c : Control) {d : Control} {r : Refusal} (m : Walked) (go : ℕ → Walked) → Valued.Refused r d ≡ walkSays c m → walkSays c m ≡ walkSays c (onward m go)
+halted c (ends w) go e = absurd (let z : _≡_ {A = ℕ} 0 1 = cc in omega arith)
+halted c (stops s) go e = refl
+
+-- v is what the walk of the piece from i to e answered
+module _ (view : ℕ → List ℕ) (c : Control) (w i e : ℕ) (path : List ℕ) (h : i ≤ e) {v : Valued}
+    (s : v ≡ walkSays c (walkFrom view w (take (e - i) (drop i path)))) where
+  -- it ended: the walk goes on behind it
+  pub piece-ends : {x : ℕ} {d : Control} → v ≡ Valued.Done x d → walkFrom view w (drop i path) ≡ walkFrom view x (drop e path)
+  piece-ends q = split view w i e path h ∙ passed c (walkFrom view w (take (e - i) (drop i path))) (λ x. walkFrom view x (drop e path)) (sym q ∙ s)
+
+  -- it stopped: so does the walk
+  pub piece-stops : {r : Refusal} {d : Control} → v ≡ Valued.Refused r d → v ≡ walkSays c (walkFrom view w (drop i path))
+  piece-stops q =
+      s
+      ∙ halted c (walkFrom view w (take (e - i) (drop i path))) (λ x. walkFrom view x (drop e path)) (sym q ∙ s)
+      ∙ ap (walkSays c) (sym (split view w i e path h))
+
+-- the last piece is all that is left
+pub last-piece : (view : ℕ → List ℕ) (c : Control) (w i : ℕ) (path : List ℕ) {v : Valued}
+    → v ≡ walkSays c (walkFrom view w (take (length path - i) (drop i path)))
+    → v ≡ walkSays c (walkFrom view w (drop i path))
+last-piece view c w i path s =
+    s ∙ ap (λ (p : List ℕ). walkSays c (walkFrom view w p)) (take-all (length path - i) (drop i path) (omega (arith, length-drop i path)))
