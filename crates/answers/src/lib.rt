@@ -173,7 +173,7 @@ fn put_value<'a>(
     consts: &'a [u32],
     c: Control,
 ) -> usize {
-    put_part(out, at, paths::fetch(heap, table, roots, consts, c, w))
+    put_part(out, at, access::fetch(heap, table, roots, consts, c, w))
 }
 
 fn put_page<'a>(

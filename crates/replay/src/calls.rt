@@ -37,7 +37,7 @@ fn allocate(
     if words.len() < l {
         return unknown(c);
     }
-    word(regions::allocate(heap, table, roots, consts, c, j, kind, &words[0..l]))
+    word(allocation::allocate(heap, table, roots, consts, c, j, kind, &words[0..l]))
 }
 
 // The first k lent bytes are the image's text.
@@ -104,7 +104,7 @@ pub fn change(
         Changing::Push => plain(regions::push(heap, table, roots, consts, c)),
         Changing::Pop => plain(release::pop(heap, table, roots, consts, c)),
         Changing::Alloc(j, kind, l) => allocate(heap, table, roots, consts, words, c, j, kind, l),
-        Changing::Assign(w, field, x) => plain(paths::assign(
+        Changing::Assign(w, field, x) => plain(access::assign(
             heap,
             table,
             roots,
@@ -114,7 +114,7 @@ pub fn change(
             field,
             x,
         )),
-        Changing::Root(i, w) => plain(paths::set_root(heap, table, roots, consts, c, i, w)),
+        Changing::Root(i, w) => plain(access::set_root(heap, table, roots, consts, c, i, w)),
         Changing::Read(k) => read(heap, table, roots, consts, bytes, c, k),
         Changing::Collect => plain(collection::collect(heap, table, roots, consts, c)),
         Changing::Poke(part, i, w) => poke(part, i, w, heap, table, roots, consts, c),
@@ -131,7 +131,7 @@ fn fetch<'a>(
     c: Control,
     w: u32,
 ) -> Outcome {
-    match paths::fetch_refusal(heap, table, roots, consts, c, w) {
+    match access::fetch_refusal(heap, table, roots, consts, c, w) {
         Plain::Done(d) => saying(Answer::Value(w), d),
         Plain::Refused(why, d) => saying(Answer::Refused(why), d),
     }

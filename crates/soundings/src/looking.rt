@@ -1,10 +1,10 @@
 // Fetch, page, walk, assign and set root, on the heap of "Sh" with one record of the number 7 in the constants.
+use access::assign;
+use access::fetch;
+use access::fetch_refusal;
+use access::set_root;
 use pages::page_by_number;
 use pages::page_refusal;
-use paths::assign;
-use paths::fetch;
-use paths::fetch_refusal;
-use paths::set_root;
 use paths::walk;
 use rules::Control;
 use rules::Page;

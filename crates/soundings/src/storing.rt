@@ -1,5 +1,5 @@
 // Allocation, and whether a collection is due.
-use regions::allocate;
+use allocation::allocate;
 use regions::due;
 use rules::Control;
 use rules::Kind;

@@ -1,8 +1,8 @@
 // Heaps made by the calls, for soundings that begin with one.
 use crate::say;
-use paths::assign;
-use paths::set_root;
-use regions::allocate;
+use access::assign;
+use access::set_root;
+use allocation::allocate;
 use regions::push;
 use regions::set_up;
 use rules::Control;
