@@ -11,15 +11,28 @@ use lib.Dec.{eqb}
 use borrow.Author.Tests.{not-false, ne-eqb}
 use Rattle.laws.specs.Choice.{_⇒_∣_}
 use Rattle.laws.specs.Lists.{at}
+use Rattle.rules.specs.declared.Control.{Control}
 use Rattle.rules.specs.declared.Refusal.{Refusal}
+use Rattle.rules.specs.declared.Plain.{Plain}
+use Rattle.rules.specs.declared.Valued.{Valued}
+use Rattle.rules.specs.declared.Told.{Told}
+use Rattle.rules.specs.declared.Opened.{Opened}
+use Rattle.rules.specs.declared.Worded.{Worded}
+use Rattle.rules.specs.declared.Numbered.{Numbered}
 use Rattle.rules.specs.Memory.{Store, row}
 use Rattle.rules.specs.Words.{number}
 use Rattle.rules.specs.Audit.{brokenRule}
-use Rattle.rules.specs.Refusals.{numberOf, withinLimits, commonTest, admitted, unbroken, audited}
+use Rattle.rules.specs.Refusals.{numberOf, Outcome, outcome, refused, refusedValue, withinLimits, commonTest, admitted, unbroken, audited}
 use Rattle.rules.specs.Collection.{leaves}
-use Rattle.promises.specs.Order.{Test, test, firstOf, First, this, next, numbers, Refusing, limitsTest, recordTest, auditTest}
+use Rattle.rules.specs.Image.{Written, refusedText}
+use Rattle.promises.specs.Order.{Test, test, firstOf, numbers, whyPlain, whyValued, whyTold, whyOpened, whyWorded, whyNumbered, limitsTest, recordTest, auditTest}
 
 -- ---- tests in order
+
+-- r is the refusal of a test that holds, and no test before it does
+pub data First : List Test → Refusal → Type 0 where
+  this : {t : Test} {ts : List Test} {r : Refusal} → t .holds ≡ true → t .why ≡ r → First (t ∷ ts) r
+  next : {t : Test} {ts : List Test} {r : Refusal} → t .holds ≡ false → First ts r → First (t ∷ ts) r
 
 pub first-is : (ts : List Test) (r : Refusal) → (firstOf ts ≡ some r) ↔ First ts r
 unfolding firstOf
@@ -42,6 +55,13 @@ pub first-number : {ts : List Test} {r : Refusal} → First ts r → List·Mem�
 unfolding numbers
 first-number (this q e) = List·Memᴰ·head (ap numberOf (sym e))
 first-number (next q f) = List·Memᴰ·tail (first-number f)
+
+-- How calls of a kind refuse: `refuse r` is the outcome of a refusal, the store as it was and the record as given; `why` is what an outcome
+-- refuses with.
+pub record Refusing (O : Type 0) : Type 0 where
+  pub refuse : Refusal → O
+  pub why : O → Option Refusal
+  pub says : (r : Refusal) → why (refuse r) ≡ some r
 
 -- the outcome o is decided by the tests: it refuses by the first that holds, and a refusal leaves all as it was
 pub record Lawful {O : Type 0} (way : Refusing O) (ts : List Test) (o : O) : Type 0 where
@@ -87,3 +107,35 @@ module _ {O : Type 0} (way : Refusing O) where
   pub after-audit : (s : Store) (ts : List Test) (rest : O) → (withinLimits s ≡ true → commonTest s ≡ true → brokenRule s ≡ 0 → Lawful way ts rest)
       → Lawful way (limitsTest s ∷ recordTest s ∷ auditTest s ∷ ts) (audited (way .refuse) s rest)
   after-audit s ts rest f = after-admission s (auditTest s ∷ ts) _ (λ l c. after-rules s ts rest (brokenRule s) (λ b. f l c b))
+
+-- ---- the kinds of outcome
+
+-- calls that may change the lent words
+abbrev pub onPlain : Store → Refusing (Outcome Plain)
+onPlain s = record { refuse = refused s; why = λ o. whyPlain (o .answer); says = λ r. refl }
+
+abbrev pub onValued : Store → Refusing (Outcome Valued)
+onValued s = record { refuse = refusedValue s; why = λ o. whyValued (o .answer); says = λ r. refl }
+
+abbrev pub onOpened : List ℕ → List ℕ → List ℕ → List ℕ → Refusing (Outcome Opened)
+onOpened heap table roots consts =
+    record { refuse = λ r. outcome (Opened.Refused r) heap table roots consts; why = λ o. whyOpened (o .answer); says = λ r. refl }
+
+abbrev pub onText : Store → List ℕ → Refusing Written
+onText s bytes = record { refuse = refusedText s bytes; why = λ w. whyValued (w .answer); says = λ r. refl }
+
+-- calls that only answer
+abbrev pub toPlain : Control → Refusing Plain
+toPlain c = record { refuse = λ r. Plain.Refused r c; why = whyPlain; says = λ r. refl }
+
+abbrev pub toValued : Control → Refusing Valued
+toValued c = record { refuse = λ r. Valued.Refused r c; why = whyValued; says = λ r. refl }
+
+abbrev pub toTold : Control → Refusing Told
+toTold c = record { refuse = λ r. Told.Refused r c; why = whyTold; says = λ r. refl }
+
+abbrev pub toWorded : Refusing Worded
+toWorded = record { refuse = Worded.Refused; why = whyWorded; says = λ r. refl }
+
+abbrev pub toNumbered : Refusing Numbered
+toNumbered = record { refuse = Numbered.Refused; why = whyNumbered; says = λ r. refl }

@@ -1,7 +1,6 @@
 -- Document 01, "Refusal numbers": the tests of each call, in the paper's order, each with the refusal that it gives where it holds. A call
 -- refuses by the first that holds.
 use Prim.Native.Nat.{ℕ, zero, suc, _+_, _-_, _/_, _%_, _^_}
-use mathlib.Core.Path.{_≡_, refl}
 use mathlib.Core.Bool.{Bool, true, false, _&&_, _||_, not}
 use mathlib.Core.Option.{Option, none, some}
 use mathlib.Core.List.{List, [], _∷_}
@@ -9,7 +8,6 @@ use lib.ListN.{length, drop}
 use lib.IntN.{ℤ, pos, negsuc}
 use lib.Dec.{leb, ltb, eqb}
 use Rattle.laws.specs.Lists.{at, zeros}
-use Rattle.rules.specs.declared.Control.{Control}
 use Rattle.rules.specs.declared.Kind.{Kind}
 use Rattle.rules.specs.declared.Refusal.{Refusal}
 use Rattle.rules.specs.declared.Plain.{Plain}
@@ -21,11 +19,11 @@ use Rattle.rules.specs.declared.Numbered.{Numbered}
 use Rattle.rules.specs.Memory.{Store, limits, pageCount, row, endOf, topOf}
 use Rattle.rules.specs.Words.{Word, number, inHeap, inConst, wordOf, pointerAddress, isRecord}
 use Rattle.rules.specs.Audit.{brokenRule, goodWord}
-use Rattle.rules.specs.Refusals.{numberOf, Outcome, outcome, refused, refusedValue, withinLimits, commonTest}
+use Rattle.rules.specs.Refusals.{numberOf, withinLimits, commonTest}
 use Rattle.rules.specs.Pages.{begun, linkFits}
 use Rattle.rules.specs.Calls.{lookIn, headerIn, fieldsIn, letGo, rowFits, wordsFit, isThere, isNumber}
 use Rattle.rules.specs.Collection.{finished, lacksPage, unfinished, freshen, evacuateAll, workStack}
-use Rattle.rules.specs.Image.{Written, refusedText, imageText, Frames, frames, malformed, readText, storeOf, sameLengths}
+use Rattle.rules.specs.Image.{imageText, Frames, frames, malformed, readText, storeOf, sameLengths}
 
 -- ---- Tests in order.
 
@@ -40,11 +38,6 @@ test b r = record { holds = b; why = r }
 unfoldable pub firstOf : List Test → Option Refusal
 firstOf [] = none
 firstOf (t ∷ ts) = elim (t .holds) [ true ↦ some (t .why) | false ↦ firstOf ts ]
-
--- r is the refusal of a test that holds, and no test before it does
-pub data First : List Test → Refusal → Type 0 where
-  this : {t : Test} {ts : List Test} {r : Refusal} → t .holds ≡ true → t .why ≡ r → First (t ∷ ts) r
-  next : {t : Test} {ts : List Test} {r : Refusal} → t .holds ≡ false → First ts r → First (t ∷ ts) r
 
 -- the paper's numbers, in order
 unfoldable pub numbers : List Test → List ℕ
@@ -248,42 +241,3 @@ wordTests i = test (not (ltb (sizeOf i) (2 ^ 30))) Refusal.NoNumber ∷ []
 
 abbrev pub numberTests : ℕ → List Test
 numberTests w = test (eqb (w % 2) 0) Refusal.NoNumber ∷ []
-
--- ---- How calls refuse.
-
--- How calls of a kind refuse: `refuse r` is the outcome of a refusal, the store as it was and the record as given; `why` is what an outcome
--- refuses with.
-pub record Refusing (O : Type 0) : Type 0 where
-  pub refuse : Refusal → O
-  pub why : O → Option Refusal
-  pub says : (r : Refusal) → why (refuse r) ≡ some r
-
--- calls that may change the lent words
-abbrev pub onPlain : Store → Refusing (Outcome Plain)
-onPlain s = record { refuse = refused s; why = λ o. whyPlain (o .answer); says = λ r. refl }
-
-abbrev pub onValued : Store → Refusing (Outcome Valued)
-onValued s = record { refuse = refusedValue s; why = λ o. whyValued (o .answer); says = λ r. refl }
-
-abbrev pub onOpened : List ℕ → List ℕ → List ℕ → List ℕ → Refusing (Outcome Opened)
-onOpened heap table roots consts =
-    record { refuse = λ r. outcome (Opened.Refused r) heap table roots consts; why = λ o. whyOpened (o .answer); says = λ r. refl }
-
-abbrev pub onText : Store → List ℕ → Refusing Written
-onText s bytes = record { refuse = refusedText s bytes; why = λ w. whyValued (w .answer); says = λ r. refl }
-
--- calls that only answer
-abbrev pub toPlain : Control → Refusing Plain
-toPlain c = record { refuse = λ r. Plain.Refused r c; why = whyPlain; says = λ r. refl }
-
-abbrev pub toValued : Control → Refusing Valued
-toValued c = record { refuse = λ r. Valued.Refused r c; why = whyValued; says = λ r. refl }
-
-abbrev pub toTold : Control → Refusing Told
-toTold c = record { refuse = λ r. Told.Refused r c; why = whyTold; says = λ r. refl }
-
-abbrev pub toWorded : Refusing Worded
-toWorded = record { refuse = Worded.Refused; why = whyWorded; says = λ r. refl }
-
-abbrev pub toNumbered : Refusing Numbered
-toNumbered = record { refuse = Numbered.Refused; why = whyNumbered; says = λ r. refl }
