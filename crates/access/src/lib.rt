@@ -62,7 +62,7 @@ pub fn fetch_refusal<'a>(
 
 // What assigning does after the first tests, whatever the table and the roots are: the target is judged first, then the field's number,
 // then the word.
-pub fn assign_into(
+fn assign_into(
     heap: &mut [u32],
     consts: &[u32],
     c: Control,

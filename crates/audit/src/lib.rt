@@ -20,7 +20,7 @@ ghost use Rattle.rules.specs.Memory.{lent};
 ghost use Rattle.rules.specs.Refusals.{Admitted};
 
 // The first broken rule, 0 where all hold.
-pub fn broken_rule(heap: &[u32], table: &[u32], roots: &[u32], consts: &[u32], c: Control) -> u32
+fn broken_rule(heap: &[u32], table: &[u32], roots: &[u32], consts: &[u32], c: Control) -> u32
     requires { ⌜ Admitted (length (now heap)) (length (now table)) (length (now roots)) (length (now consts)) c ⌝ }
     ensures { λ r. ⌜ r ≡ brokenRule (lent (now (heap .entry)) (now (table .entry)) (now (roots .entry)) (now (consts .entry)) c) ⌝ }
 {

@@ -38,7 +38,7 @@ pub fn zero_between(words: &[u32], from: Address, to: Address) -> bool
 }
 
 // Whether each region's b is 0.
-pub fn idle(table: &[u32], regions: usize) -> bool
+fn idle(table: &[u32], regions: usize) -> bool
     requires { ⌜ (length (now table) ≡ 256) × (regions ≤ 64) ⌝ }
     ensures { λ r. ⌜ r ≡ allBelow (λ j. eqb (statusOf (now (table .entry)) j) 0) regions ⌝ }
 {
@@ -79,7 +79,7 @@ pub enum Listed {
 }
 
 // Whether a region's fp is the address of a page.
-pub fn opens(heap: &[u32], table: &[u32], j: Region, n: u32) -> bool
+fn opens(heap: &[u32], table: &[u32], j: Region, n: u32) -> bool
     requires { ⌜ Paged n (length (now heap)) × (length (now table) ≡ 256) × (j .0 < 64) ⌝ }
     ensures { λ r. ⌜ r ≡ opensOf n (now (heap .entry)) (now (table .entry)) (j .0) ⌝ }
 {
@@ -91,7 +91,7 @@ pub fn opens(heap: &[u32], table: &[u32], j: Region, n: u32) -> bool
 }
 
 // The regions' chains: each opens at a page, bears its region's origin and ends with link 0.
-pub fn regions_chained(heap: &[u32], table: &[u32], n: u32, regions: usize) -> Chained
+fn regions_chained(heap: &[u32], table: &[u32], n: u32, regions: usize) -> Chained
     requires { ⌜ Paged n (length (now heap)) × (length (now table) ≡ 256) × (regions ≤ 64) ⌝ }
     ensures { λ r. ⌜ r ≡ regionsChained n (now (heap .entry)) (now (table .entry)) regions ⌝ }
 {
@@ -134,7 +134,7 @@ pub fn regions_chained(heap: &[u32], table: &[u32], n: u32, regions: usize) -> C
 }
 
 // The free list: its pages bear no origin, and it ends with link 0.
-pub fn free_listed(heap: &[u32], n: u32, first: u32) -> Listed
+fn free_listed(heap: &[u32], n: u32, first: u32) -> Listed
     requires { ⌜ Paged n (length (now heap)) ⌝ }
     ensures { λ r. ⌜ r ≡ freeListed n (now (heap .entry)) first ⌝ }
 {

@@ -42,7 +42,7 @@ use rules::Region;
 use rules::pointer_address;
 
 // A fresh page for region j. Whether there was one.
-pub fn fresh(heap: &mut [u32], notes: &mut [u32], j: Region, n: u32) -> bool
+fn fresh(heap: &mut [u32], notes: &mut [u32], j: Region, n: u32) -> bool
     requires { ⌜ (4 ≤ n) × (n ≤ 8) × (j .0 < 4294967296) ⌝ }
     ensures { λ r. ⌜ out r (now (heap .exit)) (now (notes .exit)) ≡ freshDef n (j .0) (desk (now (heap .entry)) (now (notes .entry))) ⌝ }
 {
@@ -61,7 +61,7 @@ pub fn fresh(heap: &mut [u32], notes: &mut [u32], j: Region, n: u32) -> bool
 }
 
 // A fresh page for each region, bottom first. Whether there were enough.
-pub fn freshen(heap: &mut [u32], notes: &mut [u32], regions: u32, n: u32) -> bool
+fn freshen(heap: &mut [u32], notes: &mut [u32], regions: u32, n: u32) -> bool
     requires { ⌜ (4 ≤ n) × (n ≤ 8) ⌝ }
     ensures { λ r. ⌜ out r (now (heap .exit)) (now (notes .exit)) ≡ freshenDef n regions (desk (now (heap .entry)) (now (notes .entry))) ⌝ }
 {
@@ -79,7 +79,7 @@ pub fn freshen(heap: &mut [u32], notes: &mut [u32], regions: u32, n: u32) -> boo
 }
 
 // The value of the root w moved. Whether there was room.
-pub fn move_root(heap: &mut [u32], notes: &mut [u32], w: usize, n: u32) -> bool
+fn move_root(heap: &mut [u32], notes: &mut [u32], w: usize, n: u32) -> bool
     requires { ⌜ (4 ≤ n) × (n ≤ 8) × (w < 4294967296) ⌝ }
     ensures { λ r. ⌜ out r (now (heap .exit)) (now (notes .exit)) ≡ moveRoot n w (desk (now (heap .entry)) (now (notes .entry))) ⌝ }
 {
@@ -90,7 +90,7 @@ pub fn move_root(heap: &mut [u32], notes: &mut [u32], w: usize, n: u32) -> bool
 }
 
 // The values of the roots moved, in order. Whether there was room.
-pub fn move_roots(heap: &mut [u32], notes: &mut [u32], roots: &[u32], n: u32) -> bool
+fn move_roots(heap: &mut [u32], notes: &mut [u32], roots: &[u32], n: u32) -> bool
     requires { ⌜ (4 ≤ n) × (n ≤ 8) ⌝ }
     ensures { λ r. ⌜ out r (now (heap .exit)) (now (notes .exit)) ≡ moveRoots n (now (roots .entry)) (desk (now (heap .entry)) (now (notes .entry))) ⌝ }
 {
@@ -107,7 +107,7 @@ pub fn move_roots(heap: &mut [u32], notes: &mut [u32], roots: &[u32], n: u32) ->
 }
 
 // The scan stack worked, by at most `fuel` steps.
-pub fn work_stack(heap: &mut [u32], notes: &mut [u32], fuel: usize, n: u32) -> Step
+fn work_stack(heap: &mut [u32], notes: &mut [u32], fuel: usize, n: u32) -> Step
     requires { ⌜ (4 ≤ n) × (n ≤ 8) ⌝ }
     ensures { λ r. ⌜ out r (now (heap .exit)) (now (notes .exit)) ≡ workStack n fuel (desk (now (heap .entry)) (now (notes .entry))) ⌝ }
 {
@@ -126,7 +126,7 @@ pub fn work_stack(heap: &mut [u32], notes: &mut [u32], fuel: usize, n: u32) -> S
 }
 
 // Whether all is scanned.
-pub fn finished(t: Step) -> bool
+fn finished(t: Step) -> bool
     ensures { λ r. ⌜ r ≡ isFinished t ⌝ }
 {
     match t {
@@ -137,7 +137,7 @@ pub fn finished(t: Step) -> bool
 }
 
 // Fresh pages, roots, scan stack. Whether there were pages enough.
-pub fn attempt(
+fn attempt(
     heap: &mut [u32],
     notes: &mut [u32],
     roots: &[u32],
@@ -158,7 +158,7 @@ pub fn attempt(
 }
 
 // The heap as it was before the collection that took so many pages.
-pub fn undo(heap: &mut [u32], table: &[u32], taken: usize, c: Control)
+fn undo(heap: &mut [u32], table: &[u32], taken: usize, c: Control)
     requires { ⌜ Paged (c .n) (length (now heap)) ⌝ }
     ensures { λ _. ⌜ now (heap .exit)
         ≡ undoDef (c .n) taken (pageCount (c .n) (now (heap .entry))) (c .regions) (c .first) (now (table .entry)) (now (heap .entry)) ⌝ }
@@ -170,7 +170,7 @@ pub fn undo(heap: &mut [u32], table: &[u32], taken: usize, c: Control)
 }
 
 // The end of a collection that is done: the roots by their forwards, the new pages' origins, the old pages given back, the table. The new record.
-pub fn finish(
+fn finish(
     heap: &mut [u32],
     notes: &mut [u32],
     table: &mut [u32],

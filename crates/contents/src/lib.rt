@@ -75,7 +75,7 @@ pub fn rule5(heap: &[u32], table: &[u32], roots: &[u32], consts: &[u32], c: Cont
 }
 
 // Whether values stand back to back from constant 0, then zeros.
-pub fn consts_filled(consts: &[u32]) -> bool
+fn consts_filled(consts: &[u32]) -> bool
     requires { ⌜ length (now consts) ≤ 65535 ⌝ }
     ensures { λ r. ⌜ r ≡ filled 0 (now (consts .entry)) ⌝ }
 {
@@ -92,7 +92,7 @@ pub fn consts_filled(consts: &[u32]) -> bool
 }
 
 // Whether a constant's field is a number or a good constant pointer.
-pub fn const_field(consts: &[u32], w: u32) -> bool
+fn const_field(consts: &[u32], w: u32) -> bool
     requires { ⌜ length (now consts) ≤ 65535 ⌝ }
     ensures { λ r. ⌜ r ≡ constField (now (consts .entry)) w ⌝ }
 {
@@ -106,7 +106,7 @@ pub fn const_field(consts: &[u32], w: u32) -> bool
 }
 
 // Whether each field of each constant record is a number or a good constant pointer.
-pub fn const_fields(consts: &[u32]) -> bool
+fn const_fields(consts: &[u32]) -> bool
     requires { ⌜ length (now consts) ≤ 65535 ⌝ }
     ensures { λ r. ⌜ r ≡ all (fieldsPass (constField (now (consts .entry)))) (constVals (now (consts .entry))) ⌝ }
 {

@@ -53,7 +53,7 @@ pub fn take_page(heap: &mut [u32], notes: &mut [u32], n: u32) -> usize
 }
 
 // Room for m words in region j: there already, or by a page taken and linked. Whether there is room.
-pub fn room(heap: &mut [u32], notes: &mut [u32], j: Region, m: usize, n: u32) -> bool
+fn room(heap: &mut [u32], notes: &mut [u32], j: Region, m: usize, n: u32) -> bool
     requires { ⌜ (4 ≤ n) × (n ≤ 8) × (j .0 < 4294967296) × (m ≤ 4294967296) ⌝ }
     ensures { λ r. ⌜ out r (now (heap .exit)) (now (notes .exit)) ≡ roomDef n (j .0) m (desk (now (heap .entry)) (now (notes .entry))) ⌝ }
 {
@@ -101,7 +101,7 @@ pub fn move_value(heap: &mut [u32], notes: &mut [u32], a: Address, n: u32) -> bo
 }
 
 // The word at x: its value moved, and the forward written there. Whether there was room.
-pub fn evacuate(heap: &mut [u32], notes: &mut [u32], x: Address, n: u32) -> bool
+fn evacuate(heap: &mut [u32], notes: &mut [u32], x: Address, n: u32) -> bool
     requires { ⌜ (4 ≤ n) × (n ≤ 8) ⌝ }
     ensures { λ r. ⌜ out r (now (heap .exit)) (now (notes .exit)) ≡ evacuateDef n (x .0) (desk (now (heap .entry)) (now (notes .entry))) ⌝ }
 {
@@ -120,7 +120,7 @@ pub fn evacuate(heap: &mut [u32], notes: &mut [u32], x: Address, n: u32) -> bool
 }
 
 // The l words from x on. Whether there was room.
-pub fn scan_fields(heap: &mut [u32], notes: &mut [u32], x: Address, l: usize, n: u32) -> bool
+fn scan_fields(heap: &mut [u32], notes: &mut [u32], x: Address, l: usize, n: u32) -> bool
     requires { ⌜ (4 ≤ n) × (n ≤ 8) × (x .0 ≤ 4294967296) × (l < 4294967296) ⌝ }
     ensures { λ r. ⌜ out r (now (heap .exit)) (now (notes .exit)) ≡ each l (evacuateDef n) (x .0) (desk (now (heap .entry)) (now (notes .entry))) ⌝ }
 {
@@ -138,7 +138,7 @@ pub fn scan_fields(heap: &mut [u32], notes: &mut [u32], x: Address, l: usize, n:
 }
 
 // The copy at s: a record's fields; raw words are not looked at. Whether there was room.
-pub fn scan_value(heap: &mut [u32], notes: &mut [u32], s: Address, n: u32) -> bool
+fn scan_value(heap: &mut [u32], notes: &mut [u32], s: Address, n: u32) -> bool
     requires { ⌜ (4 ≤ n) × (n ≤ 8) × (s .0 < 4294967296) ⌝ }
     ensures { λ r. ⌜ out r (now (heap .exit)) (now (notes .exit)) ≡ scanValue n (s .0) (desk (now (heap .entry)) (now (notes .entry))) ⌝ }
 {
@@ -152,7 +152,7 @@ pub fn scan_value(heap: &mut [u32], notes: &mut [u32], s: Address, n: u32) -> bo
 // ---- The work.
 
 // The third word of the page after that of s.
-pub fn next_page(heap: &[u32], s: Address, n: u32) -> Address
+fn next_page(heap: &[u32], s: Address, n: u32) -> Address
     requires { ⌜ n ≤ 8 ⌝ }
     ensures { λ r. ⌜ (r .0 ≡ nextPage n (s .0) (now (heap .entry))) × (r .0 ≤ 16777218) ⌝ }
 {
@@ -163,7 +163,7 @@ pub fn next_page(heap: &[u32], s: Address, n: u32) -> Address
 }
 
 // Where the scan of region j goes on after the value at s.
-pub fn next_scan(heap: &[u32], notes: &[u32], j: Region, s: Address, n: u32) -> Address
+fn next_scan(heap: &[u32], notes: &[u32], j: Region, s: Address, n: u32) -> Address
     requires { ⌜ (4 ≤ n) × (n ≤ 8) × (j .0 < 4294967296) × (s .0 < 4294967296) ⌝ }
     ensures { λ r. ⌜ r .0 ≡ nextScan n (j .0) (s .0) (desk (now (heap .entry)) (now (notes .entry))) ⌝ }
 {
@@ -183,7 +183,7 @@ pub fn next_scan(heap: &[u32], notes: &[u32], j: Region, s: Address, n: u32) -> 
 }
 
 // One step, region j being scanned at s: a value scanned, or the region left.
-pub fn one_step(heap: &mut [u32], notes: &mut [u32], j: Region, s: Address, n: u32) -> Step
+fn one_step(heap: &mut [u32], notes: &mut [u32], j: Region, s: Address, n: u32) -> Step
     requires { ⌜ (4 ≤ n) × (n ≤ 8) × (j .0 < 4294967296) × (s .0 < 4294967296) ⌝ }
     ensures { λ r. ⌜ (out r (now (heap .exit)) (now (notes .exit)) ≡ stepDef n (j .0) (s .0) (desk (now (heap .entry)) (now (notes .entry)))) × Narrow r ⌝ }
 {

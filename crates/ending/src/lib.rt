@@ -35,7 +35,7 @@ use rules::region_origin;
 // ---- The undoing.
 
 // A forward at x becomes the header that the copy has kept. The next value's address.
-pub fn undo_value(heap: &mut [u32], x: Address) -> Address
+fn undo_value(heap: &mut [u32], x: Address) -> Address
     requires { ⌜ x .0 ≤ 4294967296 ⌝ }
     ensures { λ r. ⌜ after (r .0) (now (heap .exit)) ≡ undoValue (x .0) (now (heap .entry)) ⌝ }
 {
@@ -51,7 +51,7 @@ pub fn undo_value(heap: &mut [u32], x: Address) -> Address
 }
 
 // The headers of page k.
-pub fn undo_page(heap: &mut [u32], k: Page, n: u32)
+fn undo_page(heap: &mut [u32], k: Page, n: u32)
     requires { ⌜ (4 ≤ n) × (n ≤ 8) × (k .0 ≤ 65536) ⌝ }
     ensures { λ _. ⌜ now (heap .exit) ≡ undoPage n (k .0) (now (heap .entry)) ⌝ }
 {
@@ -74,7 +74,7 @@ pub fn undo_page(heap: &mut [u32], k: Page, n: u32)
 }
 
 // The headers of the chain of pages that starts with `first`.
-pub fn undo_chain(heap: &mut [u32], first: Page, pages: usize, n: u32)
+fn undo_chain(heap: &mut [u32], first: Page, pages: usize, n: u32)
     requires { ⌜ (4 ≤ n) × (n ≤ 8) × (pages ≤ 65536) ⌝ }
     ensures { λ _. ⌜ now (heap .exit) ≡ undoChain n pages (pageLink (first .0)) (now (heap .entry)) ⌝ }
 {
@@ -111,7 +111,7 @@ pub fn undo_headers(heap: &mut [u32], table: &[u32], regions: u32, pages: usize,
 }
 
 // Page k free again, with its link.
-pub fn relink(heap: &mut [u32], k: Page, link: usize, n: u32)
+fn relink(heap: &mut [u32], k: Page, link: usize, n: u32)
     requires { ⌜ (Paged n (length (now heap))) × (k .0 < pageCount n (now heap)) × (link < 4294967296) ⌝ }
     ensures { λ _. ⌜ now (heap .exit) ≡ setLink n (clearPage n (now (heap .entry)) (k .0)) (k .0) link ⌝ }
 {
@@ -146,7 +146,7 @@ pub fn relink_all(heap: &mut [u32], first: usize, taken: usize, pages: usize, n:
 // ---- The end.
 
 // The origin of region j for the chain of pages that starts with `first`.
-pub fn own_chain(heap: &mut [u32], j: Region, first: Page, pages: usize, n: u32)
+fn own_chain(heap: &mut [u32], j: Region, first: Page, pages: usize, n: u32)
     requires { ⌜ (n ≤ 8) × (j .0 ≤ 64) × (pages ≤ 65536) ⌝ }
     ensures { λ _. ⌜ now (heap .exit) ≡ ownChain n pages (j .0) (pageLink (first .0)) (now (heap .entry)) ⌝ }
 {
@@ -183,7 +183,7 @@ pub fn own_all(heap: &mut [u32], notes: &[u32], regions: u32, pages: usize, n: u
 }
 
 // Page k, cleared, at the back of the free list.
-pub fn give_back(heap: &mut [u32], notes: &mut [u32], k: Page, n: u32)
+fn give_back(heap: &mut [u32], notes: &mut [u32], k: Page, n: u32)
     requires { ⌜ (Paged n (length (now heap))) × (k .0 < pageCount n (now heap)) ⌝ }
     ensures { λ _. ⌜ desk (now (heap .exit)) (now (notes .exit)) ≡ giveBack n (k .0) (desk (now (heap .entry)) (now (notes .entry))) ⌝ }
 {
@@ -203,7 +203,7 @@ pub fn give_back(heap: &mut [u32], notes: &mut [u32], k: Page, n: u32)
 }
 
 // The chain of pages that starts with `first`, given back.
-pub fn give_chain(heap: &mut [u32], notes: &mut [u32], first: Page, pages: usize, n: u32)
+fn give_chain(heap: &mut [u32], notes: &mut [u32], first: Page, pages: usize, n: u32)
     requires { ⌜ (Paged n (length (now heap))) × (pages ≡ pageCount n (now heap)) ⌝ }
     ensures { λ _. ⌜ desk (now (heap .exit)) (now (notes .exit)) ≡ giveChain n pages (pageLink (first .0)) (desk (now (heap .entry)) (now (notes .entry))) ⌝ }
 {
@@ -247,7 +247,7 @@ pub fn give_all(
 }
 
 // The new word of a root.
-pub fn root_word(heap: &[u32], w: usize) -> usize
+fn root_word(heap: &[u32], w: usize) -> usize
     requires { ⌜ w < 4294967296 ⌝ }
     ensures { λ r. ⌜ (r ≡ rootWord (now (heap .entry)) w) × (r < 4294967296) ⌝ }
 {

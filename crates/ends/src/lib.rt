@@ -17,7 +17,7 @@ use rules::Control;
 use rules::Region;
 
 // Whether a region's a lies from e-P+2 to e.
-pub fn top_fits(table: &[u32], j: Region, n: u32) -> bool
+fn top_fits(table: &[u32], j: Region, n: u32) -> bool
     requires { ⌜ (length (now table) ≡ 256) × (j .0 < 64) × (4 ≤ n) × (n ≤ 8) ⌝ }
     ensures { λ r. ⌜ r ≡ topFits n (now (table .entry)) (j .0) ⌝ }
 {

@@ -29,7 +29,7 @@ pub enum Wanted {
 }
 
 // Whether a word points into a page of region j.
-pub fn points_into(heap: &[u32], n: u32, j: Region, w: u32) -> bool
+fn points_into(heap: &[u32], n: u32, j: Region, w: u32) -> bool
     requires { ⌜ Paged n (length (now heap)) ⌝ }
     ensures { λ r. ⌜ r ≡ pointsInto n (now (heap .entry)) (j .0) w ⌝ }
 {
@@ -49,7 +49,7 @@ pub fn points_into(heap: &[u32], n: u32, j: Region, w: u32) -> bool
 }
 
 // Whether a word passes the test.
-pub fn word_passes(
+fn word_passes(
     heap: &[u32],
     consts: &[u32],
     n: u32,
@@ -67,7 +67,7 @@ pub fn word_passes(
 }
 
 // Whether each of the words passes the test.
-pub fn words_pass(
+fn words_pass(
     heap: &[u32],
     consts: &[u32],
     n: u32,
@@ -90,7 +90,7 @@ pub fn words_pass(
 }
 
 // Whether each field of each record of the regions below a bound passes the test.
-pub fn records_pass(
+fn records_pass(
     heap: &[u32],
     table: &[u32],
     consts: &[u32],

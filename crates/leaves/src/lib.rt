@@ -58,7 +58,7 @@ pub fn low(v: usize) -> usize
 }
 
 // The address of page k, and one past every heap where k is no page of any.
-pub fn page_start(k: Page, n: u32) -> Address
+fn page_start(k: Page, n: u32) -> Address
     requires { ⌜ n ≤ 8 ⌝ }
     ensures { λ r. ⌜ (r .0 ≡ pageStart n (k .0)) × (r .0 ≤ 16777216) ⌝ }
 {
@@ -127,7 +127,7 @@ pub fn top_of(rows: &[u32], j: Region) -> Address
 }
 
 // Region j's b.
-pub fn status_of(rows: &[u32], j: Region) -> usize
+fn status_of(rows: &[u32], j: Region) -> usize
     requires { ⌜ j .0 < 4294967296 ⌝ }
     ensures { λ r. ⌜ r ≡ statusOf (now (rows .entry)) (j .0) ⌝ }
 {
@@ -165,7 +165,7 @@ pub fn set_status(rows: &mut [u32], j: Region, b: usize)
 // ---- Copying.
 
 // Whether m words at a and m words at b lie within a size, and apart.
-pub fn apart(m: usize, a: Address, b: Address, size: usize) -> bool
+fn apart(m: usize, a: Address, b: Address, size: usize) -> bool
     requires { ⌜ (m ≤ 4294967296) × (a .0 < 4294967296) × (b .0 < 4294967296) ⌝ }
     ensures { λ r. ⌜ r ≡ apartDef m (a .0) (b .0) size ⌝ }
 {

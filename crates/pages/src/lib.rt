@@ -65,7 +65,7 @@ pub fn within_limits(n: u32, heap: usize, table: usize, roots: usize, consts: us
 }
 
 // Whether the record passes the test of every call on a heap of h words.
-pub fn common_test(h: usize, c: Control) -> bool
+fn common_test(h: usize, c: Control) -> bool
     requires { ⌜ c .n ≤ 8 ⌝ }
     ensures { λ r. ⌜ r ≡ common (h / 2 ^ c .n) c ⌝ }
 {

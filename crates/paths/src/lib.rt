@@ -15,7 +15,7 @@ ghost use Rattle.rules.specs.Refusals.{Paged};
 ghost use Rattle.rules.specs.Words.{look as lookOf};
 
 // The word that a path ends on from the word w: one step is walked, and then the rest of it.
-pub fn walk_from<'a>(heap: &'a [u32], consts: &'a [u32], c: Control, w: u32, path: &[u32]) -> Valued
+fn walk_from<'a>(heap: &'a [u32], consts: &'a [u32], c: Control, w: u32, path: &[u32]) -> Valued
     requires { ⌜ Paged (c .n) (length (now heap)) × (length (now consts) ≤ 65535) ⌝ }
     ensures { λ r. ⌜ r ≡ walkSays c (walkFrom (lookOf (c .n) (c .regions) (now (heap .entry)) (now (consts .entry))) w (now (path .entry))) ⌝ }
 {

@@ -217,7 +217,7 @@ pub enum Byte {
     Bad,
 }
 
-pub fn read_byte(line: &[u8], at: usize) -> Byte {
+fn read_byte(line: &[u8], at: usize) -> Byte {
     if line.len() <= at {
         return Byte::Bad;
     }

@@ -39,7 +39,7 @@ pub fn is_record(h: u32) -> bool
 }
 
 // Whether stepping by headers, from one address up to another, lands on address a.
-pub fn stands(words: &[u32], start: Address, end: Address, a: Address) -> bool
+fn stands(words: &[u32], start: Address, end: Address, a: Address) -> bool
     requires { ⌜ (end .0 ≤ length (now words)) × (length (now words) ≤ 65536) ⌝ }
     ensures { λ r. ⌜ r ≡ standsAt (a .0) (valsIn (now (words .entry)) (start .0) (end .0)) ⌝ }
 {
@@ -112,7 +112,7 @@ pub fn nothing<'a>(memory: &'a [u32]) -> &'a [u32]
 }
 
 // The value at address a, which fits: its header and words.
-pub fn value_at<'a>(memory: &'a [u32], a: Address) -> &'a [u32]
+fn value_at<'a>(memory: &'a [u32], a: Address) -> &'a [u32]
     requires { ⌜ (a .0 < length (now memory)) × (fitsIn (at (now memory) (a .0)) (length (now memory) - (a .0 + 1)) ≡ true) ⌝ }
     ensures { λ r. ⌜ now r ≡ valueAt (now (memory .entry)) (a .0) ⌝ }
 {
