@@ -5,9 +5,10 @@ use native.Mathlib.Omega.{arith}
 use native.Mathlib.Nat.{le-refl}
 use native.Mathlib.Decide.{ℕ-discrete}
 use mathlib.Core.Path.{_≡_, refl, sym, ap, _∙_}
-use mathlib.Core.Logic.{_≢_, _⊎_, inl, inr}
+use mathlib.Core.Logic.{_≢_, _⊎_, inl, inr, ∥∥₁-elim}
+use mathlib.Core.HLevel.{⊥-prop}
 use mathlib.Core.Bool.{true, false}
-use mathlib.Core.List.{List, [], _∷_, _++_, List·Memᴰ, List·Memᴰ·head, List·Memᴰ·tail, List·Memᴰ·cases-cons, List·Memᴰ·not-nil, List·Memᴰ·append-cases}
+use mathlib.Core.List.{List, [], _∷_, _++_, List·Memᴰ, List·Memᴰ·head, List·Memᴰ·tail, List·Memᴰ·cases-cons, List·Memᴰ·not-nil, List·Memᴰ·append-cases, List·Nodup, nodup-nil, nodup-cons}
 use lib.ListN.{length}
 use lib.Dec.{eqb}
 use borrow.Author.Tests.{eqb-true, eq-eqb, ne-eqb}
@@ -24,6 +25,11 @@ once-tail (once-more f o) = o
 
 pub once-head : {k : ℕ} {ks : List ℕ} → Once (k ∷ ks) → List·Memᴰ k ks → ⊥
 once-head (once-more f o) = f
+
+-- the kit's word for it
+pub once-nodup : {ks : List ℕ} → Once ks → List·Nodup ks
+once-nodup once-none = nodup-nil
+once-nodup (once-more f o) = nodup-cons .1 (λ m. ∥∥₁-elim m ⊥-prop f, once-nodup o)
 
 pub data Last : List ℕ → ℕ → Type 0 where
   only : {k : ℕ} → Last (k ∷ []) k

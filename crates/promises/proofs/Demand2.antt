@@ -2,17 +2,18 @@
 -- that working needs more than the free list has. The due answer and used words are document 01's sums. Numbers and images
 -- read back as they were written."
 -- (What a collection leaves is the definition `collect`; that the code leaves it is the code's contract.)
+-- It is true because the working takes a page exactly where the one with as many pages as it wants does, until a page lacks; the sums and the
+-- readings are the definitions, step by step.
 use Prim.Native.Nat.{ℕ, suc, _+_, _*_, _^_, _≤_, _<_}
 use native.Mathlib.Omega.{arith}
 use mathlib.Core.Path.{_≡_, refl, sym, ap, _∙_}
 use mathlib.Core.Logic.{_↔_, _⊎_, inl, inr}
-use mathlib.Core.Bool.{Bool, true, false}
-use mathlib.Core.List.{List, [], _∷_, map}
+use mathlib.Core.Bool.{Bool, true}
+use mathlib.Core.List.{List, [], _∷_, map, sum}
 use lib.ListN.{length, take}
 use lib.IntN.{ℤ}
 use lib.Dec.{ltb}
 use borrow.Author.Tests.{ltb-true, lt-ltb}
-use Rattle.laws.specs.Sums.{sumOver}
 use Rattle.rules.specs.declared.Control.{Control}
 use Rattle.rules.specs.declared.Refusal.{Refusal}
 use Rattle.rules.specs.declared.Plain.{Plain}
@@ -21,7 +22,7 @@ use Rattle.rules.specs.declared.Told.{Told}
 use Rattle.rules.specs.declared.Opened.{Opened}
 use Rattle.rules.specs.declared.Worded.{Worded}
 use Rattle.rules.specs.declared.Numbered.{Numbered}
-use Rattle.rules.specs.Memory.{Store, pageCount, regionPages}
+use Rattle.rules.specs.Memory.{Store, Words32, pageCount, regionPages}
 use Rattle.rules.specs.Words.{Val, pageVals, usedOf}
 use Rattle.rules.specs.Audit.{usedOn, usedBy}
 use Rattle.rules.specs.Refusals.{Outcome, outcome, refused, leaving, withinLimits, commonTest}
@@ -29,7 +30,9 @@ use Rattle.rules.specs.Calls.{wordOfNumber, numberOfWord, audit, due, usedWords
 use Rattle.rules.specs.Pages.{Run}
 use Rattle.rules.specs.Collection.{fromSpace, collected, collect}
 use Rattle.rules.specs.Image.{writeImage, readImage}
+use Rattle.rules.specs.Left.{leftPlain, leftOpened}
 use Rattle.rules.specs.Wanted.{wanted}
+use Rattle.rules.proofs.Left.{left-leaving}
 use Rattle.facts.proofs.Sound.{Sound, Passes}
 use Rattle.facts.proofs.Passing.{audit-yes, meaning}
 use Rattle.facts.proofs.Observing.{used-is}
@@ -37,14 +40,8 @@ use Rattle.working.proofs.Running.{Ran, Refusing}
 use Rattle.working.proofs.Ending.{left-store}
 use Rattle.working.proofs.Refused.{refused-wants, done-pages}
 use Rattle.working.proofs.Collecting.{run-ends}
-use Rattle.promises.specs.Left.{leftPlain}
-use Rattle.promises.specs.Texts.{Words32, storeLeft}
 use Rattle.promises.proofs.NumbersBack.{number-back, word-back}
 use Rattle.promises.proofs.Images.{written-reads-back, read-writes-back}
-
--- the sum of a list of numbers
-abbrev pub sum : List ℕ → ℕ
-sum xs = sumOver (λ x. x) xs
 
 -- L+1 of each value of page k
 abbrev pub wordsOn : Store → ℕ → List ℕ
@@ -62,7 +59,7 @@ pub record Demand2 : Type 0 where
       → (b : Bool) × (due s ≡ Told.Done b (s .ctl)) × ((b ≡ true) ↔ (3 * s .ctl .count < pageCount (s .ctl .n) (s .heap)))
   -- a region's used words are L+1 summed over its values, page by page
   pub uses : (s : Store) → audit s ≡ Plain.Done (s .ctl) → (j : ℕ) → j < s .ctl .regions
-      → usedWords s j ≡ Valued.Done (sumOver (λ k. sum (wordsOn s k)) (regionPages (s .ctl .n) (s .heap) (s .table) j)) (s .ctl)
+      → usedWords s j ≡ Valued.Done (sum _+_ 0 (map (λ k. sum _+_ 0 (wordsOn s k)) (regionPages (s .ctl .n) (s .heap) (s .table) j))) (s .ctl)
   -- numbers read back as they were written, and 32-bit words too
   pub numbers : (i : ℤ) (w : ℕ) → wordOfNumber i ≡ Worded.Done w → numberOfWord w ≡ Numbered.Done i
   pub words : (w : ℕ) (i : ℤ) → w < 2 ^ 32 → numberOfWord w ≡ Numbered.Done i → wordOfNumber i ≡ Worded.Done w
@@ -71,17 +68,17 @@ pub record Demand2 : Type 0 where
       → (heap table roots consts : List ℕ) → length heap ≡ length (s .heap) → length table ≡ length (s .table) → length roots ≡ length (s .roots) → length consts ≡ length (s .consts)
       → readImage (take m (writeImage s bytes .bytes)) heap table roots consts ≡ outcome (Opened.Done (s .ctl)) (s .heap) (s .table) (s .roots) (s .consts)
   pub texts : (text heap table roots consts : List ℕ) (c : Control) → readImage text heap table roots consts .answer ≡ Opened.Done c
-      → (bytes : List ℕ) (m : ℕ) (d : Control) → writeImage (storeLeft (readImage text heap table roots consts) c) bytes .answer ≡ Valued.Done m d
-      → take m (writeImage (storeLeft (readImage text heap table roots consts) c) bytes .bytes) ≡ text
+      → (bytes : List ℕ) (m : ℕ) (d : Control) → writeImage (leftOpened (readImage text heap table roots consts) c) bytes .answer ≡ Valued.Done m d
+      → take m (writeImage (leftOpened (readImage text heap table roots consts) c) bytes .bytes) ≡ text
 
 -- the words that values take, as a sum
-used-sum : (vs : List Val) → usedOf vs ≡ sum (map (λ (v : Val). suc (length (v .words))) vs)
-unfolding usedOf sumOver
+used-sum : (vs : List Val) → usedOf vs ≡ sum _+_ 0 (map (λ (v : Val). suc (length (v .words))) vs)
+unfolding usedOf sum
 used-sum [] = refl
 used-sum (v ∷ vs) = ap (λ x. suc (length (v .words)) + x) (used-sum vs)
 
-used-pages : (s : Store) (ks : List ℕ) → usedOn (s .ctl .n) (s .heap) ks ≡ sumOver (λ k. sum (wordsOn s k)) ks
-unfolding usedOn sumOver
+used-pages : (s : Store) (ks : List ℕ) → usedOn (s .ctl .n) (s .heap) ks ≡ sum _+_ 0 (map (λ k. sum _+_ 0 (wordsOn s k)) ks)
+unfolding usedOn sum
 used-pages s [] = refl
 used-pages s (k ∷ ks) = rw (used-sum (pageVals (s .ctl .n) (s .heap) k), used-pages s ks)
 
@@ -96,7 +93,7 @@ dueing s l c =
     (ltb (3 * s .ctl .count) (pageCount (s .ctl .n) (s .heap)), rw (l, c), (λ e. ltb-true _ _ e, λ b. lt-ltb _ _ b))
 
 using-words : (s : Store) → audit s ≡ Plain.Done (s .ctl) → (j : ℕ) → j < s .ctl .regions
-    → usedWords s j ≡ Valued.Done (sumOver (λ k. sum (wordsOn s k)) (regionPages (s .ctl .n) (s .heap) (s .table) j)) (s .ctl)
+    → usedWords s j ≡ Valued.Done (sum _+_ 0 (map (λ k. sum _+_ 0 (wordsOn s k)) (regionPages (s .ctl .n) (s .heap) (s .table) j))) (s .ctl)
 unfolding usedBy
 using-words s e j b = used-is s (audit-yes s .0 e) j b ∙ ap (λ u. Valued.Done u (s .ctl)) (used-pages s (regionPages (s .ctl .n) (s .heap) (s .table) j))
 
@@ -121,7 +118,7 @@ finishing s s′ e f = go (run-ends s S)
         let z : _≡_ {A = ℕ} 0 1 = cc in
         absurd (omega arith)
     go (inr u) =
-        let q : left-store s S (u .0) (u .1) (u .2) ≡ s′ = ap leftPlain (sym (u .3) ∙ is) in
+        let q : left-store s S (u .0) (u .1) (u .2) ≡ s′ = sym (left-leaving _) ∙ ap leftPlain (sym (u .3) ∙ is) ∙ left-leaving s′ in
         let t = rw q at (done-pages s S (u .0) (u .1) (u .2)) in
         (t .enough, sym (t .taken), t .left)
 

@@ -1,14 +1,15 @@
 -- Demand 3. "On a heap that the audit passes, a collection finishes or lacks pages, and the heap passes again. If it finishes, every path from
 -- a root reads the same or is refused as before, two paths meet exactly when they met, every value stays in its region, and each region's used
 -- words are exactly those of its values that a root reaches, once each. From a fresh heap, any run of calls leaves a heap that passes."
--- It is stated over what `collect` of rules leaves, so over demand 2's result.
-use Prim.Native.Nat.{ℕ, _≤_, _<_}
-use mathlib.Core.Path.{_≡_, sym, ap, _∙_}
+-- It is stated over what `collect` of rules leaves, so over demand 2's result. It is true because a run on a sound heap lacks a page or ends with
+-- each reached value copied once, in its region and with its words; and each call keeps a heap sound.
+use Prim.Native.Nat.{ℕ, _+_, _≤_, _<_}
+use mathlib.Core.Path.{_≡_, _∙_}
 use mathlib.Core.Logic.{_↔_, _≢_, _⊎_, inl, inr}
 use mathlib.Core.Bool.{true}
-use mathlib.Core.List.{List, List·Memᴰ}
-use Rattle.laws.specs.Sums.{sumOver}
-use Rattle.laws.proofs.Once.{Once}
+use mathlib.Core.List.{List, map, sum, List·Memᴰ, List·Nodup}
+use Rattle.laws.proofs.Once.{once-nodup}
+use Rattle.laws.proofs.Sums.{sum-over}
 use Rattle.rules.specs.declared.Control.{Control}
 use Rattle.rules.specs.declared.Refusal.{Refusal}
 use Rattle.rules.specs.declared.Plain.{Plain}
@@ -19,15 +20,15 @@ use Rattle.rules.specs.Audit.{rule8}
 use Rattle.rules.specs.Refusals.{refused, leaving}
 use Rattle.rules.specs.Calls.{setUp, walk, audit, usedWords}
 use Rattle.rules.specs.Collection.{collected, collect}
-use Rattle.rules.specs.Seen.{homeIn, seen, Reached, readValue, readAt, Meet, wordsAt}
-use Rattle.rules.proofs.Seen.{ReadsAlike, reading-tells}
 use Rattle.rules.specs.Pages.{Run}
+use Rattle.rules.specs.Runs.{Call, run, fresh}
+use Rattle.rules.specs.Seen.{homeIn, seen, Reached, readValue, ReadsAlike, readAt, Meet, wordsAt}
+use Rattle.rules.proofs.Seen.{reading-tells}
 use Rattle.facts.proofs.Sound.{Sound, Passes}
 use Rattle.facts.proofs.Passing.{meaning, audit-yes}
 use Rattle.working.proofs.Running.{Ran, Refusing}
 use Rattle.working.proofs.Ending.{left-store}
-use Rattle.working.proofs.Collecting.{passes′, live, live-once, live-exactly, left-counts, never-more, left-reads, left-meets, run-ends}
-use Rattle.promises.specs.Run.{Call, run, fresh}
+use Rattle.working.proofs.Collecting.{passes′, live as live-values, live-once, live-exactly, left-counts, never-more as no-more, left-reads, left-meets, run-ends}
 use Rattle.promises.proofs.Keeps.{fresh-run-passes}
 
 -- s′ is what a finished collection of s leaves
@@ -42,9 +43,9 @@ pub record Finished (s s′ : Store) : Type 0 where
   pub meets : (i : ℕ) (fs : List ℕ) (j : ℕ) (gs : List ℕ) → Meet s i fs j gs ↔ Meet s′ i fs j gs
   -- 5. `live` are the pointers, each once, of exactly those values of regions that a root reaches; each region's used words are their L+1 summed
   pub live : List ℕ
-  pub once : Once live
+  pub once : List·Nodup live
   pub exactly : (w : ℕ) → List·Memᴰ w live ↔ (Reached (seen s) (s .roots) w × (homeIn s w ≢ 0))
-  pub counts : (j : ℕ) → j < s .ctl .regions → usedWords s′ j ≡ Valued.Done (sumOver (wordsAt (seen s) j) live) (s′ .ctl)
+  pub counts : (j : ℕ) → j < s .ctl .regions → usedWords s′ j ≡ Valued.Done (sum _+_ 0 (map (wordsAt (seen s) j) live)) (s′ .ctl)
   -- "A collection never raises them"
   pub never-more : (j u u′ : ℕ) → usedWords s j ≡ Valued.Done u (s .ctl) → usedWords s′ j ≡ Valued.Done u′ (s′ .ctl) → u′ ≤ u
 
@@ -65,11 +66,11 @@ finished s S roots r A = record {
   passes = audit-yes _ .1 (passes′ s S roots r A);
   reads = left-reads s S roots r A;
   meets = left-meets s S roots r A;
-  live = live s S roots r A;
-  once = live-once s S roots r A;
+  live = live-values s S roots r A;
+  once = once-nodup (live-once s S roots r A);
   exactly = live-exactly s S roots r A;
-  counts = left-counts s S roots r A;
-  never-more = never-more s S roots r A;
+  counts = λ j b. rw sum-over at (left-counts s S roots r A j b);
+  never-more = no-more s S roots r A;
 }
 
 collecting : (s : Store) → audit s ≡ Plain.Done (s .ctl) → (collect s ≡ refused s Refusal.NoPage) ⊎ ((s′ : Store) × (collect s ≡ leaving s′) × Finished s s′)

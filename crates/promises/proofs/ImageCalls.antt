@@ -18,8 +18,8 @@ use Rattle.rules.specs.declared.Opened.{Opened}
 use Rattle.rules.specs.Memory.{Store, lent, row, limits}
 use Rattle.rules.specs.Refusals.{Outcome, outcome, Admitted, common, withinLimits, commonTest}
 use Rattle.rules.specs.Image.{imageText, writeText, writeImage, Frames, frames, malformed, readText, storeOf, sameLengths, readStore, readImage}
+use Rattle.rules.specs.Left.{leftOpened}
 use Rattle.rules.proofs.Limits.{admits}
-use Rattle.promises.specs.Texts.{storeLeft}
 
 -- ---- writing
 
@@ -59,7 +59,7 @@ wrote s bytes m c h =
 pub record Opens (text heap table roots consts : List ℕ) (c : Control) : Type 0 where
   pub words : List (List ℕ)
   pub reads : readText text ≡ frames words
-  pub leaves : storeLeft (readImage text heap table roots consts) c ≡ storeOf words
+  pub leaves : leftOpened (readImage text heap table roots consts) c ≡ storeOf words
 
 pub opens : (text heap table roots consts : List ℕ) (c : Control) → readImage text heap table roots consts .answer ≡ Opened.Done c → Opens text heap table roots consts c
 unfolding readImage readStore

@@ -16,8 +16,9 @@ use lib.Dec.{ltb, eqb}
 use lib.ListN.{length}
 use Rattle.laws.specs.Choice.{_⇒_∣_}
 use Rattle.laws.specs.Lists.{at}
-use Rattle.promises.specs.Texts.{Small, Countable}
+use Rattle.rules.specs.Memory.{Small}
 use Rattle.rules.specs.Image.{digitOf, hex, hexWords, frame, newline, valueOf, digits, words, endFrame, readWords, readFrame}
+use Rattle.promises.specs.Texts.{Countable}
 
 -- ---- a digit
 

@@ -16,12 +16,12 @@ use Rattle.laws.specs.Choice.{_⇒_∣_}
 use Rattle.laws.specs.Lists.{at, padded, zeros}
 use Rattle.laws.proofs.Tests.{both, and-left, and-right}
 use Rattle.laws.proofs.Padded.{length-padded}
-use Rattle.rules.specs.Memory.{Store, lent, pageCount, pageWords, row}
+use Rattle.rules.specs.Memory.{Store, lent, pageCount, pageWords, row, Small, Words32}
 use Rattle.rules.specs.Refusals.{Paged, Admitted}
 use Rattle.rules.specs.Image.{frame, trim, headWords, pageFrames, imageText, trimmed, partFits, headFits, Expected, expected, layout, joined, storeOf, headControl}
 use Rattle.rules.proofs.Limits.{page-size, whole-pages, two-pages}
 use Rattle.rules.proofs.Frames.{trim-take, length-trim, trim-trimmed, padded-trim}
-use Rattle.promises.specs.Texts.{Small, Words32, Countable, HeadFits, FrameFits, Fits, WellFormed, framesText, textOf}
+use Rattle.promises.specs.Texts.{Countable, HeadFits, FrameFits, Fits, WellFormed, framesText, textOf}
 use Rattle.promises.proofs.ImageDigits.{small-cons}
 
 -- ---- words of 32 bits

@@ -9,10 +9,11 @@ use Rattle.rules.specs.declared.Control.{Control}
 use Rattle.rules.specs.declared.Refusal.{Refusal}
 use Rattle.rules.specs.declared.Valued.{Valued}
 use Rattle.rules.specs.declared.Opened.{Opened}
-use Rattle.rules.specs.Memory.{Store}
+use Rattle.rules.specs.Memory.{Store, Words32}
 use Rattle.rules.specs.Refusals.{Outcome, outcome}
 use Rattle.rules.specs.Image.{imageText, writeImage, readImage, readText, Frames, frames, malformed}
-use Rattle.promises.specs.Texts.{Words32, WellFormed, textOf, Fault, storeLeft}
+use Rattle.rules.specs.Left.{leftOpened}
+use Rattle.promises.specs.Texts.{WellFormed, textOf, Fault}
 use Rattle.promises.proofs.ImageFrames.{text-reads, reads-text, text-fault, fault-text}
 use Rattle.promises.proofs.ImageStores.{framesOf, image-text, frames-fit, store-back, text-back}
 use Rattle.promises.proofs.ImageCalls.{wrote, opens, fills, faults, faulted}
@@ -29,12 +30,12 @@ written-reads-back s bytes m c w h heap table roots consts eh et er ek =
 
 -- What reading accepts and writing accepts again is the same bytes.
 pub read-writes-back : (text heap table roots consts : List ℕ) (c : Control) → readImage text heap table roots consts .answer ≡ Opened.Done c
-    → (bytes : List ℕ) (m : ℕ) (d : Control) → writeImage (storeLeft (readImage text heap table roots consts) c) bytes .answer ≡ Valued.Done m d
-    → take m (writeImage (storeLeft (readImage text heap table roots consts) c) bytes .bytes) ≡ text
+    → (bytes : List ℕ) (m : ℕ) (d : Control) → writeImage (leftOpened (readImage text heap table roots consts) c) bytes .answer ≡ Valued.Done m d
+    → take m (writeImage (leftOpened (readImage text heap table roots consts) c) bytes .bytes) ≡ text
 read-writes-back text heap table roots consts c h bytes m d k =
     let o = opens text heap table roots consts c h in
     let r = reads-text text (o .words) (o .reads) in
-    wrote (storeLeft (readImage text heap table roots consts) c) bytes m d k .text ∙ ap imageText (o .leaves) ∙ text-back (o .words) (r .0) ∙ sym (r .1)
+    wrote (leftOpened (readImage text heap table roots consts) c) bytes m d k .text ∙ ap imageText (o .leaves) ∙ text-back (o .words) (r .0) ∙ sym (r .1)
 
 -- The frames that a text reads as are the well formed frames whose text it is.
 pub reading : (text : List ℕ) (fs : List (List ℕ)) → (readText text ≡ frames fs) ↔ (WellFormed fs × (text ≡ textOf fs))

@@ -20,8 +20,8 @@ use Rattle.facts.proofs.Passing.{meaning}
 use Rattle.facts.proofs.Sound.{Sound, Passes}
 use Rattle.working.proofs.Running.{Refusing}
 use Rattle.working.proofs.Collecting.{collects}
-use Rattle.promises.specs.Left.{leftPlain}
-use Rattle.promises.specs.Run.{Call, aPush, aPop, aCollect, anAudit, aDue, anAllocate, aFetch, aFetchRefusal, anAssign, aSetRoot, aWalk, aUsedWords, aPage, aPageRefusal, aWordOfNumber, aNumberOfWord, aWriteImage, after, run, fresh}
+use Rattle.rules.specs.Left.{leftPlain}
+use Rattle.rules.specs.Runs.{Call, aPush, aPop, aCollect, anAudit, aDue, anAllocate, aFetch, aFetchRefusal, anAssign, aSetRoot, aWalk, aUsedWords, aPage, aPageRefusal, aWordOfNumber, aNumberOfWord, aWriteImage, after, run, fresh}
 use Rattle.promises.proofs.KeepsGood.{audited-keeps}
 use Rattle.promises.proofs.KeepsFields.{set-root-keeps, assign-keeps}
 use Rattle.promises.proofs.KeepsPush.{push-keeps}

@@ -35,7 +35,7 @@ use Rattle.working.proofs.Aside.{stack-laid}
 use Rattle.working.proofs.Stored.{store-laid}
 use Rattle.working.proofs.Placed.{Roomed, room-was, room-made}
 use Rattle.working.proofs.Taken.{taken}
-use Rattle.promises.specs.Left.{leftValued}
+use Rattle.rules.specs.Left.{leftValued}
 use Rattle.promises.proofs.KeepsGood.{admitted-keeps, good-kept, record-was, field-was, not-old, owned, chained-by}
 use Rattle.promises.proofs.KeepsPush.{some-free}
 

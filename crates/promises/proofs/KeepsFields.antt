@@ -28,7 +28,7 @@ use Rattle.facts.proofs.Framed.{below-end, good-in}
 use Rattle.facts.proofs.Goods.{page-ends, good-of, in-heap}
 use Rattle.facts.proofs.Sound.{InHeap, Good, a-number, to-heap, to-const, Sound}
 use Rattle.working.proofs.Fielded.{field-laid}
-use Rattle.promises.specs.Left.{leftPlain}
+use Rattle.rules.specs.Left.{leftPlain}
 use Rattle.promises.proofs.KeepsGood.{admitted-keeps, good-page}
 
 -- ---- a root

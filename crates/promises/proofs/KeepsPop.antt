@@ -31,7 +31,7 @@ use Rattle.facts.proofs.Passing.{pages-are}
 use Rattle.facts.proofs.Sound.{InHeap, Good, Sound}
 use Rattle.working.proofs.Owned.{Owned}
 use Rattle.working.proofs.Fresh.{row-width, row-else, row-end, row-first, row-top, row-status}
-use Rattle.promises.specs.Left.{leftPlain}
+use Rattle.rules.specs.Left.{leftPlain}
 use Rattle.promises.proofs.KeepsGood.{audited-keeps, good-kept, record-was, field-was, not-old, owned, chained-by}
 
 -- ---- the region's pages as from-space

@@ -24,7 +24,7 @@ use Rattle.facts.proofs.Sound.{Good, Sound}
 use Rattle.working.proofs.Owned.{Owned}
 use Rattle.working.proofs.Taken.{taken, takes, taken-laid, others, k-link}
 use Rattle.working.proofs.Fresh.{row-width, row-else, row-end, row-first, row-top, row-status}
-use Rattle.promises.specs.Left.{leftPlain}
+use Rattle.rules.specs.Left.{leftPlain}
 use Rattle.promises.proofs.KeepsGood.{admitted-keeps, good-kept, record-was, field-was, not-old, owned, chained-by}
 
 module _ (s : Store) (S : Sound s) (k : ℕ) (ks : List ℕ) (free : S .free ≡ k ∷ ks) (below : s .ctl .regions < 64) where

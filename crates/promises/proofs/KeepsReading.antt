@@ -28,7 +28,7 @@ use Rattle.facts.proofs.Alike.{Alike, Same, AlikeWalks, both-end, both-stop, pa
 use Rattle.facts.proofs.Observing.{walk-is, read-is}
 use Rattle.facts.proofs.Passing.{meaning, pages-are}
 use Rattle.facts.proofs.Sound.{InHeap, InConst, Good, a-number, to-heap, to-const, GoodConst, number-there, const-there, Sound, Passes}
-use Rattle.promises.specs.Left.{leftPlain}
+use Rattle.rules.specs.Left.{leftPlain}
 use Rattle.promises.proofs.KeepsGood.{audited-keeps, good-page}
 use Rattle.promises.proofs.KeepsPop as Pop
 

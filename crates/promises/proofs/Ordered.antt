@@ -10,45 +10,29 @@ use mathlib.Core.List.{List, [], _∷_, List·Memᴰ, List·Memᴰ·head, List·
 use lib.Dec.{eqb}
 use borrow.Author.Tests.{not-false, ne-eqb}
 use Rattle.laws.specs.Choice.{_⇒_∣_}
-use Rattle.laws.specs.Lists.{at}
-use Rattle.rules.specs.declared.Control.{Control}
 use Rattle.rules.specs.declared.Refusal.{Refusal}
-use Rattle.rules.specs.declared.Plain.{Plain}
-use Rattle.rules.specs.declared.Valued.{Valued}
-use Rattle.rules.specs.declared.Told.{Told}
-use Rattle.rules.specs.declared.Opened.{Opened}
-use Rattle.rules.specs.declared.Worded.{Worded}
-use Rattle.rules.specs.declared.Numbered.{Numbered}
-use Rattle.rules.specs.Memory.{Store, row}
-use Rattle.rules.specs.Words.{number}
+use Rattle.rules.specs.Memory.{Store}
 use Rattle.rules.specs.Audit.{brokenRule}
-use Rattle.rules.specs.Refusals.{numberOf, Outcome, outcome, refused, refusedValue, withinLimits, commonTest, admitted, unbroken, audited}
-use Rattle.rules.specs.Collection.{leaves}
-use Rattle.rules.specs.Image.{Written, refusedText}
-use Rattle.promises.specs.Order.{Test, test, firstOf, numbers, whyPlain, whyValued, whyTold, whyOpened, whyWorded, whyNumbered, limitsTest, recordTest, auditTest}
+use Rattle.rules.specs.Refusals.{numberOf, withinLimits, commonTest, admitted, unbroken, audited}
+use Rattle.rules.specs.Order.{Test, test, firstRefusal, First, this, next, numbers, Refusing, limitsTest, recordTest, auditTest}
 
 -- ---- tests in order
 
--- r is the refusal of a test that holds, and no test before it does
-pub data First : List Test → Refusal → Type 0 where
-  this : {t : Test} {ts : List Test} {r : Refusal} → t .holds ≡ true → t .why ≡ r → First (t ∷ ts) r
-  next : {t : Test} {ts : List Test} {r : Refusal} → t .holds ≡ false → First ts r → First (t ∷ ts) r
-
-pub first-is : (ts : List Test) (r : Refusal) → (firstOf ts ≡ some r) ↔ First ts r
-unfolding firstOf
+pub first-is : (ts : List Test) (r : Refusal) → (firstRefusal ts ≡ some r) ↔ First ts r
+unfolding firstRefusal
 first-is ts r = (there ts, back)
   where
-    there : (ts : List Test) → firstOf ts ≡ some r → First ts r
+    there : (ts : List Test) → firstRefusal ts ≡ some r → First ts r
     there [] e = let z : _≡_ {A = ℕ} 0 1 = cc in absurd (omega arith)
     there (t ∷ ts) e = go (t .holds) refl (λ q. there ts q)
       where
-        go : (b : Bool) → t .holds ≡ b → (firstOf ts ≡ some r → First ts r) → First (t ∷ ts) r
-        go true q rest = let e′ : some (t .why) ≡ some r = rw (firstOf, q) at e in let z : t .why ≡ r = cc in this q z
-        go false q rest = next q (rest (rw (firstOf, q) at e))
+        go : (b : Bool) → t .holds ≡ b → (firstRefusal ts ≡ some r → First ts r) → First (t ∷ ts) r
+        go true q rest = let e′ : some (t .why) ≡ some r = rw (firstRefusal, q) at e in let z : t .why ≡ r = cc in this q z
+        go false q rest = next q (rest (rw (firstRefusal, q) at e))
 
-    back : {ts : List Test} → First ts r → firstOf ts ≡ some r
-    back (this q e) = rw (firstOf, q) (ap some e)
-    back (next q f) = rw (firstOf, q) (back f)
+    back : {ts : List Test} → First ts r → firstRefusal ts ≡ some r
+    back (this q e) = rw (firstRefusal, q) (ap some e)
+    back (next q f) = rw (firstRefusal, q) (back f)
 
 -- its number is one of theirs
 pub first-number : {ts : List Test} {r : Refusal} → First ts r → List·Memᴰ (numberOf r) (numbers ts)
@@ -56,16 +40,9 @@ unfolding numbers
 first-number (this q e) = List·Memᴰ·head (ap numberOf (sym e))
 first-number (next q f) = List·Memᴰ·tail (first-number f)
 
--- How calls of a kind refuse: `refuse r` is the outcome of a refusal, the store as it was and the record as given; `why` is what an outcome
--- refuses with.
-pub record Refusing (O : Type 0) : Type 0 where
-  pub refuse : Refusal → O
-  pub why : O → Option Refusal
-  pub says : (r : Refusal) → why (refuse r) ≡ some r
-
 -- the outcome o is decided by the tests: it refuses by the first that holds, and a refusal leaves all as it was
 pub record Lawful {O : Type 0} (way : Refusing O) (ts : List Test) (o : O) : Type 0 where
-  pub refuses : way .why o ≡ firstOf ts
+  pub refuses : way .why o ≡ firstRefusal ts
   pub leaves : (r : Refusal) → way .why o ≡ some r → o ≡ way .refuse r
 
 -- so a call gives a refusal exactly when its condition holds and none earlier in the order does
@@ -75,13 +52,13 @@ exactly {ts = ts} l r = (λ e. first-is ts r .0 (sym (l .refuses) ∙ e), λ f. 
 module _ {O : Type 0} (way : Refusing O) where
   -- no test is left, and the call is done
   pub is-done : (o : O) → way .why o ≡ none → Lawful way [] o
-  unfolding firstOf
+  unfolding firstRefusal
   is-done o e =
       record { refuses = e; leaves = λ r q. let z : _≡_ {A = Option Refusal} none (some r) = sym e ∙ q in let w : _≡_ {A = ℕ} 0 1 = cc in absurd (omega arith) }
 
   -- one test more
   pub tested : (b : Bool) (r : Refusal) (ts : List Test) (rest : O) → (b ≡ false → Lawful way ts rest) → Lawful way (test b r ∷ ts) (b ⇒ way .refuse r ∣ rest)
-  unfolding firstOf
+  unfolding firstRefusal
   tested true r ts rest f =
       record { refuses = way .says r; leaves = λ q e. let e′ : some r ≡ some q = sym (way .says r) ∙ e in let z : r ≡ q = cc in ap (way .refuse) z }
   tested false r ts rest f = let l = f refl in record { refuses = l .refuses; leaves = l .leaves }
@@ -107,35 +84,3 @@ module _ {O : Type 0} (way : Refusing O) where
   pub after-audit : (s : Store) (ts : List Test) (rest : O) → (withinLimits s ≡ true → commonTest s ≡ true → brokenRule s ≡ 0 → Lawful way ts rest)
       → Lawful way (limitsTest s ∷ recordTest s ∷ auditTest s ∷ ts) (audited (way .refuse) s rest)
   after-audit s ts rest f = after-admission s (auditTest s ∷ ts) _ (λ l c. after-rules s ts rest (brokenRule s) (λ b. f l c b))
-
--- ---- the kinds of outcome
-
--- calls that may change the lent words
-abbrev pub onPlain : Store → Refusing (Outcome Plain)
-onPlain s = record { refuse = refused s; why = λ o. whyPlain (o .answer); says = λ r. refl }
-
-abbrev pub onValued : Store → Refusing (Outcome Valued)
-onValued s = record { refuse = refusedValue s; why = λ o. whyValued (o .answer); says = λ r. refl }
-
-abbrev pub onOpened : List ℕ → List ℕ → List ℕ → List ℕ → Refusing (Outcome Opened)
-onOpened heap table roots consts =
-    record { refuse = λ r. outcome (Opened.Refused r) heap table roots consts; why = λ o. whyOpened (o .answer); says = λ r. refl }
-
-abbrev pub onText : Store → List ℕ → Refusing Written
-onText s bytes = record { refuse = refusedText s bytes; why = λ w. whyValued (w .answer); says = λ r. refl }
-
--- calls that only answer
-abbrev pub toPlain : Control → Refusing Plain
-toPlain c = record { refuse = λ r. Plain.Refused r c; why = whyPlain; says = λ r. refl }
-
-abbrev pub toValued : Control → Refusing Valued
-toValued c = record { refuse = λ r. Valued.Refused r c; why = whyValued; says = λ r. refl }
-
-abbrev pub toTold : Control → Refusing Told
-toTold c = record { refuse = λ r. Told.Refused r c; why = whyTold; says = λ r. refl }
-
-abbrev pub toWorded : Refusing Worded
-toWorded = record { refuse = Worded.Refused; why = whyWorded; says = λ r. refl }
-
-abbrev pub toNumbered : Refusing Numbered
-toNumbered = record { refuse = Numbered.Refused; why = whyNumbered; says = λ r. refl }

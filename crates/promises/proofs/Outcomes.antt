@@ -1,5 +1,5 @@
--- What each call's definition says of its outcome: it is determined, it refuses by the first of its tests that holds, and a refusal leaves
--- every lent word and the record as they were. Each call is a row of tests with one rest.
+-- What each call's definition says of its outcome: it refuses by the first of its tests that holds, and a refusal leaves every lent word and
+-- the record as they were. Each call is a row of tests with one rest.
 use Prim.Native.Nat.{ℕ, zero, suc, _+_, _-_, _*_, _/_, _%_, _^_}
 use native.Mathlib.Omega.{arith}
 use mathlib.Core.Path.{_≡_, refl, sym, ap, _∙_}
@@ -18,47 +18,23 @@ use Rattle.rules.specs.declared.Kind.{Kind}
 use Rattle.rules.specs.declared.Refusal.{Refusal}
 use Rattle.rules.specs.declared.Plain.{Plain}
 use Rattle.rules.specs.declared.Valued.{Valued}
-use Rattle.rules.specs.declared.Told.{Told}
-use Rattle.rules.specs.declared.Opened.{Opened}
 use Rattle.rules.specs.declared.Worded.{Worded}
 use Rattle.rules.specs.declared.Numbered.{Numbered}
-use Rattle.rules.specs.Memory.{pageWords, Store, pageCount, row, endOf, topOf}
+use Rattle.rules.specs.Memory.{Store, pageCount, pageWords, endOf, topOf}
 use Rattle.rules.specs.Words.{Word, number, inHeap, inConst, wordOf, pointerAddress, isRecord, goodHeap, goodConst, goodIn}
 use Rattle.rules.specs.Audit.{goodWord}
-use Rattle.rules.specs.Refusals.{Outcome, outcome, refused, leaving, withinLimits, commonTest, unbroken}
+use Rattle.rules.specs.Refusals.{Outcome, refused, leaving, withinLimits, commonTest, unbroken}
 use Rattle.rules.specs.Pages.{Run, begun, takePage, room, place}
 use Rattle.rules.specs.Calls.{lookIn, headerIn, fieldsIn, wordOfNumber, numberOfWord, setUp, pushOn, push, popOn, popTop, pop, headerFor, allocateOn, allocateIn, allocate, fetch, isThere, fetchRefusal, assignAt, assignBy, assign, setRoot, ends, stops, isNumber, stepInto, walkFrom, walkSays, walk, audit, due, usedWords, pageByNumber, pageRefusal}
 use Rattle.rules.specs.Collection.{Ended, finished, lacksPage, unfinished, freshen, evacuateAll, workStack, leaves, ending, collected, collect}
-use Rattle.rules.specs.Image.{Written, writeText, writeImage, Frames, frames, malformed, readText, storeOf, sameLengths, readStore, readOn, readImage}
+use Rattle.rules.specs.Image.{writeText, writeImage, Frames, frames, malformed, readText, storeOf, sameLengths, readStore, readOn, readImage}
+use Rattle.rules.specs.Order.{Test, test, whyPlain, whyValued, onPlain, onValued, onOpened, onText, toPlain, toValued, toTold, toWorded, toNumbered, setUpTests, noPage, badLink, pushTests, popTests, allocateTests, fetchTests, isConst, assignTests, setRootTests, stepTests, walkTests, auditTests, dueTests, usedTests, pageTests, lacks, collectTests, writeTests, isMalformed, faultLine, wordsOf, readTests, wordTests, numberTests}
 use Rattle.rules.proofs.Limits.{admits}
 use Rattle.facts.proofs.Passing.{meaning}
 use Rattle.facts.proofs.Sound.{Sound}
 use Rattle.working.proofs.Running.{Refusing as LacksPage}
 use Rattle.working.proofs.Collecting.{collects}
-use Rattle.promises.proofs.Ordered.{Lawful, is-done, tested, stopped, passed, after-admission, after-audit, onPlain, onValued, onOpened, onText, toPlain, toValued, toTold, toWorded, toNumbered}
-use Rattle.promises.specs.Order.{Test, test, numbers, whyPlain, whyValued, setUpTests, noPage, badLink, pushTests, popTests, allocateTests, fetchTests, isConst, assignTests, setRootTests, stepTests, stepNumbers, walkTests, auditTests, dueTests, usedTests, pageTests, lacks, collectTests, writeTests, isMalformed, faultLine, wordsOf, readTests, wordTests, numberTests}
-
--- ---- determined
-
--- two outcomes are one: the answer, and every lent word
-pub record SameOutcome {A : Type 0} (o p : Outcome A) : Type 0 where
-  pub answer : o .answer ≡ p .answer
-  pub heap : o .heap ≡ p .heap
-  pub table : o .table ≡ p .table
-  pub roots : o .roots ≡ p .roots
-  pub consts : o .consts ≡ p .consts
-
--- a contract is the equation of the outcome with the call's definition d
-pub determined : {A : Type 0} (d o p : Outcome A) → o ≡ d → p ≡ d → SameOutcome o p
-determined {A} d o p e q =
-    let t : o ≡ p = e ∙ sym q in
-    record {
-      answer = ap (λ (x : Outcome A). x .answer) t;
-      heap = ap (λ (x : Outcome A). x .heap) t;
-      table = ap (λ (x : Outcome A). x .table) t;
-      roots = ap (λ (x : Outcome A). x .roots) t;
-      consts = ap (λ (x : Outcome A). x .consts) t;
-    }
+use Rattle.promises.proofs.Ordered.{Lawful, is-done, tested, stopped, passed, after-admission, after-audit}
 
 abbrev plain : Outcome Plain → Option Refusal
 plain o = whyPlain (o .answer)
@@ -425,103 +401,3 @@ number-lawful w = tested toNumbered (eqb (w % 2) 0) Refusal.NoNumber [] _ (λ e.
     go : (b : Bool) → Lawful toNumbered [] (b ⇒ Numbered.Done (pos (w / 2)) ∣ Numbered.Done (negsuc ((2 ^ 32 - 1 - w) / 2)))
     go true = is-done toNumbered _ refl
     go false = is-done toNumbered _ refl
-
--- ---- the numbers are those that document 01 lists, in its order
-
-step-numbers : (view : ℕ → List ℕ) (w : ℕ) (path : List ℕ) → numbers (stepTests view w path) ≡ stepNumbers (length path)
-unfolding numbers stepTests stepNumbers
-step-numbers view w [] = refl
-step-numbers view w (f ∷ fs) = ap (λ r. 7 ∷ 9 ∷ 10 ∷ r) (step-numbers view (at (view w) (suc f)) fs)
-
-pub record Numbers : Type 0 where
-  pub of-set-up : (n : ℕ) (heap table roots consts : List ℕ) → numbers (setUpTests n heap table roots consts) ≡ 1 ∷ []
-  pub of-push : (s : Store) → numbers (pushTests s) ≡ 1 ∷ 2 ∷ 3 ∷ 4 ∷ 2 ∷ []
-  pub of-pop : (s : Store) → numbers (popTests s) ≡ 1 ∷ 2 ∷ 2 ∷ 5 ∷ 6 ∷ []
-  pub of-allocate : (s : Store) (j : ℕ) (kind : Kind) (ws : List ℕ) → numbers (allocateTests s j kind ws) ≡ 1 ∷ 2 ∷ 5 ∷ 2 ∷ 8 ∷ 7 ∷ 4 ∷ 2 ∷ []
-  pub of-fetch : (s : Store) (w : ℕ) → numbers (fetchTests s w) ≡ 1 ∷ 2 ∷ 7 ∷ []
-  pub of-assign : (s : Store) (w i x : ℕ) → numbers (assignTests s w i x) ≡ 1 ∷ 2 ∷ 7 ∷ 12 ∷ 9 ∷ 10 ∷ 7 ∷ []
-  pub of-set-root : (s : Store) (i w : ℕ) → numbers (setRootTests s i w) ≡ 1 ∷ 2 ∷ 10 ∷ 7 ∷ []
-  pub of-walk : (s : Store) (i : ℕ) (path : List ℕ) → numbers (walkTests s i path) ≡ 1 ∷ 2 ∷ 10 ∷ stepNumbers (length path)
-  pub of-audit : (s : Store) → numbers (auditTests s) ≡ 1 ∷ 2 ∷ 2 ∷ []
-  pub of-collect : (s : Store) → numbers (collectTests s) ≡ 1 ∷ 2 ∷ 2 ∷ 4 ∷ []
-  pub of-due : (s : Store) → numbers (dueTests s) ≡ 1 ∷ 2 ∷ []
-  pub of-used-words : (s : Store) (j : ℕ) → numbers (usedTests s j) ≡ 1 ∷ 2 ∷ 2 ∷ 5 ∷ []
-  pub of-page : (s : Store) (k : ℕ) → numbers (pageTests s k) ≡ 1 ∷ 2 ∷ 10 ∷ []
-  pub of-write : (s : Store) (bytes : List ℕ) → numbers (writeTests s bytes) ≡ 1 ∷ 2 ∷ 2 ∷ 1 ∷ []
-  pub of-read : (text heap table roots consts : List ℕ) → numbers (readTests text heap table roots consts) ≡ 14 ∷ 1 ∷ []
-  pub of-word : (i : ℤ) → numbers (wordTests i) ≡ 13 ∷ []
-  pub of-number : (w : ℕ) → numbers (numberTests w) ≡ 13 ∷ []
-
-pub the-numbers : Numbers
-unfolding numbers
-the-numbers =
-    record {
-      of-set-up = λ n heap table roots consts. refl;
-      of-push = λ s. refl;
-      of-pop = λ s. refl;
-      of-allocate = λ s j kind ws. refl;
-      of-fetch = λ s w. refl;
-      of-assign = λ s w i x. refl;
-      of-set-root = λ s i w. refl;
-      of-walk = λ s i path. ap (λ r. 1 ∷ 2 ∷ 10 ∷ r) (step-numbers (lookIn s) (at (s .roots) i) path);
-      of-audit = λ s. refl;
-      of-collect = λ s. refl;
-      of-due = λ s. refl;
-      of-used-words = λ s j. refl;
-      of-page = λ s k. refl;
-      of-write = λ s bytes. refl;
-      of-read = λ text heap table roots consts. refl;
-      of-word = λ i. refl;
-      of-number = λ w. refl;
-    }
-
--- ---- each call is determined: two outcomes that satisfy its contract are one
-
--- an answer alone, or a part handed back
-same : {A : Type 0} {d r q : A} → r ≡ d → q ≡ d → r ≡ q
-same e f = e ∙ sym f
-
-pub record Determined : Type 0 where
-  pub by-set-up : (n : ℕ) (heap table roots consts : List ℕ) (o p : Outcome Opened) → o ≡ setUp n heap table roots consts → p ≡ setUp n heap table roots consts → SameOutcome o p
-  pub by-push : (s : Store) (o p : Outcome Plain) → o ≡ push s → p ≡ push s → SameOutcome o p
-  pub by-pop : (s : Store) (o p : Outcome Plain) → o ≡ pop s → p ≡ pop s → SameOutcome o p
-  pub by-allocate : (s : Store) (j : ℕ) (kind : Kind) (ws : List ℕ) (o p : Outcome Valued) → o ≡ allocate s j kind ws → p ≡ allocate s j kind ws → SameOutcome o p
-  pub by-fetch : (s : Store) (w : ℕ) (v u : List ℕ) → v ≡ fetch s w → u ≡ fetch s w → v ≡ u
-  pub by-fetch-refusal : (s : Store) (w : ℕ) (r q : Plain) → r ≡ fetchRefusal s w → q ≡ fetchRefusal s w → r ≡ q
-  pub by-assign : (s : Store) (w i x : ℕ) (o p : Outcome Plain) → o ≡ assign s w i x → p ≡ assign s w i x → SameOutcome o p
-  pub by-set-root : (s : Store) (i w : ℕ) (o p : Outcome Plain) → o ≡ setRoot s i w → p ≡ setRoot s i w → SameOutcome o p
-  pub by-walk : (s : Store) (i : ℕ) (path : List ℕ) (r q : Valued) → r ≡ walk s i path → q ≡ walk s i path → r ≡ q
-  pub by-audit : (s : Store) (r q : Plain) → r ≡ audit s → q ≡ audit s → r ≡ q
-  pub by-collect : (s : Store) (o p : Outcome Plain) → o ≡ collect s → p ≡ collect s → SameOutcome o p
-  pub by-due : (s : Store) (r q : Told) → r ≡ due s → q ≡ due s → r ≡ q
-  pub by-used-words : (s : Store) (j : ℕ) (r q : Valued) → r ≡ usedWords s j → q ≡ usedWords s j → r ≡ q
-  pub by-page : (s : Store) (k : ℕ) (v u : List ℕ) → v ≡ pageByNumber s k → u ≡ pageByNumber s k → v ≡ u
-  pub by-page-refusal : (s : Store) (k : ℕ) (r q : Plain) → r ≡ pageRefusal s k → q ≡ pageRefusal s k → r ≡ q
-  pub by-word : (i : ℤ) (r q : Worded) → r ≡ wordOfNumber i → q ≡ wordOfNumber i → r ≡ q
-  pub by-number : (w : ℕ) (r q : Numbered) → r ≡ numberOfWord w → q ≡ numberOfWord w → r ≡ q
-  pub by-write : (s : Store) (bytes : List ℕ) (o p : Written) → o ≡ writeImage s bytes → p ≡ writeImage s bytes → (o .answer ≡ p .answer) × (o .bytes ≡ p .bytes)
-  pub by-read : (text heap table roots consts : List ℕ) (o p : Outcome Opened) → o ≡ readImage text heap table roots consts → p ≡ readImage text heap table roots consts → SameOutcome o p
-
-pub all-determined : Determined
-all-determined =
-    record {
-      by-set-up = λ n heap table roots consts. determined (setUp n heap table roots consts);
-      by-push = λ s. determined (push s);
-      by-pop = λ s. determined (pop s);
-      by-allocate = λ s j kind ws. determined (allocate s j kind ws);
-      by-fetch = λ s w v u. same;
-      by-fetch-refusal = λ s w r q. same;
-      by-assign = λ s w i x. determined (assign s w i x);
-      by-set-root = λ s i w. determined (setRoot s i w);
-      by-walk = λ s i path r q. same;
-      by-audit = λ s r q. same;
-      by-collect = λ s. determined (collect s);
-      by-due = λ s r q. same;
-      by-used-words = λ s j r q. same;
-      by-page = λ s k v u. same;
-      by-page-refusal = λ s k r q. same;
-      by-word = λ i r q. same;
-      by-number = λ w r q. same;
-      by-write = λ s bytes o p e f. let t : o ≡ p = same e f in (ap (λ (x : Written). x .answer) t, ap (λ (x : Written). x .bytes) t);
-      by-read = λ text heap table roots consts. determined (readImage text heap table roots consts);
-    }

@@ -1,32 +1,12 @@
--- What the theorems about images speak of: words of 32 bits, frames that fit what is expected of them, the text of frames, and where the
--- first fault of a text is.
-use Prim.Native.Nat.{ℕ, zero, suc, _+_, _^_, _<_}
+-- What the theorems about images speak of: frames that fit what is expected of them, the text of frames, and where the first fault of a text
+-- is.
+use Prim.Native.Nat.{ℕ, _+_, _<_}
 use mathlib.Core.Path.{_≡_}
-use mathlib.Core.Bool.{Bool, true}
+use mathlib.Core.Bool.{true}
 use mathlib.Core.List.{List, [], _∷_, _++_}
 use lib.ListN.{length}
-use Rattle.laws.specs.Lists.{at}
-use Rattle.rules.specs.declared.Control.{Control}
-use Rattle.rules.specs.declared.Opened.{Opened}
-use Rattle.rules.specs.Memory.{Store, lent}
-use Rattle.rules.specs.Refusals.{Outcome}
+use Rattle.rules.specs.Memory.{Small}
 use Rattle.rules.specs.Image.{frame, headFits, partFits, Expected, layout}
-
--- ---- "All words are unsigned, 32 bits."
-
-abbrev pub Small : List ℕ → Type 0
-Small ws = (i : ℕ) → at ws i < 2 ^ 32
-
-pub record Words32 (s : Store) : Type 0 where
-  pub heap : Small (s .heap)
-  pub table : Small (s .table)
-  pub roots : Small (s .roots)
-  pub consts : Small (s .consts)
-  pub n : s .ctl .n < 2 ^ 32
-  pub regions : s .ctl .regions < 2 ^ 32
-  pub first : s .ctl .first < 2 ^ 32
-  pub last : s .ctl .last < 2 ^ 32
-  pub count : s .ctl .count < 2 ^ 32
 
 -- ---- Frames, as the lists of their words.
 
@@ -96,8 +76,3 @@ pub record FaultAt (line : ℕ) (es : List Expected) (bs : List ℕ) (l : ℕ) :
 pub data Fault (text : List ℕ) : ℕ → Type 0 where
   at-head : NoHead text → Fault text 1
   behind : (head rest : List ℕ) {l : ℕ} → HeadFits head → text ≡ frame 1 head ++ rest → FaultAt 2 (layout head) rest l → Fault text l
-
--- ---- The store that reading leaves.
-
-abbrev pub storeLeft : Outcome Opened → Control → Store
-storeLeft o c = lent (o .heap) (o .table) (o .roots) (o .consts) c

@@ -16,3 +16,5 @@ pub mod Rows
 pub mod Pointers
 pub mod Seen
 pub mod Judged
+pub mod Order
+pub mod Left

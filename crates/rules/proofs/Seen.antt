@@ -2,24 +2,13 @@
 use Prim.Native.Nat.{ℕ, suc}
 use mathlib.Core.Path.{_≡_, refl, sym, ap, _∙_}
 use mathlib.Core.Bool.{Bool, true, false}
-use mathlib.Core.Option.{Option, none, some}
+use mathlib.Core.Option.{Option}
 use mathlib.Core.List.{List, [], _∷_}
-use native.Mathlib.Omega.{arith}
 use lib.ListN.{length, drop}
 use Rattle.laws.specs.Choice.{_⇒_∣_}
-use Rattle.rules.specs.Words.{wordOf, isRecord}
-use Rattle.rules.specs.Calls.{headerIn, isNumber}
-use Rattle.rules.specs.Seen.{masked, Reading, refusal, whole, ofRecord, ofRaw, readValue}
-
--- two values that read the same
-pub record ReadsAlike (home home′ : ℕ) (v v′ : List ℕ) : Type 0 where
-  pub homes : home ≡ home′
-  pub kinds : isRecord (headerIn v) ≡ isRecord (headerIn v′)
-  pub lengths : length (drop 1 v) ≡ length (drop 1 v′)
-  -- a record's fields: the same numbers, and pointers where there were pointers
-  pub fields : isRecord (headerIn v) ≡ true → masked (drop 1 v) ≡ masked (drop 1 v′)
-  -- a raw value's words
-  pub words : isRecord (headerIn v) ≡ false → drop 1 v ≡ drop 1 v′
+use Rattle.rules.specs.Words.{isRecord}
+use Rattle.rules.specs.Calls.{headerIn}
+use Rattle.rules.specs.Seen.{masked, Reading, refusal, whole, ofRecord, ofRaw, readValue, ReadsAlike}
 
 -- ---- the parts of a reading
 

@@ -6,5 +6,8 @@ pub mod Pages
 pub mod Calls
 pub mod Collection
 pub mod Image
+pub mod Order
+pub mod Left
+pub mod Runs
 pub mod Seen
 pub mod Wanted

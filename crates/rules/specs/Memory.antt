@@ -1,5 +1,5 @@
 -- Document 01, "Lent memory": the lent words, pages, links and origins, the rows of the region table, chains.
-use Prim.Native.Nat.{ℕ, zero, suc, _+_, _-_, _*_, _/_, _%_, _^_}
+use Prim.Native.Nat.{ℕ, zero, suc, _+_, _-_, _*_, _/_, _%_, _^_, _<_}
 use mathlib.Core.Bool.{Bool, true, false, _&&_}
 use mathlib.Core.List.{List, [], _∷_, _++_}
 use lib.ListN.{length, take, drop, set}
@@ -20,6 +20,21 @@ lent h t r k c = record { heap = h; table = t; roots = r; consts = k; ctl = c }
 
 abbrev pub control : ℕ → ℕ → ℕ → ℕ → ℕ → Control
 control n R first last count = record { n = n; regions = R; first = first; last = last; count = count }
+
+-- "All words are unsigned, 32 bits."
+abbrev pub Small : List ℕ → Type 0
+Small ws = (i : ℕ) → at ws i < 2 ^ 32
+
+pub record Words32 (s : Store) : Type 0 where
+  pub heap : Small (s .heap)
+  pub table : Small (s .table)
+  pub roots : Small (s .roots)
+  pub consts : Small (s .consts)
+  pub n : s .ctl .n < 2 ^ 32
+  pub regions : s .ctl .regions < 2 ^ 32
+  pub first : s .ctl .first < 2 ^ 32
+  pub last : s .ctl .last < 2 ^ 32
+  pub count : s .ctl .count < 2 ^ 32
 
 -- "n is 4 to 8, P = 2^n. The heap is N whole pages, N at least 2, at most 65,536 words. The table is 256 words. Roots: 0 to 1,024.
 -- Constants: 0 to 65,535 words." (h, t, r, k are the four lengths.)

@@ -49,6 +49,16 @@ pub data Reading : Type 0 where
 unfoldable pub readValue : ℕ → List ℕ → Reading
 readValue home v = isRecord (headerIn v) ⇒ ofRecord home (masked (drop 1 v)) ∣ ofRaw home (drop 1 v)
 
+-- two values that read the same
+pub record ReadsAlike (home home′ : ℕ) (v v′ : List ℕ) : Type 0 where
+  pub homes : home ≡ home′
+  pub kinds : isRecord (headerIn v) ≡ isRecord (headerIn v′)
+  pub lengths : length (drop 1 v) ≡ length (drop 1 v′)
+  -- a record's fields: the same numbers, and pointers where there were pointers
+  pub fields : isRecord (headerIn v) ≡ true → masked (drop 1 v) ≡ masked (drop 1 v′)
+  -- a raw value's words
+  pub words : isRecord (headerIn v) ≡ false → drop 1 v ≡ drop 1 v′
+
 abbrev pub readBy : View → Walked → Reading
 readBy X (stops r) = refusal r
 readBy X (ends w) = isNumber (wordOf w) ⇒ whole w ∣ readValue (X .home w) (X .value w)

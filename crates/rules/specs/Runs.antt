@@ -3,12 +3,12 @@
 use Prim.Native.Nat.{ℕ}
 use mathlib.Core.List.{List, [], _∷_}
 use lib.IntN.{ℤ}
 use Rattle.rules.specs.declared.Control.{Control}
 use Rattle.rules.specs.declared.Kind.{Kind}
-use Rattle.rules.specs.Memory.{Store, lent}
+use Rattle.rules.specs.Memory.{Store}
 use Rattle.rules.specs.Calls.{setUp, push, pop, allocate, assign, setRoot}
 use Rattle.rules.specs.Collection.{collect}
-use Rattle.promises.specs.Left.{leftPlain, leftValued}
+use Rattle.rules.specs.Left.{leftPlain, leftValued, leftOpened}
 
 -- a public call with what it is offered
 pub data Call : Type 0 where
@@ -50,6 +50,4 @@ run (c ∷ cs) s = run cs (after c s)
 
 -- what setting up leaves, where it returned the record c
 abbrev pub fresh : ℕ → List ℕ → List ℕ → List ℕ → List ℕ → Control → Store
-fresh n heap table roots consts c =
-    lent (setUp n heap table roots consts .heap) (setUp n heap table roots consts .table) (setUp n heap table roots consts .roots)
-    (setUp n heap table roots consts .consts) c
+fresh n heap table roots consts c = leftOpened (setUp n heap table roots consts) c

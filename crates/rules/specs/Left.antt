@@ -1,9 +1,10 @@
 -- What a call leaves: every lent word, and the control record that it returns.
 use Rattle.rules.specs.declared.Control.{Control}
 use Rattle.rules.specs.declared.Plain.{Plain}
 use Rattle.rules.specs.declared.Valued.{Valued}
+use Rattle.rules.specs.declared.Opened.{Opened}
 use Rattle.rules.specs.Memory.{Store, lent}
 use Rattle.rules.specs.Refusals.{Outcome}
 
 abbrev pub recordPlain : Plain → Control
 recordPlain (Plain.Done c) = c
@@ -19,3 +20,7 @@ leftPlain o = lent (o .heap) (o .table) (o .roots) (o .consts) (recordPlain (o .
 
 abbrev pub leftValued : Outcome Valued → Store
 leftValued o = lent (o .heap) (o .table) (o .roots) (o .consts) (recordValued (o .answer))
+
+-- the store after setting up or reading an image, calls that are given no record, where they returned the record c
+abbrev pub leftOpened : Outcome Opened → Control → Store
+leftOpened o c = lent (o .heap) (o .table) (o .roots) (o .consts) c

@@ -1,6 +1,7 @@
 -- Document 01, "Refusal numbers": the tests of each call, in the paper's order, each with the refusal that it gives where it holds. A call
--- refuses by the first that holds.
+-- refuses by the first that holds; their numbers are those that the paper lists.
 use Prim.Native.Nat.{ℕ, zero, suc, _+_, _-_, _/_, _%_, _^_}
+use mathlib.Core.Path.{_≡_, refl}
 use mathlib.Core.Bool.{Bool, true, false, _&&_, _||_, not}
 use mathlib.Core.Option.{Option, none, some}
 use mathlib.Core.List.{List, [], _∷_}
@@ -8,22 +9,23 @@ use lib.ListN.{length, drop}
 use lib.IntN.{ℤ, pos, negsuc}
 use lib.Dec.{leb, ltb, eqb}
 use Rattle.laws.specs.Lists.{at, zeros}
+use Rattle.rules.specs.declared.Control.{Control}
 use Rattle.rules.specs.declared.Kind.{Kind}
 use Rattle.rules.specs.declared.Refusal.{Refusal}
 use Rattle.rules.specs.declared.Plain.{Plain}
 use Rattle.rules.specs.declared.Valued.{Valued}
 use Rattle.rules.specs.declared.Told.{Told}
 use Rattle.rules.specs.declared.Opened.{Opened}
 use Rattle.rules.specs.declared.Worded.{Worded}
 use Rattle.rules.specs.declared.Numbered.{Numbered}
 use Rattle.rules.specs.Memory.{Store, limits, pageCount, row, endOf, topOf}
 use Rattle.rules.specs.Words.{Word, number, inHeap, inConst, wordOf, pointerAddress, isRecord}
 use Rattle.rules.specs.Audit.{brokenRule, goodWord}
-use Rattle.rules.specs.Refusals.{numberOf, withinLimits, commonTest}
+use Rattle.rules.specs.Refusals.{numberOf, Outcome, outcome, refused, refusedValue, withinLimits, commonTest}
 use Rattle.rules.specs.Pages.{begun, linkFits}
 use Rattle.rules.specs.Calls.{lookIn, headerIn, fieldsIn, letGo, rowFits, wordsFit, isThere, isNumber}
 use Rattle.rules.specs.Collection.{finished, lacksPage, unfinished, freshen, evacuateAll, workStack}
-use Rattle.rules.specs.Image.{imageText, Frames, frames, malformed, readText, storeOf, sameLengths}
+use Rattle.rules.specs.Image.{Written, refusedText, imageText, Frames, frames, malformed, readText, storeOf, sameLengths}
 
 -- ---- Tests in order.
 
@@ -35,9 +37,14 @@ abbrev pub test : Bool → Refusal → Test
 test b r = record { holds = b; why = r }
 
 -- the refusal of the first that holds
-unfoldable pub firstOf : List Test → Option Refusal
-firstOf [] = none
-firstOf (t ∷ ts) = elim (t .holds) [ true ↦ some (t .why) | false ↦ firstOf ts ]
+unfoldable pub firstRefusal : List Test → Option Refusal
+firstRefusal [] = none
+firstRefusal (t ∷ ts) = elim (t .holds) [ true ↦ some (t .why) | false ↦ firstRefusal ts ]
+
+-- r is the refusal of a test that holds, and no test before it does
+pub data First : List Test → Refusal → Type 0 where
+  this : {t : Test} {ts : List Test} {r : Refusal} → t .holds ≡ true → t .why ≡ r → First (t ∷ ts) r
+  next : {t : Test} {ts : List Test} {r : Refusal} → t .holds ≡ false → First ts r → First (t ∷ ts) r
 
 -- the paper's numbers, in order
 unfoldable pub numbers : List Test → List ℕ
@@ -69,6 +76,45 @@ whyWorded (Worded.Refused r) = some r
 abbrev pub whyNumbered : Numbered → Option Refusal
 whyNumbered (Numbered.Done i) = none
 whyNumbered (Numbered.Refused r) = some r
+
+-- ---- How calls refuse. "A refusal changes no word and returns its number, a place, and the control record as given."
+
+-- How calls of a kind refuse: `refuse r` is the outcome of a refusal, the store as it was and the record as given; `why` is what an outcome
+-- refuses with.
+pub record Refusing (O : Type 0) : Type 0 where
+  pub refuse : Refusal → O
+  pub why : O → Option Refusal
+  pub says : (r : Refusal) → why (refuse r) ≡ some r
+
+-- calls that may change the lent words
+abbrev pub onPlain : Store → Refusing (Outcome Plain)
+onPlain s = record { refuse = refused s; why = λ o. whyPlain (o .answer); says = λ r. refl }
+
+abbrev pub onValued : Store → Refusing (Outcome Valued)
+onValued s = record { refuse = refusedValue s; why = λ o. whyValued (o .answer); says = λ r. refl }
+
+abbrev pub onOpened : List ℕ → List ℕ → List ℕ → List ℕ → Refusing (Outcome Opened)
+onOpened heap table roots consts =
+    record { refuse = λ r. outcome (Opened.Refused r) heap table roots consts; why = λ o. whyOpened (o .answer); says = λ r. refl }
+
+abbrev pub onText : Store → List ℕ → Refusing Written
+onText s bytes = record { refuse = refusedText s bytes; why = λ w. whyValued (w .answer); says = λ r. refl }
+
+-- calls that only answer
+abbrev pub toPlain : Control → Refusing Plain
+toPlain c = record { refuse = λ r. Plain.Refused r c; why = whyPlain; says = λ r. refl }
+
+abbrev pub toValued : Control → Refusing Valued
+toValued c = record { refuse = λ r. Valued.Refused r c; why = whyValued; says = λ r. refl }
+
+abbrev pub toTold : Control → Refusing Told
+toTold c = record { refuse = λ r. Told.Refused r c; why = whyTold; says = λ r. refl }
+
+abbrev pub toWorded : Refusing Worded
+toWorded = record { refuse = Worded.Refused; why = whyWorded; says = λ r. refl }
+
+abbrev pub toNumbered : Refusing Numbered
+toNumbered = record { refuse = Numbered.Refused; why = whyNumbered; says = λ r. refl }
 
 -- ---- The calls. "Except in setting up, the number conversions and reading an image, every call tests 1 first, then .. (else 2)."
 
@@ -163,11 +209,6 @@ stepTests view w (f ∷ fs) =
     ∷ test (leb (fieldsIn (view w)) f) Refusal.NoSuch
     ∷ stepTests view (at (view w) (suc f)) fs
 
--- their numbers, for m steps
-unfoldable pub stepNumbers : ℕ → List ℕ
-stepNumbers zero = 7 ∷ []
-stepNumbers (suc m) = 7 ∷ 9 ∷ 10 ∷ stepNumbers m
-
 -- "Walk: root 10, then each step"
 abbrev pub walkTests : Store → ℕ → List ℕ → List Test
 walkTests s i path =
@@ -241,3 +282,29 @@ wordTests i = test (not (ltb (sizeOf i) (2 ^ 30))) Refusal.NoNumber ∷ []
 
 abbrev pub numberTests : ℕ → List Test
 numberTests w = test (eqb (w % 2) 0) Refusal.NoNumber ∷ []
+
+-- ---- The numbers that the paper lists for each call, in its order.
+
+-- "each step 7, 9, 10; the final word 7", for m steps
+unfoldable pub stepNumbers : ℕ → List ℕ
+stepNumbers zero = 7 ∷ []
+stepNumbers (suc m) = 7 ∷ 9 ∷ 10 ∷ stepNumbers m
+
+pub record Numbers : Type 0 where
+  pub of-set-up : (n : ℕ) (heap table roots consts : List ℕ) → numbers (setUpTests n heap table roots consts) ≡ 1 ∷ []
+  pub of-push : (s : Store) → numbers (pushTests s) ≡ 1 ∷ 2 ∷ 3 ∷ 4 ∷ 2 ∷ []
+  pub of-pop : (s : Store) → numbers (popTests s) ≡ 1 ∷ 2 ∷ 2 ∷ 5 ∷ 6 ∷ []
+  pub of-allocate : (s : Store) (j : ℕ) (kind : Kind) (ws : List ℕ) → numbers (allocateTests s j kind ws) ≡ 1 ∷ 2 ∷ 5 ∷ 2 ∷ 8 ∷ 7 ∷ 4 ∷ 2 ∷ []
+  pub of-fetch : (s : Store) (w : ℕ) → numbers (fetchTests s w) ≡ 1 ∷ 2 ∷ 7 ∷ []
+  pub of-assign : (s : Store) (w i x : ℕ) → numbers (assignTests s w i x) ≡ 1 ∷ 2 ∷ 7 ∷ 12 ∷ 9 ∷ 10 ∷ 7 ∷ []
+  pub of-set-root : (s : Store) (i w : ℕ) → numbers (setRootTests s i w) ≡ 1 ∷ 2 ∷ 10 ∷ 7 ∷ []
+  pub of-walk : (s : Store) (i : ℕ) (path : List ℕ) → numbers (walkTests s i path) ≡ 1 ∷ 2 ∷ 10 ∷ stepNumbers (length path)
+  pub of-audit : (s : Store) → numbers (auditTests s) ≡ 1 ∷ 2 ∷ 2 ∷ []
+  pub of-collect : (s : Store) → numbers (collectTests s) ≡ 1 ∷ 2 ∷ 2 ∷ 4 ∷ []
+  pub of-due : (s : Store) → numbers (dueTests s) ≡ 1 ∷ 2 ∷ []
+  pub of-used-words : (s : Store) (j : ℕ) → numbers (usedTests s j) ≡ 1 ∷ 2 ∷ 2 ∷ 5 ∷ []
+  pub of-page : (s : Store) (k : ℕ) → numbers (pageTests s k) ≡ 1 ∷ 2 ∷ 10 ∷ []
+  pub of-write : (s : Store) (bytes : List ℕ) → numbers (writeTests s bytes) ≡ 1 ∷ 2 ∷ 2 ∷ 1 ∷ []
+  pub of-read : (text heap table roots consts : List ℕ) → numbers (readTests text heap table roots consts) ≡ 14 ∷ 1 ∷ []
+  pub of-word : (i : ℤ) → numbers (wordTests i) ≡ 13 ∷ []
+  pub of-number : (w : ℕ) → numbers (numberTests w) ≡ 13 ∷ []
