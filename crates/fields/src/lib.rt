@@ -49,14 +49,7 @@ fn points_into(heap: &[u32], n: u32, j: Region, w: u32) -> bool
 }
 
 // Whether a word passes the test.
-fn word_passes(
-    heap: &[u32],
-    consts: &[u32],
-    n: u32,
-    regions: u32,
-    wanted: Wanted,
-    w: u32,
-) -> bool
+fn word_passes(heap: &[u32], consts: &[u32], n: u32, regions: u32, wanted: Wanted, w: u32) -> bool
     requires { ⌜ Paged n (length (now heap)) × (length (now consts) ≤ 65535) ⌝ }
     ensures { λ r. ⌜ r ≡ passes n regions (now (heap .entry)) (now (consts .entry)) wanted w ⌝ }
 {

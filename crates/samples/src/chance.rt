@@ -2,14 +2,14 @@
 ghost use Prim.Native.Nat.{_≤_};
 
 // The next number: xorshift of 32 bits. It never leaves 0, so it starts from another.
-fn next(x: u32) -> u32 {
+pub fn next(x: u32) -> u32 {
     let a = x ^ (x << 13);
     let b = a ^ (a >> 17);
     b ^ (b << 5)
 }
 
 // A number below m, or 0 where there is none.
-fn below(x: u32, m: u32) -> u32
+pub fn below(x: u32, m: u32) -> u32
     ensures { λ r. ⌜ r ≤ m ⌝ }
 {
     if m == 0 {

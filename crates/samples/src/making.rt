@@ -23,7 +23,7 @@ pub struct Stand {
     pub c: Control,
 }
 
-fn record_of(p: Plain) -> Control {
+pub fn record_of(p: Plain) -> Control {
     match p {
         Plain::Done(c) => c,
         Plain::Refused(_, c) => c,

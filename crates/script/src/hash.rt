@@ -19,7 +19,7 @@ fn times_prime(h: u64) -> u64
 }
 
 // One byte more.
-fn byte(h: u64, b: u64) -> u64 {
+pub fn byte(h: u64, b: u64) -> u64 {
     times_prime(h ^ b)
 }
 

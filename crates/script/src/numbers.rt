@@ -217,7 +217,7 @@ pub enum Byte {
     Bad,
 }
 
-fn read_byte(line: &[u8], at: usize) -> Byte {
+pub fn read_byte(line: &[u8], at: usize) -> Byte {
     if line.len() <= at {
         return Byte::Bad;
     }

@@ -12,7 +12,7 @@ pub enum Start {
 }
 
 // Whether a token that begins before index i ends there.
-fn ends(line: &[u8], i: usize) -> bool {
+pub fn ends(line: &[u8], i: usize) -> bool {
     if i < line.len() {
         return line[i] == b' ';
     }

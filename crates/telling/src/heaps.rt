@@ -39,7 +39,7 @@ pub fn fresh(
 }
 
 // So many regions more.
-fn pushed(
+pub fn pushed(
     heap: &mut [u32],
     table: &mut [u32],
     roots: &[u32],

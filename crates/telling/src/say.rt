@@ -54,7 +54,7 @@ pub fn refused(why: Refusal) {
 }
 
 // The record: n, R, free first, free last, free count.
-fn record(c: Control) {
+pub fn record(c: Control) {
     words(&[c.n, c.regions, c.first, c.last, c.count]);
 }
 
