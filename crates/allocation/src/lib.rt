@@ -5,7 +5,7 @@ ghost use Prim.Native.Nat.{ℕ, suc};
 ghost use mathlib.Core.List.{List, _∷_};
 ghost use lib.ListN.{length, set};
 ghost use Rattle.laws.specs.Lists.{put, all};
-ghost use Rattle.rules.specs.Memory.{lent, pageCount, pageLink, pageEnd, bodyAddress, endOf, setEnd, setTop};
+ghost use Rattle.rules.specs.Memory.{lent, pageCount, pageLink, pageEnd, bodyAddress, regionOrigin, setLink, setOrigin, endOf, topOf, setEnd, setTop};
 ghost use Rattle.rules.specs.Words.{goodIn};
 ghost use Rattle.rules.specs.Refusals.{Paged, outcome};
 ghost use Rattle.rules.specs.Calls.{rowFits, headerFor, wordsFit, allocateIn, allocate as allocateOf};
@@ -13,10 +13,10 @@ ghost use Rattle.allocation.specs.Placing.{Fit};
 use pages::Tested;
 use pages::body_address;
 use pages::first_tests;
+use pages::free_after;
 use pages::link_fits;
 use pages::page_end;
 use pages::page_words;
-use pages::take_page;
 use rows::end_of;
 use rows::set_end;
 use rows::set_top;
@@ -30,7 +30,9 @@ use rules::Region;
 use rules::Valued;
 use rules::address_pointer;
 use rules::link_page;
+use rules::page_address;
 use rules::page_link;
+use rules::region_origin;
 use values::good_word;
 
 // Whether region j's e and a are fit for an allocation: e is a multiple of P from P to NP, a lies from e-P+2 to e.
@@ -124,20 +126,33 @@ fn store_value(
     set_top(table, j, Address(start + words.len() + 1));
 }
 
-// Page k, just taken, becomes region j's last page: the page before it is linked to it.
+// The page at `start` becomes the one after the page at `before`: link 0 and its origin first, then the page before it is linked to it.
+fn append_page(heap: &mut [u32], start: Address, origin: u32, before: Address, link: u32)
+    requires { ⌜ (start .0 + 1 < length (now heap)) × (before .0 < length (now heap)) × (length (now heap) ≤ 65536) ⌝ }
+    ensures { λ _. ⌜ now (heap .exit) ≡ set (set (set (now (heap .entry)) (start .0) 0) (start .0 + 1) origin) (before .0) link ⌝ }
+{
+    let a = start.0;
+    let b = before.0;
+    heap[a] = 0;
+    heap[a + 1] = origin;
+    heap[b] = link;
+}
+
+// Page k becomes region j's last page, after the one that ends at its e.
 fn join_page(heap: &mut [u32], table: &mut [u32], j: Region, k: Page, n: u32)
     requires { ⌜ (Paged n (length (now heap))) × (k .0 < pageCount n (now heap)) × (length (now table) ≡ 256) × (j .0 < 64) × (2 ^ n ≤ endOf (now table) (j .0)) × (endOf (now table) (j .0) ≤ length (now heap)) ⌝ }
-    ensures { λ _. ⌜ (now (heap .exit) ≡ set (now (heap .entry)) (endOf (now (table .entry)) (j .0) - 2 ^ n) (pageLink (k .0))) × (now (table .exit) ≡ setTop (setEnd (now (table .entry)) (j .0) (pageEnd n (k .0))) (j .0) (bodyAddress n (k .0))) ⌝ }
+    ensures { λ _. ⌜ (now (heap .exit) ≡ set (setOrigin n (setLink n (now (heap .entry)) (k .0) 0) (k .0) (regionOrigin (j .0))) (endOf (now (table .entry)) (j .0) - 2 ^ n) (pageLink (k .0))) × (now (table .exit) ≡ setTop (setEnd (now (table .entry)) (j .0) (pageEnd n (k .0))) (j .0) (bodyAddress n (k .0))) ⌝ }
 {
+    let start = page_address(k, n);
     let e = end_of(table, j);
-    let before = e.0 - page_words(n);
-    heap[before] = page_link(k);
+    let before = Address(e.0 - page_words(n));
+    append_page(heap, start, region_origin(j), before, page_link(k));
     set_end(table, j, page_end(k, n));
     set_top(table, j, body_address(k, n));
 }
 
-// A value into region j: at its a if it fits before e, else into a page that is taken and linked.
-fn put_value(
+// A value into a page more of region j, which is taken and linked.
+fn put_further(
     heap: &mut [u32],
     table: &mut [u32],
     c: Control,
@@ -145,15 +160,9 @@ fn put_value(
     header: u32,
     words: &[u32],
 ) -> Valued
-    requires { ⌜ Fit (now heap) (now table) c (j .0) (length (now words)) ⌝ }
+    requires { ⌜ (Fit (now heap) (now table) c (j .0) (length (now words))) × (endOf (now table) (j .0) < topOf (now table) (j .0) + suc (length (now words))) ⌝ }
     ensures { λ x. ⌜ ((r k : List ℕ) → outcome x (now (heap .exit)) (now (table .exit)) r k ≡ allocateIn (lent (now (heap .entry)) (now (table .entry)) r k c) (j .0) (header ∷ now (words .entry))) ⌝ }
 {
-    let a = top_of(table, j);
-    let e = end_of(table, j);
-    if a.0 + words.len() + 1 <= e.0 {
-        store_value(heap, table, j, a, header, words);
-        return Valued::Done(address_pointer(a), c);
-    }
     if c.count == 0 {
         return Valued::Refused(Refusal::NoPage, c);
     }
@@ -161,7 +170,7 @@ fn put_value(
     if !link_fits(heap, k, c.n, c.count) {
         return Valued::Refused(Refusal::Broken(0), c);
     }
-    let rest = take_page(heap, k, j, c);
+    let rest = free_after(heap, k, c);
     join_page(heap, table, j, k, c.n);
     let body = body_address(k, c.n);
     store_value(heap, table, j, body, header, words);
@@ -175,6 +184,27 @@ fn put_value(
             count: rest.count,
         },
     )
+}
+
+// A value into region j: at its a if it fits before e, else into a page more.
+fn put_value(
+    heap: &mut [u32],
+    table: &mut [u32],
+    c: Control,
+    j: Region,
+    header: u32,
+    words: &[u32],
+) -> Valued
+    requires { ⌜ Fit (now heap) (now table) c (j .0) (length (now words)) ⌝ }
+    ensures { λ x. ⌜ ((r k : List ℕ) → outcome x (now (heap .exit)) (now (table .exit)) r k ≡ allocateIn (lent (now (heap .entry)) (now (table .entry)) r k c) (j .0) (header ∷ now (words .entry))) ⌝ }
+{
+    let a = top_of(table, j);
+    let e = end_of(table, j);
+    if e.0 < a.0 + words.len() + 1 {
+        return put_further(heap, table, c, j, header, words);
+    }
+    store_value(heap, table, j, a, header, words);
+    Valued::Done(address_pointer(a), c)
 }
 
 // A value of this kind, of these words, into region j.

@@ -1,13 +1,11 @@
 -- A page that is there to be taken lies inside the heap, and what the code writes and answers is what taking it says.
-use Prim.Native.Nat.{ℕ, suc, _+_, _-_, _*_, _/_, _^_, _≤_, _<_}
-use mathlib.Core.Path.{_≡_, refl, sym, ap, _∙_}
+use Prim.Native.Nat.{ℕ, _-_, _*_, _/_, _^_, _≤_, _<_}
+use mathlib.Core.Path.{_≡_, refl}
 use mathlib.Core.Option.{some}
 use mathlib.Core.List.{List, []}
 use native.Mathlib.Omega.{arith}
-use lib.ListN.{set}
-use Rattle.laws.specs.Lists.{at}
 use Rattle.rules.specs.declared.Control.{Control}
-use Rattle.rules.specs.Memory.{link}
+use Rattle.rules.specs.Memory.{link, setLink, setOrigin, regionOrigin}
 use Rattle.rules.specs.Refusals.{Admitted}
 use Rattle.rules.specs.Pages.{lastIf, takePage}
 use Rattle.rules.proofs.Limits.{Inside, page-inside}
@@ -27,9 +25,8 @@ page-free h t r k c a ne =
     let b : 0 < c .count = omega arith in
     record { paged = a .paged; some-first = a .some-page b; first = a .first; some-count = b }
 
--- page k, at address a, gets link 0 and then the origin o; l and m are free last and count after that
-pub took : (h t : List ℕ) (c : Control) (j k a o l m : ℕ) → 0 < c .first → k ≡ c .first - 1 → a ≡ k * 2 ^ c .n → o ≡ suc j
-    → lastIf (c .count - 1) (c .last) ≡ l → m ≡ c .count - 1
-    → some (k, record { heap = set (set h a 0) (a + 1) o; table = t; first = at h a; last = l; count = m; stack = [] }) ≡ takePage (c .n) j (runOf h t c)
-unfolding link
-took h t c j k a o l m b qk qa qo ql qm = rw (take-some (c .n) j (runOf h t c) b, ql, qm, qo, qa, qk)
+-- page k gets link 0 and then its origin; f, l and m are the free list after that
+pub took : (h t : List ℕ) (c : Control) (j k f l m : ℕ) → 0 < c .first → k ≡ c .first - 1
+    → f ≡ link (c .n) h k → l ≡ lastIf (c .count - 1) (c .last) → m ≡ c .count - 1
+    → some (k, record { heap = setOrigin (c .n) (setLink (c .n) h k 0) k (regionOrigin j); table = t; first = f; last = l; count = m; stack = [] }) ≡ takePage (c .n) j (runOf h t c)
+took h t c j k f l m b qk qf ql qm = rw (take-some (c .n) j (runOf h t c) b, qf, ql, qm, qk)

@@ -4,9 +4,9 @@ ghost use Prim.Native.Nat.{_+_, _-_, _*_, _/_, _^_, _≤_, _<_};
 ghost use Prim.Native.Nat.{ℕ};
 ghost use mathlib.Core.List.{List};
 ghost use lib.ListN.{length, replicate};
-ghost use Rattle.rules.specs.Memory.{limits, lent, pageCount, linkPage, bodyAddress, pageEnd};
+ghost use Rattle.rules.specs.Memory.{limits, lent, pageCount, link, linkPage, bodyAddress, pageEnd};
 ghost use Rattle.rules.specs.Refusals.{common, Paged};
-ghost use Rattle.rules.specs.Pages.{linkFits, takePage, clearPage};
+ghost use Rattle.rules.specs.Pages.{lastIf, linkFits, takePage, clearPage};
 ghost use Rattle.rules.specs.Calls.{pageByNumber, pageRefusal};
 ghost use Rattle.pages.specs.First.{firstTests};
 ghost use Rattle.pages.specs.Taking.{PageFree, runOf, takenAs};
@@ -169,16 +169,14 @@ pub struct Taken {
     pub count: u32,
 }
 
-// Page k, the first free one, becomes one of region j: link 0, then its origin.
-pub fn take_page(heap: &mut [u32], k: Page, j: Region, c: Control) -> Taken
-    requires { ⌜ (PageFree (length (now heap)) c) × (k .0 ≡ linkPage (c .first)) × (j .0 ≤ 64) ⌝ }
-    ensures { λ r. ⌜ ((t : List ℕ) → takenAs (k .0) r (now (heap .exit)) t ≡ takePage (c .n) (j .0) (runOf (now (heap .entry)) t c)) ⌝ }
+// The free list once page k, its first, is taken.
+pub fn free_after(heap: &[u32], k: Page, c: Control) -> Taken
+    requires { ⌜ (PageFree (length (now heap)) c) × (k .0 ≡ linkPage (c .first)) ⌝ }
+    ensures { λ r. ⌜ (r .first ≡ link (c .n) (now (heap .entry)) (k .0)) × (r .last ≡ lastIf (c .count - 1) (c .last)) × (r .count ≡ c .count - 1) ⌝ }
 {
     let start = page_address(k, c.n);
     let a = start.0;
     let link = heap[a];
-    heap[a] = 0;
-    heap[a + 1] = region_origin(j);
     if c.count == 1 {
         return Taken {
             first: link,
@@ -191,6 +189,19 @@ pub fn take_page(heap: &mut [u32], k: Page, j: Region, c: Control) -> Taken
         last: c.last,
         count: c.count - 1,
     }
+}
+
+// Page k, the first free one, becomes one of region j: link 0, then its origin.
+pub fn take_page(heap: &mut [u32], k: Page, j: Region, c: Control) -> Taken
+    requires { ⌜ (PageFree (length (now heap)) c) × (k .0 ≡ linkPage (c .first)) × (j .0 ≤ 64) ⌝ }
+    ensures { λ r. ⌜ ((t : List ℕ) → takenAs (k .0) r (now (heap .exit)) t ≡ takePage (c .n) (j .0) (runOf (now (heap .entry)) t c)) ⌝ }
+{
+    let rest = free_after(heap, k, c);
+    let start = page_address(k, c.n);
+    let a = start.0;
+    heap[a] = 0;
+    heap[a + 1] = region_origin(j);
+    rest
 }
 
 // The words of page k, as a part of the heap; an empty part where there is no such page.
