@@ -1,20 +1,18 @@
 -- The turn laws of rule 3's walks: at each region, at each page and at the end of a chain, what is left to test is what was left before, and
 -- the pages that are left are one fewer. Each follows the definition's own turn.
 use Prim.Native.Nat.{ℕ, zero, suc, _+_, _-_, _*_, _/_, _%_, _^_, _≤_, _<_}
-use mathlib.Core.Path.{_≡_, refl, sym, ap, _∙_}
+use mathlib.Core.Path.{_≡_, refl, ap, _∙_}
 use mathlib.Core.Bool.{Bool, true, false, _&&_}
-use mathlib.Core.List.{List, [], _∷_, _++_}
+use mathlib.Core.List.{List, [], _∷_}
 use native.Mathlib.Omega.{arith}
 use native.Mathlib.Numerals.{sub-one, add-one}
-use borrow.Author.Tests.{eq-eqb, ne-eqb, le-leb}
+use borrow.Author.Tests.{eq-eqb, ne-eqb}
 use lib.Dec.{ltb, eqb}
 use lib.ListN.{length, getD, length-append}
-use lib.Seq.{slice, take-length}
-use Rattle.laws.specs.Lists.{all, allFrom, allBelow, zeros, lastOr}
+use Rattle.laws.specs.Lists.{allFrom, allBelow, lastOr}
 use Rattle.laws.proofs.Tests.{and-yes, and-assoc, from-go, from-stop}
-use Rattle.rules.specs.declared.Control.{Control}
-use Rattle.rules.specs.Memory.{lent, statusOf, addressPage, link, origin, firstOf, firstLink, chain, chainEnd, regionPages, freePages, pagesFrom}
-use Rattle.rules.specs.Audit.{opens, endsWell, lastLink, rule2}
+use Rattle.rules.specs.Memory.{addressPage, link, origin, firstOf, firstLink, chain, chainEnd, regionPages, freePages, pagesFrom}
+use Rattle.rules.specs.Audit.{opens, endsWell, lastLink}
 use Rattle.rules.specs.Refusals.{Paged}
 use Rattle.rules.proofs.Limits.{pages-few}
 use Rattle.rules.proofs.Nests.{next-chain, next-end, Over, pages-go, pages-over}
@@ -174,14 +172,3 @@ module _ (n N : ℕ) (h : List ℕ) (e : N ≡ length h / 2 ^ n) (first : ℕ) w
   pub list-last : lastBy 0 (chain N n h first) ≡ lastLink (freePages n h first)
   unfolding freePages
   list-last = rw e (last-by (freePages n h first))
-
--- ---- rule 2
-
-module _ (h t r k : List ℕ) (c : Control) (b : c .regions ≤ 64) where
-  pub two-off : zeros (slice (4 * c .regions) (length t) t) ≡ false → rule2 (lent h t r k c) ≡ false
-  unfolding rule2
-  two-off e = rw (le-leb _ _ b, rw (take-length t) at e)
-
-  pub two-at : zeros (slice (4 * c .regions) (length t) t) ≡ true → rule2 (lent h t r k c) ≡ allBelow (λ j. eqb (statusOf t j) 0) (c .regions)
-  unfolding rule2
-  two-at e = rw (le-leb _ _ b, rw (take-length t) at e)

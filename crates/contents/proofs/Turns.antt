@@ -1,6 +1,6 @@
--- The turn laws of rules 5 and 8: at each region, page and value, what is left to test is what was left before.
-use Prim.Native.Nat.{ℕ, zero, suc, _+_, _-_, _*_, _/_, _%_, _^_, _≤_, _<_}
-use mathlib.Core.Path.{_≡_, refl, sym, ap, _∙_}
+-- The turn laws of rule 5, and of values and then zeros anywhere: at each region, page and value, what is left to test is what was left before.
+use Prim.Native.Nat.{ℕ, suc, _+_, _-_, _*_, _/_, _^_, _≤_, _<_}
+use mathlib.Core.Path.{_≡_, sym, ap, _∙_}
 use mathlib.Core.Bool.{Bool, true, false, _&&_}
 use mathlib.Core.List.{List, []}
 use native.Mathlib.Omega.{arith}
@@ -8,13 +8,12 @@ use native.Mathlib.Nat.{add-zero}
 use borrow.Author.Tests.{eq-eqb, ne-eqb}
 use lib.Dec.{eqb}
 use lib.ListN.{length, drop, take, getD}
-use lib.Seq.{slice, length-slice, drop-drop, take-length}
-use Rattle.laws.specs.Lists.{all, allFrom, zeros}
-use Rattle.laws.proofs.Tests.{and-yes, and-assoc}
-use Rattle.rules.specs.declared.Control.{Control}
-use Rattle.rules.specs.Memory.{lent, link, pageWords, topOf, chain}
-use Rattle.rules.specs.Words.{wordOf, fits, vals, valsIn, pageVals, constVals, usedOf, fieldsPass, goodConst}
-use Rattle.rules.specs.Audit.{ifLast, filled, pageFilled, constField, rule8}
+use lib.Seq.{slice, length-slice, drop-drop}
+use Rattle.laws.specs.Lists.{all, zeros}
+use Rattle.laws.proofs.Tests.{and-assoc}
+use Rattle.rules.specs.Memory.{link, pageWords, topOf, chain}
+use Rattle.rules.specs.Words.{fits, valsIn, pageVals, usedOf}
+use Rattle.rules.specs.Audit.{ifLast, filled, pageFilled}
 use Rattle.rules.proofs.Headers.{fit-of}
 use Rattle.rules.proofs.Stepping.{vals-none, vals-stop, vals-step}
 use Rattle.rules.proofs.Chains.{page-part}
@@ -106,41 +105,3 @@ five-page n N h t e f k j d p qd qp r b q l z c =
     pages-go n N h e f k (pageFilled n h t j) r b q l z c
     ∙ and-assoc (filled ((k - 1) * 2 ^ n + 2) (drop 2 (pageWords n h (k - 1)))) _ _
     ∙ rw (q, qd, qp, page-part n h (k - 1))
-
--- ---- constants
-
-pub filled-all : (h : List ℕ) → Zeros h 0 (length h) ≡ filled 0 h
-unfolding filled valsIn
-filled-all h = rw (take-length h)
-
-pub consts-all : (p : ℕ → Bool) (h : List ℕ) → (all (fieldsPass p) (valsIn h 0 (length h)) && true) ≡ all (fieldsPass p) (constVals h)
-unfolding valsIn
-consts-all p h = rw (take-length h) (and-yes _)
-
-module _ (k : List ℕ) (w : ℕ) where
-  pub field-heap : w % 4 ≡ 0 → constField k w ≡ false
-  unfolding constField wordOf
-  field-heap e = rw (constField, e)
-
-  pub field-const : w % 4 ≡ 2 → constField k w ≡ goodConst k (w / 4)
-  unfolding constField wordOf
-  field-const e = rw (constField, e)
-
-  pub field-number : (w % 4 ≡ 0 → ⊥) → (w % 4 ≡ 2 → ⊥) → constField k w ≡ true
-  unfolding constField wordOf
-  field-number a b = go (w % 4) refl
-    where
-      go : (x : ℕ) → w % 4 ≡ x → constField k w ≡ true
-      go zero e = absurd (a e)
-      go (suc zero) e = rw (constField, e)
-      go (suc (suc zero)) e = absurd (b e)
-      go (suc (suc (suc x))) e = rw (constField, e)
-
-module _ (h t r k : List ℕ) (c : Control) where
-  pub eight-off : filled 0 k ≡ false → rule8 (lent h t r k c) ≡ false
-  unfolding rule8
-  eight-off e = rw e
-
-  pub eight-at : filled 0 k ≡ true → rule8 (lent h t r k c) ≡ all (fieldsPass (constField k)) (constVals k)
-  unfolding rule8
-  eight-at e = rw e

@@ -1,3 +1,2 @@
 pub mod Undone
-pub mod Chains
 pub mod Written

@@ -2,7 +2,7 @@
 use mathlib.Core.Path.{_≡_, sym, _∙_}
 use native.Mathlib.Omega.{arith}
 use borrow.Author.Tests.{not-true, not-false}
-use Rattle.chains.proofs.Turns.{two-off, two-at}
+use Rattle.chains.proofs.Two.{two-off, two-at}
 use Rattle.chains.proofs.rule2.Statement.{statement}
 use Rattle.chains.proofs.rule2.Tie as tie
 

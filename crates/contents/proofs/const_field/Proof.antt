@@ -2,7 +2,7 @@
 use mathlib.Core.Path.{_≡_, sym, ap, _∙_}
 use borrow.Author.Needs.{needs}
 use Rattle.rules.specs.Words.{goodConst}
-use Rattle.contents.proofs.Turns.{field-heap, field-const, field-number}
+use Rattle.contents.proofs.Constants.{field-heap, field-const, field-number}
 use Rattle.contents.proofs.const_field.Statement.{statement}
 use Rattle.contents.proofs.const_field.Tie as tie
 

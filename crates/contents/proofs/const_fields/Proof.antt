@@ -13,7 +13,7 @@ use Rattle.rules.specs.Words.{valsIn, fieldsPass}
 use Rattle.rules.specs.Audit.{constField}
 use Rattle.rules.proofs.Headers.{fit-of}
 use Rattle.rules.proofs.Stepping.{values-end, values-stop, values-raw, values-rec}
-use Rattle.contents.proofs.Turns.{consts-all}
+use Rattle.contents.proofs.Constants.{consts-all}
 use Rattle.contents.proofs.const_fields.Statement.{statement}
 use Rattle.contents.proofs.const_fields.Tie as tie
 

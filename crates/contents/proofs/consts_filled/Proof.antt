@@ -7,7 +7,8 @@ use borrow.Author.Tests.{not-true, not-false}
 use lib.ListN.{length, getD}
 use lib.Seq.{slice}
 use Rattle.laws.specs.Lists.{zeros}
-use Rattle.contents.proofs.Turns.{Zeros, zeros-at-end, zeros-at-stop, zeros-step, filled-all}
+use Rattle.contents.proofs.Turns.{Zeros, zeros-at-end, zeros-at-stop, zeros-step}
+use Rattle.contents.proofs.Constants.{filled-all}
 use native.Mathlib.Nat.{le-refl}
 use Rattle.contents.proofs.consts_filled.Statement.{statement}
 use Rattle.contents.proofs.consts_filled.Tie as tie

@@ -2,7 +2,7 @@
 use mathlib.Core.Path.{_≡_, sym, _∙_}
 use borrow.Author.Needs.{needs}
 use borrow.Author.Tests.{not-true, not-false}
-use Rattle.contents.proofs.Turns.{eight-off, eight-at}
+use Rattle.contents.proofs.Constants.{eight-off, eight-at}
 use Rattle.contents.proofs.rule8.Statement.{statement}
 use Rattle.contents.proofs.rule8.Tie as tie
 

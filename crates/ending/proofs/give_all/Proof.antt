@@ -8,7 +8,7 @@ use Rattle.laws.proofs.Each.{steps-end}
 use Rattle.rules.specs.Memory.{firstLink}
 use Rattle.motion.specs.Leaves.{desk}
 use Rattle.motion.specs.Whole.{giveChain}
-use Rattle.ending.proofs.Chains.{give-region}
+use Rattle.motion.proofs.Chains.{give-region}
 use Rattle.ending.proofs.give_all.Statement.{statement}
 use Rattle.ending.proofs.give_all.Tie as tie
 

@@ -7,7 +7,7 @@ use Rattle.laws.specs.Each.{steps}
 use Rattle.laws.proofs.Each.{steps-end}
 use Rattle.rules.specs.Memory.{firstLink}
 use Rattle.motion.specs.Whole.{ownChain}
-use Rattle.ending.proofs.Chains.{own-region}
+use Rattle.motion.proofs.Chains.{own-region}
 use Rattle.ending.proofs.own_all.Statement.{statement}
 use Rattle.ending.proofs.own_all.Tie as tie
 

@@ -8,7 +8,7 @@ use Rattle.laws.proofs.Each.{along-more, along-past, along-last, along-end}
 use Rattle.rules.specs.Memory.{link}
 use Rattle.motion.specs.Whole.{own}
 use Rattle.motion.proofs.Leaves.{page-below}
-use Rattle.ending.proofs.Chains.{link-at, owned, named}
+use Rattle.motion.proofs.Chains.{link-at, owned, named}
 use borrow.Author.Needs.{needs}
 use Rattle.ending.proofs.own_chain.Statement.{statement}
 use Rattle.ending.proofs.own_chain.Tie as tie

@@ -8,7 +8,7 @@ use Rattle.rules.specs.Refusals.{Paged}
 use Rattle.rules.proofs.Limits.{page-number}
 use Rattle.motion.specs.Whole.{relinkAll}
 use Rattle.motion.proofs.Leaves.{page-below}
-use Rattle.ending.proofs.Chains.{origin-at, relinked, named, page-kept}
+use Rattle.motion.proofs.Chains.{origin-at, relinked, named, page-kept}
 use borrow.Author.Needs.{needs}
 use Rattle.ending.proofs.relink_all.Statement.{statement}
 use Rattle.ending.proofs.relink_all.Tie as tie

@@ -7,7 +7,7 @@ use Rattle.laws.specs.Each.{along}
 use Rattle.laws.proofs.Each.{along-more, along-past, along-last, along-end}
 use Rattle.rules.specs.Memory.{link}
 use Rattle.motion.specs.Whole.{undoPage}
-use Rattle.ending.proofs.Chains.{link-at, named}
+use Rattle.motion.proofs.Chains.{link-at, named}
 use borrow.Author.Needs.{needs}
 use Rattle.ending.proofs.undo_chain.Statement.{statement}
 use Rattle.ending.proofs.undo_chain.Tie as tie

@@ -7,7 +7,7 @@ use Rattle.laws.specs.Each.{steps}
 use Rattle.laws.proofs.Each.{steps-end}
 use Rattle.rules.specs.Memory.{firstLink}
 use Rattle.motion.specs.Whole.{undoChain}
-use Rattle.ending.proofs.Chains.{undo-region}
+use Rattle.motion.proofs.Chains.{undo-region}
 use Rattle.ending.proofs.undo_headers.Statement.{statement}
 use Rattle.ending.proofs.undo_headers.Tie as tie
 
