@@ -10,9 +10,14 @@ ghost use Rattle.rules.specs.Words.{goodIn};
 ghost use Rattle.rules.specs.Refusals.{Paged, outcome};
 ghost use Rattle.rules.specs.Calls.{rowFits, headerFor, wordsFit, allocateIn, allocate as allocateOf};
 ghost use Rattle.allocation.specs.Placing.{Fit};
-use pages::Tested;
+use conversions::address_pointer;
+use conversions::link_page;
+use conversions::page_address;
+use conversions::page_link;
+use conversions::region_origin;
+use limits::Tested;
+use limits::first_tests;
 use pages::body_address;
-use pages::first_tests;
 use pages::free_after;
 use pages::link_fits;
 use pages::page_end;
@@ -28,11 +33,6 @@ use rules::Page;
 use rules::Refusal;
 use rules::Region;
 use rules::Valued;
-use rules::address_pointer;
-use rules::link_page;
-use rules::page_address;
-use rules::page_link;
-use rules::region_origin;
 use values::good_word;
 
 // Whether region j's e and a are fit for an allocation: e is a multiple of P from P to NP, a lies from e-P+2 to e.

@@ -111,9 +111,9 @@ fn hash_of(heap: &[u32], table: &[u32], roots: &[u32], consts: &[u32], c: Contro
 
 fn put_refusal(out: &mut [u8], at: usize, why: Refusal) -> usize {
     let a = put_bytes(out, at, b"no ");
-    let b = put_decimal(out, a, rules::refusal_number(why) as u64);
+    let b = put_decimal(out, a, conversions::refusal_number(why) as u64);
     let c = put(out, b, b' ');
-    put_decimal(out, c, rules::refusal_place(why) as u64)
+    put_decimal(out, c, conversions::refusal_place(why) as u64)
 }
 
 // A number without its sign. Below 0 the bits of i turned over are -1 - i.
@@ -189,7 +189,7 @@ fn put_page<'a>(
     put_part(
         out,
         at,
-        pages::page_by_number(heap, table, roots, consts, c, k),
+        page_views::page_by_number(heap, table, roots, consts, c, k),
     )
 }
 

@@ -1,17 +1,17 @@
 // The audit: the first broken rule, as an answer. Each rule is one nest of walks, in the crates below.
-use chains::rule2;
 use chains::rule3;
+use constants::rule8;
 use contents::rule5;
-use contents::rule8;
 use ends::rule4;
 use ends::rule9;
 use fields::rule6;
 use fields::rule7;
-use pages::Tested;
-use pages::first_tests;
+use limits::Tested;
+use limits::first_tests;
 use rules::Control;
 use rules::Plain;
 use rules::Refusal;
+use table_words::rule2;
 ghost use mathlib.Core.Path.{_≡_};
 ghost use lib.ListN.{length};
 ghost use Rattle.rules.specs.Audit.{brokenRule};

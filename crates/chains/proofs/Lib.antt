@@ -1,3 +1,2 @@
-pub mod Two
 pub mod Turns
 pub mod Three

@@ -1,70 +1,20 @@
-// Rules 2 and 3 of the audit: the table's words, and every page in exactly one chain.
+// Rule 3: every page in exactly one chain.
 ghost use mathlib.Core.Path.{_≡_};
-ghost use Prim.Native.Nat.{_+_, _-_, _*_, _/_, _^_, _≤_, _<_};
+ghost use Prim.Native.Nat.{_≤_, _<_};
 ghost use lib.ListN.{length};
-ghost use lib.Seq.{slice};
-ghost use lib.Dec.{eqb};
-ghost use Rattle.laws.specs.Lists.{zeros, allBelow};
-ghost use Rattle.rules.specs.Memory.{lent, row, statusOf};
+ghost use Rattle.rules.specs.Memory.{lent};
 ghost use Rattle.rules.specs.Refusals.{Paged, Admitted};
-ghost use Rattle.rules.specs.Audit.{opens as opensOf, rule2 as rule2Of, rule3 as rule3Of};
+ghost use Rattle.rules.specs.Audit.{opens as opensOf, rule3 as rule3Of};
 ghost use Rattle.chains.specs.Walked.{regionsChained, freeListed};
+use conversions::address_page;
+use conversions::region_origin;
 use pages::page_count;
 use pages::page_words;
 use rows::first_link;
 use rows::first_of;
 use rows::link_address;
-use rows::status_of;
-use rules::Address;
 use rules::Control;
 use rules::Region;
-use rules::address_page;
-use rules::region_origin;
-
-// Whether the words from one address up to another are 0.
-pub fn zero_between(words: &[u32], from: Address, to: Address) -> bool
-    requires { ⌜ to .0 ≤ length (now words) ⌝ }
-    ensures { λ r. ⌜ r ≡ zeros (slice (from .0) (to .0) (now (words .entry))) ⌝ }
-{
-    let end = to.0;
-    let mut at = from.0;
-    while at < end {
-        if words[at] != 0 {
-            return false;
-        }
-        at += 1;
-    }
-    true
-}
-
-// Whether each region's b is 0.
-fn idle(table: &[u32], regions: usize) -> bool
-    requires { ⌜ (length (now table) ≡ 256) × (regions ≤ 64) ⌝ }
-    ensures { λ r. ⌜ r ≡ allBelow (λ j. eqb (statusOf (now (table .entry)) j) 0) regions ⌝ }
-{
-    let mut j = Region(0);
-    let mut left = regions;
-    while 0 < left {
-        if status_of(table, j) != 0 {
-            return false;
-        }
-        j = Region(j.0 + 1);
-        left -= 1;
-    }
-    true
-}
-
-// Rule 2: R at most 64, table words past 4R are 0, each b is 0.
-pub fn rule2(heap: &[u32], table: &[u32], roots: &[u32], consts: &[u32], c: Control) -> bool
-    requires { ⌜ Admitted (length (now heap)) (length (now table)) (length (now roots)) (length (now consts)) c ⌝ }
-    ensures { λ r. ⌜ r ≡ rule2Of (lent (now (heap .entry)) (now (table .entry)) (now (roots .entry)) (now (consts .entry)) c) ⌝ }
-{
-    let regions = c.regions as usize;
-    if !zero_between(table, Address(4 * regions), Address(table.len())) {
-        return false;
-    }
-    idle(table, regions)
-}
 
 // The pages of the regions' chains, or that one is broken.
 pub enum Chained {

@@ -9,14 +9,12 @@ ghost use Rattle.rules.specs.Refusals.{Paged, outcome};
 ghost use Rattle.motion.specs.Leaves.{desk, out};
 ghost use Rattle.motion.specs.Whole.{fresh as freshDef, freshen as freshenDef, moveRoot, moveRoots, workStack, attempt as attemptDef, undo as undoDef};
 ghost use Rattle.motion.specs.Whole.{isFinished, done, workingCollect};
+use conversions::pointer_address;
 use copying::move_value;
 use copying::take_page;
-use copying::work;
 use ending::give_all;
 use ending::own_all;
 use ending::record_by;
-use ending::relink_all;
-use ending::undo_headers;
 use ending::write_roots;
 use ending::write_table;
 use leaves::link_start;
@@ -39,7 +37,9 @@ use rules::Control;
 use rules::Plain;
 use rules::Refusal;
 use rules::Region;
-use rules::pointer_address;
+use scan_stack::work;
+use undoing::relink_all;
+use undoing::undo_headers;
 
 // A fresh page for region j. Whether there was one.
 fn fresh(heap: &mut [u32], notes: &mut [u32], j: Region, n: u32) -> bool

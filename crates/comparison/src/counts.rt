@@ -1,11 +1,11 @@
 // What was met, counted over all heaps.
 ghost use Prim.Native.Nat.{_≤_, _<_};
 use audit::audit;
+use conversions::refusal_number;
 use leaves::word;
 use rules::Control;
 use rules::Plain;
 use rules::Refusal;
-use rules::refusal_number;
 use samples::census;
 use samples::census::add;
 

@@ -2,6 +2,8 @@
 use crate::counts;
 use crate::trial::both;
 use check::same;
+use conversions::refusal_number;
+use conversions::refusal_place;
 use image::read_image;
 use image::write_image;
 use reading::Head;
@@ -12,8 +14,6 @@ use rules::Opened;
 use rules::Plain;
 use rules::Refusal;
 use rules::Valued;
-use rules::refusal_number;
-use rules::refusal_place;
 use samples::census::add;
 use writing::write_frame;
 

@@ -1,12 +1,12 @@
 // One heap, both collectors: the first in place, the second from a copy into a heap of its own. Every word, the record and the answer are
 // compared.
 use collection::collect;
+use conversions::refusal_number;
 use leaves::word;
 use leaves::write;
 use rules::Control;
 use rules::Plain;
 use rules::Refusal;
-use rules::refusal_number;
 use second::Ended;
 use second::collect_again;
 

@@ -1,5 +1,7 @@
 // The work of the program "collect": from the bytes of an image to the bytes that it prints. The program only reads and writes.
 use collection::collect;
+use conversions::refusal_number;
+use conversions::refusal_place;
 use image::read_image;
 use reading::Head;
 use reading::heap_words;
@@ -8,8 +10,6 @@ use rules::Control;
 use rules::Opened;
 use rules::Plain;
 use rules::Refusal;
-use rules::refusal_number;
-use rules::refusal_place;
 use writing::text_length;
 use writing::write_frame;
 use writing::write_text;

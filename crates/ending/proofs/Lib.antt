@@ -1,2 +1,1 @@
-pub mod Undone
 pub mod Written

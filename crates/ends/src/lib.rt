@@ -5,7 +5,6 @@ ghost use lib.ListN.{length};
 ghost use Rattle.rules.specs.Memory.{lent};
 ghost use Rattle.rules.specs.Refusals.{Admitted};
 ghost use Rattle.rules.specs.Audit.{topFits, rule4 as rule4Of, rule9 as rule9Of};
-use chains::zero_between;
 use pages::page_count;
 use pages::page_words;
 use rows::end_of;
@@ -15,6 +14,7 @@ use rows::top_of;
 use rules::Address;
 use rules::Control;
 use rules::Region;
+use table_words::zero_between;
 
 // Whether a region's a lies from e-P+2 to e.
 fn top_fits(table: &[u32], j: Region, n: u32) -> bool

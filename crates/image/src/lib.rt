@@ -1,6 +1,6 @@
 // The two calls on a heap's text image: writing it, and reading it back.
-use pages::Tested;
-use pages::first_tests;
+use limits::Tested;
+use limits::first_tests;
 use reading::Judged;
 use reading::fill_pages;
 use reading::fill_part;

@@ -7,17 +7,17 @@ ghost use Rattle.laws.specs.Lists.{at};
 ghost use Rattle.laws.specs.Each.{after};
 ghost use Rattle.rules.specs.Memory.{addressPage, linkPage, endOf, firstOf, topOf, statusOf, setEnd, setFirst, setTop, setStatus};
 ghost use Rattle.motion.specs.Leaves.{low as lowDef, pageStart, regionOn, apart as apartDef, copied, forwarded, wake as wakeDef, pop as popDef, Narrow};
+use conversions::address_page;
+use conversions::address_pointer;
+use conversions::link_page;
+use conversions::origin_region;
+use conversions::page_address;
 use motion::DEPTH;
 use motion::STACK;
 use motion::Step;
 use rules::Address;
 use rules::Page;
 use rules::Region;
-use rules::address_page;
-use rules::address_pointer;
-use rules::link_page;
-use rules::origin_region;
-use rules::page_address;
 
 // The word at i, 0 outside.
 pub fn word(s: &[u32], i: usize) -> usize

@@ -1,23 +1,19 @@
-// Lengths and the common test, clearing a page, taking a page, a page by its number.
+// The size and the number of pages, clearing a page, taking a page.
 ghost use mathlib.Core.Path.{_≡_};
-ghost use Prim.Native.Nat.{_+_, _-_, _*_, _/_, _^_, _≤_, _<_};
+ghost use Prim.Native.Nat.{_-_, _/_, _^_, _≤_, _<_};
 ghost use Prim.Native.Nat.{ℕ};
 ghost use mathlib.Core.List.{List};
 ghost use lib.ListN.{length, replicate};
-ghost use Rattle.rules.specs.Memory.{limits, lent, pageCount, link, linkPage, bodyAddress, pageEnd};
-ghost use Rattle.rules.specs.Refusals.{common, Paged};
+ghost use Rattle.rules.specs.Memory.{lent, pageCount, link, linkPage, bodyAddress, pageEnd};
+ghost use Rattle.rules.specs.Refusals.{Paged};
 ghost use Rattle.rules.specs.Pages.{lastIf, linkFits, takePage, clearPage};
-ghost use Rattle.rules.specs.Calls.{pageByNumber, pageRefusal};
-ghost use Rattle.pages.specs.First.{firstTests};
 ghost use Rattle.pages.specs.Taking.{PageFree, runOf, takenAs};
+use conversions::page_address;
+use conversions::region_origin;
 use rules::Address;
 use rules::Control;
 use rules::Page;
-use rules::Plain;
-use rules::Refusal;
 use rules::Region;
-use rules::page_address;
-use rules::region_origin;
 
 // The words of a page.
 pub fn page_words(n: u32) -> usize
@@ -33,72 +29,6 @@ pub fn page_count(h: usize, n: u32) -> usize
     ensures { λ r. ⌜ r ≡ h / 2 ^ n ⌝ }
 {
     h >> n
-}
-
-// Whether n and the four lengths are within their limits.
-pub fn within_limits(n: u32, heap: usize, table: usize, roots: usize, consts: usize) -> bool
-    ensures { λ r. ⌜ r ≡ limits n heap table roots consts ⌝ }
-{
-    if n < 4 {
-        return false;
-    }
-    if 8 < n {
-        return false;
-    }
-    let p = page_words(n);
-    if heap % p != 0 {
-        return false;
-    }
-    if heap < 2 * p {
-        return false;
-    }
-    if 65536 < heap {
-        return false;
-    }
-    if table != 256 {
-        return false;
-    }
-    if 1024 < roots {
-        return false;
-    }
-    consts <= 65535
-}
-
-// Whether the record passes the test of every call on a heap of h words.
-fn common_test(h: usize, c: Control) -> bool
-    requires { ⌜ c .n ≤ 8 ⌝ }
-    ensures { λ r. ⌜ r ≡ common (h / 2 ^ c .n) c ⌝ }
-{
-    let pages = page_count(h, c.n);
-    if 64 < c.regions {
-        return false;
-    }
-    if pages < c.first as usize {
-        return false;
-    }
-    if pages < c.count as usize {
-        return false;
-    }
-    (c.first == 0) == (c.count == 0)
-}
-
-// What every call tests first.
-pub enum Tested {
-    Fine,
-    Refused(Refusal),
-}
-
-// The tests of every call, over the four lengths and the record.
-pub fn first_tests(heap: usize, table: usize, roots: usize, consts: usize, c: Control) -> Tested
-    ensures { λ r. ⌜ r ≡ firstTests heap table roots consts c ⌝ }
-{
-    if !within_limits(c.n, heap, table, roots, consts) {
-        return Tested::Refused(Refusal::Limits);
-    }
-    if !common_test(heap, c) {
-        return Tested::Refused(Refusal::Broken(0));
-    }
-    Tested::Fine
 }
 
 // The address just past a page.
@@ -202,50 +132,4 @@ pub fn take_page(heap: &mut [u32], k: Page, j: Region, c: Control) -> Taken
     heap[a] = 0;
     heap[a + 1] = region_origin(j);
     rest
-}
-
-// The words of page k, as a part of the heap; an empty part where there is no such page.
-pub fn page_by_number<'a>(
-    heap: &'a [u32],
-    table: &'a [u32],
-    roots: &'a [u32],
-    consts: &'a [u32],
-    c: Control,
-    k: Page,
-) -> &'a [u32]
-    ensures { λ r. ⌜ now r ≡ pageByNumber (lent (now (heap .entry)) (now (table .entry)) (now (roots .entry)) (now (consts .entry)) c) (k .0) ⌝ }
-{
-    let tested = first_tests(heap.len(), table.len(), roots.len(), consts.len(), c);
-    if let Tested::Refused(_) = tested {
-        return &heap[0..0];
-    }
-    let pages = page_count(heap.len(), c.n);
-    if pages <= k.0 {
-        return &heap[0..0];
-    }
-    let start = page_address(k, c.n);
-    let a = start.0;
-    let e = a + page_words(c.n);
-    &heap[a..e]
-}
-
-// Whether a page can be handed back by its number, and why not.
-pub fn page_refusal(
-    heap: &[u32],
-    table: &[u32],
-    roots: &[u32],
-    consts: &[u32],
-    c: Control,
-    k: Page,
-) -> Plain
-    ensures { λ r. ⌜ r ≡ pageRefusal (lent (now (heap .entry)) (now (table .entry)) (now (roots .entry)) (now (consts .entry)) c) (k .0) ⌝ }
-{
-    let tested = first_tests(heap.len(), table.len(), roots.len(), consts.len(), c);
-    if let Tested::Refused(why) = tested {
-        return Plain::Refused(why, c);
-    }
-    if page_count(heap.len(), c.n) <= k.0 {
-        return Plain::Refused(Refusal::NoSuch, c);
-    }
-    Plain::Done(c)
 }

@@ -1,6 +1,6 @@
 // Walking a path.
-use pages::Tested;
-use pages::first_tests;
+use limits::Tested;
+use limits::first_tests;
 use rules::Control;
 use rules::Refusal;
 use rules::Valued;

@@ -1,7 +1,7 @@
 // The text of an image, read: a first pass judges every frame, a second one fills the parts.
+use conversions::page_address;
 use pages::page_words;
 use rules::Page;
-use rules::page_address;
 use scanning::Cursor;
 use scanning::Step;
 use scanning::frame_shape;

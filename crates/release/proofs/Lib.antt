@@ -1,4 +1,1 @@
-pub mod Chain
-pub mod Given
-pub mod Going
 pub mod Popped

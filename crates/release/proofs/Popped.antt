@@ -17,8 +17,8 @@ use Rattle.rules.specs.Calls.{audit, letGo, popOn, popTop, pop}
 use Rattle.rules.proofs.Limits.{pages-few}
 use Rattle.facts.proofs.Sound.{Passes}
 use Rattle.facts.proofs.Passing.{meaning}
-use Rattle.release.specs.Giving.{Free, Left, giveChain}
-use Rattle.release.proofs.Chain.{last-there, region-given}
+use Rattle.giving.specs.Giving.{Free, Left, giveChain}
+use Rattle.giving.proofs.Chain.{last-there, region-given}
 use Rattle.rules.proofs.Judged.{judged-refuse}
 use Rattle.facts.proofs.Judged.{passed, passed-admitted}
 

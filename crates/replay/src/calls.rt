@@ -100,11 +100,11 @@ pub fn change(
     c: Control,
 ) -> Outcome {
     match asked {
-        Changing::Setup(n) => opened(regions::set_up(heap, table, roots, consts, n), c),
+        Changing::Setup(n) => opened(setting_up::set_up(heap, table, roots, consts, n), c),
         Changing::Push => plain(regions::push(heap, table, roots, consts, c)),
         Changing::Pop => plain(release::pop(heap, table, roots, consts, c)),
         Changing::Alloc(j, kind, l) => allocate(heap, table, roots, consts, words, c, j, kind, l),
-        Changing::Assign(w, field, x) => plain(access::assign(
+        Changing::Assign(w, field, x) => plain(assignment::assign(
             heap,
             table,
             roots,
@@ -146,7 +146,7 @@ fn page(
     c: Control,
     k: Page,
 ) -> Outcome {
-    match pages::page_refusal(heap, table, roots, consts, c, k) {
+    match page_views::page_refusal(heap, table, roots, consts, c, k) {
         Plain::Done(d) => saying(Answer::Page(k), d),
         Plain::Refused(why, d) => saying(Answer::Refused(why), d),
     }
@@ -227,11 +227,11 @@ pub fn ask<'a>(
         Asking::Page(k) => page(heap, table, roots, consts, c, k),
         Asking::Walk(root, k) => walk(heap, table, roots, consts, words, c, root, k),
         Asking::Audit => plain(audit::audit(heap, table, roots, consts, c)),
-        Asking::Due => told(regions::due(heap, table, roots, consts, c)),
+        Asking::Due => told(due::due(heap, table, roots, consts, c)),
         Asking::Used(j) => count(used::used_words(heap, table, roots, consts, c, j)),
-        Asking::Num(i) => worded(values::word_of_number(i), c),
+        Asking::Num(i) => worded(numbers::word_of_number(i), c),
         Asking::TooLarge => saying(Answer::Refused(Refusal::NoNumber), c),
-        Asking::Unnum(w) => numbered(values::number_of_word(w), c),
+        Asking::Unnum(w) => numbered(numbers::number_of_word(w), c),
         Asking::Write(k) => write_in(heap, table, roots, consts, bytes, c, k),
     }
 }

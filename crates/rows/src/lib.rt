@@ -3,12 +3,12 @@ ghost use mathlib.Core.Path.{_≡_};
 ghost use Prim.Native.Nat.{_+_, _-_, _*_, _/_, _^_, _≤_, _<_};
 ghost use lib.ListN.{length};
 ghost use Rattle.rules.specs.Memory.{pageAddress, linkPage, endOf, firstOf, topOf, statusOf, setEnd, setTop, setRow, firstLink};
+use conversions::address_page;
+use conversions::link_page;
+use conversions::page_address;
+use conversions::page_link;
 use rules::Address;
 use rules::Region;
-use rules::address_page;
-use rules::link_page;
-use rules::page_address;
-use rules::page_link;
 
 // e: the address just past the region's last page.
 pub fn end_of(table: &[u32], j: Region) -> Address

@@ -3,19 +3,19 @@ ghost use Prim.Native.Nat.{_<_};
 use crate::chance::below;
 use crate::chance::next;
 use crate::shape::Shape;
-use access::assign;
 use access::set_root;
 use allocation::allocate;
+use assignment::assign;
 use leaves::word;
 use leaves::write;
 use regions::push;
-use regions::set_up;
 use rules::Control;
 use rules::Kind;
 use rules::Opened;
 use rules::Plain;
 use rules::Region;
 use rules::Valued;
+use setting_up::set_up;
 
 // Where the making stands: the generator and the record.
 pub struct Stand {

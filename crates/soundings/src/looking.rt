@@ -1,10 +1,10 @@
 // Fetch, page, walk, assign and set root, on the heap of "Sh" with one record of the number 7 in the constants.
-use access::assign;
 use access::fetch;
 use access::fetch_refusal;
 use access::set_root;
-use pages::page_by_number;
-use pages::page_refusal;
+use assignment::assign;
+use page_views::page_by_number;
+use page_views::page_refusal;
 use paths::walk;
 use rules::Control;
 use rules::Page;

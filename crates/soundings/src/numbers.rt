@@ -1,9 +1,9 @@
 // Words and values: "a whole number i from -2^30 to 2^30-1, stored as 2i+1 modulo 2^32".
+use numbers::number_of_word;
+use numbers::word_of_number;
 use rules::Numbered;
 use rules::Worded;
 use telling::say;
-use values::number_of_word;
-use values::word_of_number;
 
 fn word_of(name: &[u8], i: i32) {
     say::text(b"word of ");

@@ -1,7 +1,7 @@
 // Setting up and push.
 use regions::push;
-use regions::set_up;
 use rules::Control;
+use setting_up::set_up;
 use telling::heaps;
 use telling::lent;
 use telling::say;

@@ -1,6 +1,6 @@
 // Allocation, and whether a collection is due.
 use allocation::allocate;
-use regions::due;
+use due::due;
 use rules::Control;
 use rules::Kind;
 use rules::Region;

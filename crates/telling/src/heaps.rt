@@ -1,16 +1,16 @@
 // Heaps made by the calls, for soundings that begin with one.
 use crate::say;
-use access::assign;
 use access::set_root;
 use allocation::allocate;
+use assignment::assign;
 use regions::push;
-use regions::set_up;
 use rules::Control;
 use rules::Kind;
 use rules::Opened;
 use rules::Plain;
 use rules::Region;
 use rules::Valued;
+use setting_up::set_up;
 
 // A pointer to a new value, and the record after it.
 pub struct Kept {

@@ -1,12 +1,12 @@
 // What is printed: text, numbers, parts of words, answers.
+use conversions::refusal_number;
+use conversions::refusal_place;
 use rules::Control;
 use rules::Opened;
 use rules::Plain;
 use rules::Refusal;
 use rules::Told;
 use rules::Valued;
-use rules::refusal_number;
-use rules::refusal_place;
 
 pub fn text(s: &[u8]) {
     io::write_all(1, s);

@@ -1,5 +1,7 @@
 // The used words of a region: what its values take, headers included, on a heap that passes the audit.
 use audit::audit;
+use conversions::link_page;
+use conversions::page_address;
 use pages::body_address;
 use pages::page_count;
 use pages::page_end;
@@ -10,8 +12,6 @@ use rules::Plain;
 use rules::Refusal;
 use rules::Region;
 use rules::Valued;
-use rules::link_page;
-use rules::page_address;
 use values::fits;
 ghost use mathlib.Core.Path.{_≡_};
 ghost use Prim.Native.Nat.{_+_, _≤_, _<_};

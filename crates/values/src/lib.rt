@@ -1,22 +1,18 @@
-// Headers, good pointers, the value that a pointer names, and whole numbers.
-use pages::body_address;
-use pages::page_end;
-use rules::Address;
-use rules::Numbered;
-use rules::Refusal;
-use rules::Worded;
-use rules::address_page;
-use rules::page_address;
-use rules::pointer_address;
+// Headers, good pointers, and the value that a pointer names.
 ghost use mathlib.Core.Path.{_≡_};
 ghost use mathlib.Core.Bool.{true};
 ghost use mathlib.Core.List.{[]};
 ghost use Prim.Native.Nat.{_+_, _-_, _≤_, _<_};
 ghost use lib.ListN.{length};
 ghost use Rattle.laws.specs.Lists.{at};
-ghost use Rattle.rules.specs.Calls.{wordOfNumber, numberOfWord};
 ghost use Rattle.rules.specs.Refusals.{Paged};
 ghost use Rattle.rules.specs.Words.{fits as fitsIn, isRecord, valsIn, standsAt, goodHeap, goodConst, goodIn, valueAt, look as lookOf};
+use conversions::address_page;
+use conversions::page_address;
+use conversions::pointer_address;
+use pages::body_address;
+use pages::page_end;
+use rules::Address;
 
 // Whether h is the header of a value that fits into the m words that follow it.
 pub fn fits(h: u32, m: usize) -> bool
@@ -140,36 +136,4 @@ pub fn look<'a>(heap: &'a [u32], consts: &'a [u32], n: u32, regions: u32, w: u32
         return value_at(consts, a);
     }
     nothing(heap)
-}
-
-// A whole number as a word. Below 0 the bits of i turned over are -1 - i, which is counted from 0 again.
-pub fn word_of_number(i: i32) -> Worded
-    ensures { λ r. ⌜ r ≡ wordOfNumber i ⌝ }
-{
-    if i < 0 {
-        let below = !i as u32;
-        if below < 1073741824 {
-            return Worded::Done(4294967295 - 2 * below);
-        }
-        return Worded::Refused(Refusal::NoNumber);
-    }
-    let above = i as u32;
-    if above < 1073741824 {
-        return Worded::Done(2 * above + 1);
-    }
-    Worded::Refused(Refusal::NoNumber)
-}
-
-// A word as a whole number.
-pub fn number_of_word(w: u32) -> Numbered
-    ensures { λ r. ⌜ r ≡ numberOfWord w ⌝ }
-{
-    if w % 2 == 0 {
-        return Numbered::Refused(Refusal::NoNumber);
-    }
-    if w < 2147483648 {
-        return Numbered::Done((w / 2) as i32);
-    }
-    let below = ((4294967295 - w) / 2) as i32;
-    Numbered::Done(!below)
 }

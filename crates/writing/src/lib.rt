@@ -1,10 +1,10 @@
 // The text of an image, written: digits, words, frames, and the frames of a store. Each part is told where it begins; its length is
 // counted beforehand by the functions at the end, so that nothing is written where the text does not fit.
+use conversions::page_address;
 use pages::page_count;
 use pages::page_words;
 use rules::Control;
 use rules::Page;
-use rules::page_address;
 ghost use mathlib.Core.Path.{_≡_};
 ghost use Prim.Native.Nat.{_+_, _-_, _*_, _/_, _^_, _≤_, _<_};
 ghost use lib.ListN.{length};

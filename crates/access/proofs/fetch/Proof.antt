@@ -3,7 +3,7 @@ use mathlib.Core.Path.{_∙_}
 use mathlib.Core.List.{[]}
 use borrow.Author.Needs.{needs}
 use Rattle.rules.specs.Calls.{fetch}
-use Rattle.pages.proofs.First.{tests-refuse, tests-pass, tests-admit}
+use Rattle.limits.proofs.First.{tests-refuse, tests-pass, tests-admit}
 use Rattle.access.proofs.fetch.Statement.{statement}
 use Rattle.access.proofs.fetch.Tie as tie
 

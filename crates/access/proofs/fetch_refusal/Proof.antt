@@ -3,7 +3,7 @@ use borrow.Author.Needs.{needs}
 use Rattle.rules.specs.declared.Plain.{Plain}
 use Rattle.rules.specs.Calls.{fetchRefusal}
 use Rattle.rules.proofs.Looks.{there-none, there-some}
-use Rattle.pages.proofs.First.{tests-refuse, tests-pass, tests-admit}
+use Rattle.limits.proofs.First.{tests-refuse, tests-pass, tests-admit}
 use Rattle.access.proofs.fetch_refusal.Statement.{statement}
 use Rattle.access.proofs.fetch_refusal.Tie as tie
 

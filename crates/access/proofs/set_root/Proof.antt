@@ -4,7 +4,7 @@ use borrow.Author.Tests.{le-leb, lt-leb}
 use Rattle.rules.specs.Calls.{setRoot}
 use Rattle.rules.specs.Memory.{lent}
 use Rattle.rules.specs.Refusals.{refused}
-use Rattle.pages.proofs.First.{tests-refuse, tests-pass, tests-admit}
+use Rattle.limits.proofs.First.{tests-refuse, tests-pass, tests-admit}
 use Rattle.access.proofs.set_root.Statement.{statement}
 use Rattle.access.proofs.set_root.Tie as tie
 

@@ -10,7 +10,7 @@ use Rattle.rules.specs.Memory.{lent}
 use Rattle.rules.specs.Refusals.{Admitted, refusedValue}
 use Rattle.rules.specs.Calls.{allocate}
 use Rattle.rules.proofs.Limits.{page-size}
-use Rattle.pages.proofs.First.{tests-refuse, tests-pass, tests-admit}
+use Rattle.limits.proofs.First.{tests-refuse, tests-pass, tests-admit}
 use Rattle.allocation.proofs.Placing.{fitted}
 use Rattle.allocation.proofs.allocate.Statement.{statement}
 use Rattle.allocation.proofs.allocate.Tie as tie

@@ -3,7 +3,7 @@ use mathlib.Core.Path.{ap}
 use native.Mathlib.Omega.{arith}
 use lib.IntN.{ℤ, natAbs}
 use borrow.Author.Needs.{needs}
-use Rattle.values.proofs.Numbers.{below, above, casts}
+use Rattle.numbers.proofs.Numbers.{below, above, casts}
 use Rattle.answers.proofs.magnitude.Statement.{statement}
 use Rattle.answers.proofs.magnitude.Tie as tie
 

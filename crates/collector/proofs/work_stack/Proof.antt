@@ -1,6 +1,6 @@
 -- `collector::work_stack` meets its contract: the work starts with the entry that was pushed last.
 use Rattle.motion.specs.Whole.{workFrom}
-use Rattle.copying.proofs.Working.{narrow-go}
+use Rattle.scan_stack.proofs.Working.{narrow-go}
 use borrow.Author.Needs.{needs}
 use Rattle.collector.proofs.work_stack.Statement.{statement}
 use Rattle.collector.proofs.work_stack.Tie as tie

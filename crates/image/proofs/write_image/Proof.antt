@@ -10,7 +10,7 @@ use Rattle.rules.specs.declared.Valued.{Valued}
 use Rattle.rules.specs.Memory.{lent}
 use Rattle.rules.specs.Image.{written, writeImage}
 use Rattle.rules.proofs.Frames.{text-long, text-done}
-use Rattle.pages.proofs.First.{tests-refuse, tests-pass, tests-admit}
+use Rattle.limits.proofs.First.{tests-refuse, tests-pass, tests-admit}
 use Rattle.image.proofs.write_image.Statement.{statement}
 use Rattle.image.proofs.write_image.Tie as tie
 

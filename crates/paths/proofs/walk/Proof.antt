@@ -2,7 +2,7 @@
 use borrow.Author.Tests.{le-leb, lt-leb}
 use Rattle.rules.specs.declared.Valued.{Valued}
 use Rattle.rules.specs.Calls.{walk}
-use Rattle.pages.proofs.First.{tests-refuse, tests-pass, tests-admit}
+use Rattle.limits.proofs.First.{tests-refuse, tests-pass, tests-admit}
 use borrow.Author.Needs.{needs}
 use Rattle.paths.proofs.walk.Statement.{statement}
 use Rattle.paths.proofs.walk.Tie as tie

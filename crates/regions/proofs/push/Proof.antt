@@ -12,7 +12,7 @@ use Rattle.rules.specs.Refusals.{refused}
 use Rattle.rules.specs.Calls.{push, pushOn}
 use Rattle.rules.proofs.Limits.{page-number}
 use Rattle.pages.specs.Taking.{PageFree}
-use Rattle.pages.proofs.First.{tests-refuse, tests-pass, tests-admit}
+use Rattle.limits.proofs.First.{tests-refuse, tests-pass, tests-admit}
 use Rattle.pages.proofs.Taking.{free-page, free-inside, page-free}
 use Rattle.regions.proofs.push.Statement.{statement}
 use Rattle.regions.proofs.push.Tie as tie

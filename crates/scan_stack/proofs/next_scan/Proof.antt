@@ -1,0 +1,72 @@
+-- `copying::next_scan` meets its contract: it makes the definition's tests in their order; the bits below the page size are the remainder.
+use Prim.Native.Nat.{_+_, _/_}
+use native.Mathlib.Omega.{arith}
+use borrow.Author.Tests.{eq-eqb, ne-eqb}
+use Rattle.laws.proofs.Tests.{tests}
+use Rattle.rules.proofs.Limits.{page-size}
+use Rattle.motion.specs.Run.{nextOf}
+use Rattle.scan_stack.proofs.Masks.{on-page, off-page}
+use borrow.Author.Needs.{needs}
+use Rattle.scan_stack.proofs.next_scan.Statement.{statement}
+use Rattle.scan_stack.proofs.next_scan.Tie as tie
+
+word-requires : tie.Need-word-requires
+word-requires c κs = search needs
+
+top-of-requires : tie.Need-top-of-requires
+top-of-requires c κs = search needs
+
+add-t : tie.Need-add-t
+add-t c = search needs
+
+add-t-2 : tie.Need-add-t-2
+add-t-2 c = search needs
+
+returns : tie.Need-returns
+unfolding nextOf
+returns c = rw (← (c .before .before .before .before .word .ensures .0), ← (c .before .before .before .top-of .ensures .0)) (search tests)
+
+page-words-requires : tie.Need-page-words-requires
+page-words-requires c κs = search needs
+
+sub-if2 : tie.Need-sub-if2
+sub-if2 c = omega (arith, c .page-words .ensures, page-size (c .before .before .before .before .before .before .before .before .args .n) (c .before .before .before .before .before .before .before .before .pre .0) (c .before .before .before .before .before .before .before .before .pre .1))
+
+next-page-requires : tie.Need-next-page-requires
+next-page-requires c κs = search needs
+
+returns-2 : tie.Need-returns-2
+unfolding nextOf
+returns-2 c = rw (← (c .before .before .before .before .before .before .before .word .ensures .0), ← (c .before .before .before .before .before .before .top-of .ensures .0), ne-eqb _ _ (c .before .before .before .if1 .left), eq-eqb _ _ (on-page (c .before .before .before .before .before .before .before .before .before .before .args .s .0 + (c .before .before .before .before .before .before .before .word .result / 8 + 1)) (c .before .before .page-words .result) (c .before .before .before .before .before .before .before .before .before .before .args .n) (c .before .before .page-words .ensures) (c .before .if2 .taken))) (c .next-page .ensures .0)
+
+word-requires-2 : tie.Need-word-requires-2
+word-requires-2 c κs = search needs
+
+next-page-requires-2 : tie.Need-next-page-requires-2
+next-page-requires-2 c κs = search needs
+
+returns-3 : tie.Need-returns-3
+unfolding nextOf
+returns-3 c = rw (← (c .before .before .before .before .before .before .before .before .before .word .ensures .0), ← (c .before .before .before .before .before .before .before .before .top-of .ensures .0), ne-eqb _ _ (c .before .before .before .before .before .if1 .left), ne-eqb _ _ (off-page (c .before .before .before .before .before .before .before .before .before .before .before .before .args .s .0 + (c .before .before .before .before .before .before .before .before .before .word .result / 8 + 1)) (c .before .before .before .before .page-words .result) (c .before .before .before .before .before .before .before .before .before .before .before .before .args .n) (c .before .before .before .before .page-words .ensures) (c .before .before .before .if2 .left)), ← (c .before .before .word2 .ensures .0), eq-eqb _ _ (c .before .if3 .taken)) (c .next-page2 .ensures .0)
+
+returns-4 : tie.Need-returns-4
+unfolding nextOf
+returns-4 c = rw (← (c .before .before .before .before .before .before .before .before .word .ensures .0), ← (c .before .before .before .before .before .before .before .top-of .ensures .0), ne-eqb _ _ (c .before .before .before .before .if1 .left), ne-eqb _ _ (off-page (c .before .before .before .before .before .before .before .before .before .before .before .args .s .0 + (c .before .before .before .before .before .before .before .before .word .result / 8 + 1)) (c .before .before .before .page-words .result) (c .before .before .before .before .before .before .before .before .before .before .before .args .n) (c .before .before .before .page-words .ensures) (c .before .before .if2 .left)), ← (c .before .word2 .ensures .0), ne-eqb _ _ (c .if3 .left))
+
+pub next-scan-spec : {M : Type 1} → statement M
+next-scan-spec =
+    tie.close
+    (tie.spec
+    word-requires
+    top-of-requires
+    add-t
+    add-t-2
+    returns
+    page-words-requires
+    sub-if2
+    next-page-requires
+    returns-2
+    word-requires-2
+    next-page-requires-2
+    returns-3
+    returns-4)

@@ -1,0 +1,86 @@
+-- `ending::undo_chain` meets its contract: the loop runs `along`, and a turn is what `undo_page` does.
+use Prim.Native.Nat.{suc}
+use mathlib.Core.Path.{_≡_, refl, sym, _∙_}
+use native.Mathlib.Omega.{arith}
+use lib.ListN.{length}
+use Rattle.laws.specs.Each.{along}
+use Rattle.laws.proofs.Each.{along-more, along-past, along-last, along-end}
+use Rattle.rules.specs.Memory.{link}
+use Rattle.motion.specs.Whole.{undoPage}
+use Rattle.motion.proofs.Chains.{link-at, named}
+use borrow.Author.Needs.{needs}
+use Rattle.undoing.proofs.undo_chain.Statement.{statement}
+use Rattle.undoing.proofs.undo_chain.Tie as tie
+
+abbrev Inv-loop : tie.InvT-loop
+Inv-loop heap₀ pages n k₀ left₀ heap k left = (along left pages (link n) (undoPage n) (suc (k .0)) heap ≡ along pages pages (link n) (undoPage n) (suc (k₀ .0)) heap₀) × (length heap ≡ length heap₀)
+
+abbrev μ-loop : tie.MeasureT-loop
+μ-loop heap₀ pages n k₀ left₀ heap k left = left
+
+loop-holds : tie.Need-loop-holds Inv-loop μ-loop
+loop-holds c = (refl, refl)
+
+same-length : tie.Need-same-length Inv-loop μ-loop
+same-length c = c .before .before .before .loop .inv .1
+
+returns : tie.Need-returns Inv-loop μ-loop
+returns c = sym (along-past _ _ _ _ _ _ _ refl (c .if1 .taken)) ∙ c .before .before .before .loop .inv .0
+
+page-address-requires : tie.Need-page-address-requires Inv-loop μ-loop
+page-address-requires c κs = omega arith
+
+word-requires : tie.Need-word-requires Inv-loop μ-loop
+word-requires c κs = search needs
+
+undo-page-requires : tie.Need-undo-page-requires Inv-loop μ-loop
+undo-page-requires c κs = omega arith
+
+same-length-2 : tie.Need-same-length-2 Inv-loop μ-loop
+same-length-2 c = c .before .before .before .undo-page .kept .0 ∙ c .before .before .before .before .before .before .before .before .before .before .before .loop .inv .1
+
+returns-2 : tie.Need-returns-2 Inv-loop μ-loop
+returns-2 c = sym (along-last _ _ _ _ _ _ _ _ _ (c .before .before .before .before .before .before .before .before .before .before .loop-test .taken) refl (c .before .before .before .before .before .before .before .before .if1 .left) (link-at _ _ _ _ _ (c .before .before .before .before .before .before .before .page-address .ensures) (c .before .before .before .before .before .word .ensures .0)) (c .if2 .taken) (c .before .before .before .undo-page .ensures)) ∙ c .before .before .before .before .before .before .before .before .before .before .before .loop .inv .0
+
+cast-link-page : tie.Need-cast-link-page Inv-loop μ-loop
+cast-link-page c = omega arith
+
+link-page-requires : tie.Need-link-page-requires Inv-loop μ-loop
+link-page-requires c κs = omega arith
+
+sub-left : tie.Need-sub-left Inv-loop μ-loop
+sub-left c = omega arith
+
+loop-less : tie.Need-loop-less Inv-loop μ-loop
+loop-less c = omega arith
+
+loop-again : tie.Need-loop-again Inv-loop μ-loop
+loop-again c = (sym (along-more _ _ _ _ _ _ _ _ _ (c .before .before .before .before .before .before .before .before .before .before .before .loop-test .taken) refl (c .before .before .before .before .before .before .before .before .before .if1 .left) (named _ _ (c .before .if2 .left) (c .link-page .ensures) ∙ link-at _ _ _ _ _ (c .before .before .before .before .before .before .before .before .page-address .ensures) (c .before .before .before .before .before .before .word .ensures .0)) (c .before .before .before .before .undo-page .ensures)) ∙ c .before .before .before .before .before .before .before .before .before .before .before .before .loop .inv .0, c .before .before .before .before .undo-page .kept .0 ∙ c .before .before .before .before .before .before .before .before .before .before .before .before .loop .inv .1)
+
+same-length-3 : tie.Need-same-length-3 Inv-loop μ-loop
+same-length-3 c = c .before .loop .inv .1
+
+returns-3 : tie.Need-returns-3 Inv-loop μ-loop
+returns-3 c = sym (along-end _ _ _ _ _ _ (c .loop-test .left)) ∙ c .before .loop .inv .0
+
+pub undo-chain-spec : {M : Type 1} → statement M
+undo-chain-spec =
+    tie.close
+    (tie.spec
+    Inv-loop
+    μ-loop
+    loop-holds
+    same-length
+    returns
+    page-address-requires
+    word-requires
+    undo-page-requires
+    same-length-2
+    returns-2
+    cast-link-page
+    link-page-requires
+    sub-left
+    loop-less
+    loop-again
+    same-length-3
+    returns-3)
