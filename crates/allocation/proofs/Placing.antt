@@ -12,7 +12,7 @@ use Rattle.rules.specs.Memory.{endOf, topOf}
 use Rattle.rules.specs.Audit.{topFits}
 use Rattle.rules.specs.Calls.{rowFits}
 use Rattle.rules.specs.Refusals.{Admitted}
-use Rattle.allocation.specs.Placing.{Fit}
+use Rattle.placing.specs.Placing.{Fit}
 
 top-facts : (n : ℕ) (table : List ℕ) (j : ℕ) → topFits n table j ≡ true → (endOf table j + 2 ≤ topOf table j + 2 ^ n) × (topOf table j ≤ endOf table j)
 unfolding topFits

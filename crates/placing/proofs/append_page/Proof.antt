@@ -3,8 +3,8 @@ use borrow.Author.Needs.{needs}
 use mathlib.Core.Path.{refl}
 use native.Mathlib.Omega.{arith}
 use lib.ListN.{length-set}
-use Rattle.allocation.proofs.append_page.Statement.{statement}
-use Rattle.allocation.proofs.append_page.Tie as tie
+use Rattle.placing.proofs.append_page.Statement.{statement}
+use Rattle.placing.proofs.append_page.Tie as tie
 
 mul-heap : tie.Need-mul-heap
 mul-heap c = search needs

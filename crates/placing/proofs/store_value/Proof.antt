@@ -6,8 +6,8 @@ use native.Mathlib.Omega.{arith}
 use lib.ListN.{length, length-set}
 use Rattle.rules.specs.Memory.{setTop}
 use Rattle.laws.proofs.Parts.{put-first}
-use Rattle.allocation.proofs.store_value.Statement.{statement}
-use Rattle.allocation.proofs.store_value.Tie as tie
+use Rattle.placing.proofs.store_value.Statement.{statement}
+use Rattle.placing.proofs.store_value.Tie as tie
 
 mul-heap : tie.Need-mul-heap
 mul-heap c = search needs

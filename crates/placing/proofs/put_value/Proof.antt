@@ -7,8 +7,8 @@ use lib.ListN.{length}
 use Rattle.rules.specs.Memory.{lent, endOf, topOf}
 use Rattle.rules.proofs.Limits.{page-size}
 use Rattle.rules.proofs.Pages.{value-here}
-use Rattle.allocation.proofs.put_value.Statement.{statement}
-use Rattle.allocation.proofs.put_value.Tie as tie
+use Rattle.placing.proofs.put_value.Statement.{statement}
+use Rattle.placing.proofs.put_value.Tie as tie
 
 top-of-requires : tie.Need-top-of-requires
 top-of-requires c κs = (c .before .before .before .before .pre .rows, c .before .before .before .before .pre .region)

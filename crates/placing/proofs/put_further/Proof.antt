@@ -12,8 +12,8 @@ use Rattle.rules.proofs.Limits.{page-number}
 use Rattle.rules.proofs.Pages.{value-no-page, value-broken, value-grown}
 use Rattle.pages.specs.Taking.{PageFree}
 use Rattle.pages.proofs.Taking.{free-page, free-inside, took}
-use Rattle.allocation.proofs.put_further.Statement.{statement}
-use Rattle.allocation.proofs.put_further.Tie as tie
+use Rattle.placing.proofs.put_further.Statement.{statement}
+use Rattle.placing.proofs.put_further.Tie as tie
 
 returns : tie.Need-returns
 returns c = λ r k. sym (value-no-page (lent _ _ r k (c .before .before .before .before .before .args .c)) _ (c .before .before .before .before .before .args .header ∷ c .before .before .before .before .before .args .words .now) (c .before .before .before .before .before .pre .1) (c .if1 .taken))

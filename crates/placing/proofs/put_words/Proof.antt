@@ -5,8 +5,8 @@ use native.Mathlib.Omega.{arith}
 use lib.ListN.{length, getD, set, length-set}
 use lib.Seq.{paste, paste-zero}
 use Rattle.laws.proofs.Parts.{copy-more, copy-all}
-use Rattle.allocation.proofs.put_words.Statement.{statement}
-use Rattle.allocation.proofs.put_words.Tie as tie
+use Rattle.placing.proofs.put_words.Statement.{statement}
+use Rattle.placing.proofs.put_words.Tie as tie
 
 abbrev Inv-loop : tie.InvT-loop
 Inv-loop heap₀ words start i₀ heap i = (heap ≡ paste heap₀ start words i) × (i ≤ length words) × (length heap ≡ length heap₀)

@@ -2,8 +2,8 @@
 use mathlib.Core.Path.{refl, _∙_}
 use native.Mathlib.Omega.{arith}
 use Rattle.rules.proofs.Limits.{page-number, page-inside}
-use Rattle.allocation.proofs.join_page.Statement.{statement}
-use Rattle.allocation.proofs.join_page.Tie as tie
+use Rattle.placing.proofs.join_page.Statement.{statement}
+use Rattle.placing.proofs.join_page.Tie as tie
 
 page-address-requires : tie.Need-page-address-requires
 page-address-requires c κs = page-number _ _ _ (c .before .before .pre .0) (c .before .before .pre .1)
