@@ -21,7 +21,7 @@ use Rattle.facts.proofs.Sound.{Sound, Passes}
 use Rattle.working.proofs.Running.{Refusing}
 use Rattle.working.proofs.Collecting.{collects}
 use Rattle.rules.specs.Left.{leftPlain}
-use Rattle.rules.specs.Runs.{Call, aPush, aPop, aCollect, anAudit, aDue, anAllocate, aFetch, aFetchRefusal, anAssign, aSetRoot, aWalk, aUsedWords, aPage, aPageRefusal, aWordOfNumber, aNumberOfWord, aWriteImage, after, run, fresh}
+use Rattle.rules.specs.Runs.{Call, aPush, aPop, aCollect, anAudit, aDue, anAllocate, aFetch, aFetchRefusal, anAssign, aSetRoot, aSetUp, aWalk, aUsedWords, aPage, aPageRefusal, aWordOfNumber, aNumberOfWord, aWriteImage, after, run, fresh}
 use Rattle.promises.proofs.KeepsGood.{audited-keeps}
 use Rattle.promises.proofs.KeepsFields.{set-root-keeps, assign-keeps}
 use Rattle.promises.proofs.KeepsPush.{push-keeps}
@@ -43,6 +43,15 @@ set-up-passes n heap table roots consts c t e = go (limits n (length heap) (leng
         let x : control n 0 1 (pageCount n heap) (pageCount n heap) ≡ c = cc in
         rw (q, ← x) (meaning _ .1 (set-up-sound n (lent heap table roots consts c) q (constants-of (lent heap table roots consts c) t)))
 
+-- setting up again is done, on the constants of a sound heap, or refused
+pub set-up-keeps : (n : ℕ) (s : Store) → Sound s → Sound (after (aSetUp n) s)
+unfolding setUp
+set-up-keeps n s S = go (limits n (length (s .heap)) (length (s .table)) (length (s .roots)) (length (s .consts))) refl
+  where
+    go : (b : Bool) → limits n (length (s .heap)) (length (s .table)) (length (s .roots)) (length (s .consts)) ≡ b → Sound (after (aSetUp n) s)
+    go false q = rw q S
+    go true q = rw q (set-up-sound n s q (S .consts))
+
 -- ---- each call
 
 -- a collection is done and leaves a sound heap, or is refused
@@ -61,6 +70,7 @@ call-keeps aCollect s S = collect-keeps s S
 call-keeps (anAllocate j kind ws) s S = allocate-keeps s j kind ws S
 call-keeps (anAssign w i x) s S = assign-keeps s w i x S
 call-keeps (aSetRoot i w) s S = set-root-keeps s i w S
+call-keeps (aSetUp n) s S = set-up-keeps n s S
 call-keeps anAudit s S = S
 call-keeps aDue s S = S
 call-keeps (aFetch w) s S = S

@@ -18,3 +18,4 @@ pub mod Seen
 pub mod Judged
 pub mod Order
 pub mod Left
+pub mod Runs

@@ -14,6 +14,11 @@ abbrev pub recordValued : Valued → Control
 recordValued (Valued.Done w c) = c
 recordValued (Valued.Refused r c) = c
 
+-- a call that is given no record returns none where it is refused: the caller still has d
+abbrev pub recordOpened : Control → Opened → Control
+recordOpened d (Opened.Done c) = c
+recordOpened d (Opened.Refused r) = d
+
 -- the store after a call that may change it
 abbrev pub leftPlain : Outcome Plain → Store
 leftPlain o = lent (o .heap) (o .table) (o .roots) (o .consts) (recordPlain (o .answer))

@@ -8,7 +8,7 @@ use Rattle.rules.specs.declared.Kind.{Kind}
 use Rattle.rules.specs.Memory.{Store}
 use Rattle.rules.specs.Calls.{setUp, push, pop, allocate, assign, setRoot}
 use Rattle.rules.specs.Collection.{collect}
-use Rattle.rules.specs.Left.{leftPlain, leftValued, leftOpened}
+use Rattle.rules.specs.Left.{recordOpened, leftPlain, leftValued, leftOpened}
 
 -- a public call with what it is offered
 pub data Call : Type 0 where
@@ -20,6 +20,7 @@ pub data Call : Type 0 where
   aWalk : ℕ → List ℕ → Call
   aUsedWords : ℕ → Call
   aPage aPageRefusal : ℕ → Call
+  aSetUp : ℕ → Call
   aWordOfNumber : ℤ → Call
   aNumberOfWord : ℕ → Call
   aWriteImage : List ℕ → Call
@@ -32,6 +33,9 @@ after aCollect s = leftPlain (collect s)
 after (anAllocate j kind ws) s = leftValued (allocate s j kind ws)
 after (anAssign w i x) s = leftPlain (assign s w i x)
 after (aSetRoot i w) s = leftPlain (setRoot s i w)
+after (aSetUp n) s =
+    leftOpened (setUp n (s .heap) (s .table) (s .roots) (s .consts))
+    (recordOpened (s .ctl) (setUp n (s .heap) (s .table) (s .roots) (s .consts) .answer))
 after anAudit s = s
 after aDue s = s
 after (aFetch w) s = s

@@ -1,11 +1,11 @@
--- `soundings::numbers::magnitude` is safe: below 0 the bits turned over are a number below 2^31, and so are the bits of the others.
+-- `soundings::converting::magnitude` is safe: below 0 the bits turned over are a number below 2^31, and so are the bits of the others.
 use mathlib.Core.Path.{ap}
 use native.Mathlib.Omega.{arith}
 use lib.IntN.{ℤ, natAbs}
 use borrow.Author.Needs.{needs}
 use Rattle.numbers.proofs.Numbers.{below, above, casts}
-use Rattle.soundings.proofs.numbers.magnitude.Statement.{statement}
-use Rattle.soundings.proofs.numbers.magnitude.Tie as tie
+use Rattle.soundings.proofs.converting.magnitude.Statement.{statement}
+use Rattle.soundings.proofs.converting.magnitude.Tie as tie
 
 cast-below : tie.Need-cast-below
 cast-below c = let b = below _ (c .before .fits .i) (c .if1 .taken) in casts _ (b .n) (b .turned) (b .small)
