@@ -27,8 +27,48 @@ use script::lists::read_decimals;
 use script::lists::read_text;
 use script::lists::read_words;
 use script::tokens::Cursor;
+ghost use Prim.Native.Nat.{_≤_};
 
-// The text that stands on the line from an index is the image's.
+// A length, at most n.
+pub fn within(k: usize, n: usize) -> usize
+    ensures { λ r. ⌜ r ≤ n ⌝ }
+{
+    if k < n { k } else { n }
+}
+
+// The first bytes of a part.
+pub fn first_bytes(part: &[u8], k: usize) -> &[u8] {
+    let n = within(k, part.len());
+    &part[0..n]
+}
+
+// The first words of a part.
+fn first_words(part: &[u32], k: usize) -> &[u32] {
+    let n = within(k, part.len());
+    &part[0..n]
+}
+
+// The text that stands on the line from an index is the image's. It is read into these bytes.
+fn read_in(
+    heap: &mut [u32],
+    table: &mut [u32],
+    roots: &mut [u32],
+    consts: &mut [u32],
+    bytes: &mut [u8],
+    line: &[u8],
+    c: Control,
+    from: usize,
+) -> Outcome {
+    let Count::Is(k) = read_text(line, Cursor { at: from }, bytes) else {
+        return unknown(c);
+    };
+    opened(
+        image::read_image(first_bytes(bytes, k), heap, table, roots, consts),
+        c,
+    )
+}
+
+// An image is read from the line, by way of bytes of its own.
 fn read(
     heap: &mut [u32],
     table: &mut [u32],
@@ -39,16 +79,7 @@ fn read(
     from: usize,
 ) -> Outcome {
     let mut bytes = [0u8; 262144];
-    let Count::Is(k) = read_text(line, Cursor { at: from }, &mut bytes) else {
-        return unknown(c);
-    };
-    if 262144 < k {
-        return unknown(c);
-    }
-    opened(
-        image::read_image(&bytes[0..k], heap, table, roots, consts),
-        c,
-    )
+    read_in(heap, table, roots, consts, &mut bytes, line, c, from)
 }
 
 // Sets one word of a part, where it has such a word.
@@ -114,10 +145,16 @@ fn allocate(
     let Count::Is(l) = read_words(line, Cursor { at: from }, &mut words) else {
         return unknown(c);
     };
-    if 65536 < l {
-        return unknown(c);
-    }
-    word(allocation::allocate(heap, table, roots, consts, c, j, kind, &words[0..l]))
+    word(allocation::allocate(
+        heap,
+        table,
+        roots,
+        consts,
+        c,
+        j,
+        kind,
+        first_words(&words, l),
+    ))
 }
 
 // A call that changes lent words or the record.
@@ -204,10 +241,7 @@ fn walk<'a>(
     let Count::Is(k) = read_decimals(line, Cursor { at: from }, &mut words) else {
         return unknown(c);
     };
-    if 65536 < k {
-        return unknown(c);
-    }
-    word(paths::walk(heap, table, roots, consts, c, root, &words[0..k]))
+    word(paths::walk(heap, table, roots, consts, c, root, first_words(&words, k)))
 }
 
 // The image is written over these bytes.
@@ -228,7 +262,23 @@ fn write_over(
     }
 }
 
-// The image is written over k bytes that are all z.
+// The image is written over the first k of these bytes.
+fn write_in(
+    heap: &[u32],
+    table: &[u32],
+    roots: &[u32],
+    consts: &[u32],
+    bytes: &mut [u8],
+    c: Control,
+    k: usize,
+) -> Outcome {
+    if bytes.len() < k {
+        return unknown(c);
+    }
+    write_over(heap, table, roots, consts, &mut bytes[0..k], c)
+}
+
+// The image is written over bytes that are all z.
 fn write(
     heap: &[u32],
     table: &[u32],
@@ -238,10 +288,7 @@ fn write(
     k: usize,
 ) -> Outcome {
     let mut bytes = [b'z'; 262144];
-    if 262144 < k {
-        return unknown(c);
-    }
-    write_over(heap, table, roots, consts, &mut bytes[0..k], c)
+    write_in(heap, table, roots, consts, &mut bytes, c, k)
 }
 
 // A call that changes no lent word.

@@ -3,10 +3,10 @@
 mod calls;
 mod state;
 
+use calls::first_bytes;
 use script::lines::beginning;
 use script::lines::left;
 use script::lines::next_line;
-use state::first;
 use state::nothing_lent;
 use state::run_line;
 
@@ -24,7 +24,14 @@ fn replay(
     let mut lines = u64::MAX;
     while 0 < lines {
         input = next_line(chunk, line, input);
-        state = run_line(first(line, input.line), heap, table, roots, consts, state);
+        state = run_line(
+            first_bytes(line, input.line),
+            heap,
+            table,
+            roots,
+            consts,
+            state,
+        );
         lines = left(lines, input.is_over);
     }
 }

@@ -2,6 +2,7 @@
 use crate::calls::ask;
 use crate::calls::change;
 use crate::calls::make;
+use crate::calls::within;
 use answers::Outcome;
 use answers::tell;
 use answers::unknown;
@@ -13,7 +14,6 @@ use requests::read_request;
 use rules::Control;
 use script::lines::is_skipped;
 use script::output::flush;
-ghost use Prim.Native.Nat.{_≤_};
 
 // How many words are lent of each part, and the record.
 pub struct State {
@@ -104,19 +104,6 @@ fn answer(
     let o = perform(line, heap, table, roots, consts, c);
     tell(o, heap, table, roots, consts);
     o.control
-}
-
-// A length, at most n.
-fn within(k: usize, n: usize) -> usize
-    ensures { λ r. ⌜ r ≤ n ⌝ }
-{
-    if k < n { k } else { n }
-}
-
-// The first bytes of a line.
-pub fn first(line: &[u8], k: usize) -> &[u8] {
-    let n = within(k, line.len());
-    &line[0..n]
 }
 
 // Lends the parts, as long as they are, to a line.

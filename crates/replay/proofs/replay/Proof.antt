@@ -30,8 +30,8 @@ loop-holds c = search needs
 next-line-requires : tie.Need-next-line-requires Inv-loop μ-loop
 next-line-requires c κs = search needs
 
-first-requires : tie.Need-first-requires Inv-loop μ-loop
-first-requires c κs = search needs
+first-bytes-requires : tie.Need-first-bytes-requires Inv-loop μ-loop
+first-bytes-requires c κs = search needs
 
 run-line-requires : tie.Need-run-line-requires Inv-loop μ-loop
 run-line-requires c κs = search needs
@@ -86,7 +86,7 @@ replay-spec =
     nothing-lent-requires
     loop-holds
     next-line-requires
-    first-requires
+    first-bytes-requires
     run-line-requires
     left-requires
     loop-less
