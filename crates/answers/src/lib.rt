@@ -9,6 +9,7 @@ use rules::Told;
 use rules::Valued;
 use rules::Worded;
 use script::hash;
+use script::output::flush;
 use script::output::put;
 use script::output::put_bytes;
 use script::output::put_decimal;
@@ -234,24 +235,47 @@ fn put_result<'a>(
     }
 }
 
-// An answer's line.
-pub fn put_answer<'a>(
+// The line of a call's answer.
+fn put_line<'a>(
     out: &mut [u8],
-    at: usize,
+    answer: Answer,
+    heap: &'a [u32],
+    table: &'a [u32],
+    roots: &'a [u32],
+    consts: &'a [u32],
+    c: Control,
+) -> usize {
+    let at = put_result(out, 0, answer, heap, table, roots, consts, c);
+    put_hash(out, at, heap, table, roots, consts, c)
+}
+
+// Writes the line of a call's answer, gathered in a buffer of its own.
+fn tell_call<'a>(
+    answer: Answer,
+    heap: &'a [u32],
+    table: &'a [u32],
+    roots: &'a [u32],
+    consts: &'a [u32],
+    c: Control,
+) {
+    let mut out = [0u8; 4096];
+    let at = put_line(&mut out, answer, heap, table, roots, consts, c);
+    flush(&out, at);
+}
+
+// Writes an answer's line.
+pub fn tell<'a>(
     o: Outcome,
     heap: &'a [u32],
     table: &'a [u32],
     roots: &'a [u32],
     consts: &'a [u32],
-) -> usize {
+) {
     let answer = o.answer;
     let c = o.control;
-    if let Answer::Quiet = answer {
-        return put_bytes(out, at, b".\n");
+    match answer {
+        Answer::Quiet => flush(b".\n", 2),
+        Answer::Unknown => flush(b"?\n", 2),
+        _ => tell_call(answer, heap, table, roots, consts, c),
     }
-    if let Answer::Unknown = answer {
-        return put_bytes(out, at, b"?\n");
-    }
-    let next = put_result(out, at, answer, heap, table, roots, consts, c);
-    put_hash(out, next, heap, table, roots, consts, c)
 }

@@ -12,6 +12,7 @@ use answers::word;
 use answers::worded;
 use requests::Asking;
 use requests::Changing;
+use requests::Making;
 use requests::Part;
 use rules::Control;
 use rules::Kind;
@@ -21,42 +22,64 @@ use rules::Refusal;
 use rules::Region;
 use rules::Valued;
 use script::hash;
+use script::lists::Count;
+use script::lists::read_decimals;
+use script::lists::read_text;
+use script::lists::read_words;
+use script::tokens::Cursor;
+ghost use Prim.Native.Nat.{_≤_};
 
-// The first l lent words are the value's.
-fn allocate(
-    heap: &mut [u32],
-    table: &mut [u32],
-    roots: &[u32],
-    consts: &[u32],
-    words: &[u32],
-    c: Control,
-    j: Region,
-    kind: Kind,
-    l: usize,
-) -> Outcome {
-    if words.len() < l {
-        return unknown(c);
-    }
-    word(allocation::allocate(heap, table, roots, consts, c, j, kind, &words[0..l]))
+// A length, at most n.
+pub fn within(k: usize, n: usize) -> usize
+    ensures { λ r. ⌜ r ≤ n ⌝ }
+{
+    if k < n { k } else { n }
 }
 
-// The first k lent bytes are the image's text.
+// The first bytes of a part.
+pub fn first_bytes(part: &[u8], k: usize) -> &[u8] {
+    let n = within(k, part.len());
+    &part[0..n]
+}
+
+// The first words of a part.
+fn first_words(part: &[u32], k: usize) -> &[u32] {
+    let n = within(k, part.len());
+    &part[0..n]
+}
+
+// The text that stands on the line from an index is the image's. It is read into these bytes.
+fn read_in(
+    heap: &mut [u32],
+    table: &mut [u32],
+    roots: &mut [u32],
+    consts: &mut [u32],
+    bytes: &mut [u8],
+    line: &[u8],
+    c: Control,
+    from: usize,
+) -> Outcome {
+    let Count::Is(k) = read_text(line, Cursor { at: from }, bytes) else {
+        return unknown(c);
+    };
+    opened(
+        image::read_image(first_bytes(bytes, k), heap, table, roots, consts),
+        c,
+    )
+}
+
+// An image is read from the line, by way of bytes of its own.
 fn read(
     heap: &mut [u32],
     table: &mut [u32],
     roots: &mut [u32],
     consts: &mut [u32],
-    bytes: &[u8],
+    line: &[u8],
     c: Control,
-    k: usize,
+    from: usize,
 ) -> Outcome {
-    if bytes.len() < k {
-        return unknown(c);
-    }
-    opened(
-        image::read_image(&bytes[0..k], heap, table, roots, consts),
-        c,
-    )
+    let mut bytes = [0u8; 262144];
+    read_in(heap, table, roots, consts, &mut bytes, line, c, from)
 }
 
 // Sets one word of a part, where it has such a word.
@@ -88,22 +111,76 @@ fn poke(
     }
 }
 
-// An operation that changes lent words or the record.
-pub fn change(
-    asked: Changing,
+// An operation that makes lent words or the record anew.
+pub fn make(
+    asked: Making,
+    line: &[u8],
     heap: &mut [u32],
     table: &mut [u32],
     roots: &mut [u32],
     consts: &mut [u32],
-    words: &[u32],
-    bytes: &[u8],
     c: Control,
 ) -> Outcome {
     match asked {
-        Changing::Setup(n) => opened(setting_up::set_up(heap, table, roots, consts, n), c),
+        Making::Setup(n) => opened(setting_up::set_up(heap, table, roots, consts, n), c),
+        Making::Read(from) => read(heap, table, roots, consts, line, c, from),
+        Making::Poke(part, i, w) => poke(part, i, w, heap, table, roots, consts, c),
+        Making::Ctl(new) => saying(Answer::Quiet, new),
+    }
+}
+
+// The words that the line lists from an index are the value's.
+fn allocate(
+    heap: &mut [u32],
+    table: &mut [u32],
+    roots: &[u32],
+    consts: &[u32],
+    line: &[u8],
+    c: Control,
+    j: Region,
+    kind: Kind,
+    from: usize,
+) -> Outcome {
+    let mut words = [0u32; 65536];
+    let Count::Is(l) = read_words(line, Cursor { at: from }, &mut words) else {
+        return unknown(c);
+    };
+    word(allocation::allocate(
+        heap,
+        table,
+        roots,
+        consts,
+        c,
+        j,
+        kind,
+        first_words(&words, l),
+    ))
+}
+
+// A call that changes lent words or the record.
+pub fn change(
+    asked: Changing,
+    line: &[u8],
+    heap: &mut [u32],
+    table: &mut [u32],
+    roots: &mut [u32],
+    consts: &[u32],
+    c: Control,
+) -> Outcome {
+    match asked {
         Changing::Push => plain(regions::push(heap, table, roots, consts, c)),
         Changing::Pop => plain(release::pop(heap, table, roots, consts, c)),
-        Changing::Alloc(j, kind, l) => allocate(heap, table, roots, consts, words, c, j, kind, l),
+        Changing::Alloc(j, kind, from) => allocate(
+            heap,
+            table,
+            roots,
+            consts,
+            line,
+            c,
+            j,
+            kind,
+            from,
+        ),
         Changing::Assign(w, field, x) => plain(assignment::assign(
             heap,
             table,
@@ -115,10 +192,7 @@ pub fn change(
             x,
         )),
         Changing::Root(i, w) => plain(access::set_root(heap, table, roots, consts, c, i, w)),
-        Changing::Read(k) => read(heap, table, roots, consts, bytes, c, k),
         Changing::Collect => plain(collection::collect(heap, table, roots, consts, c)),
-        Changing::Poke(part, i, w) => poke(part, i, w, heap, table, roots, consts, c),
-        Changing::Ctl(new) => saying(Answer::Quiet, new),
     }
 }
 
@@ -152,32 +226,26 @@ fn page(
     }
 }
 
-// The first k lent words are the path.
+// The decimals that the line lists from an index are the path.
 fn walk<'a>(
     heap: &'a [u32],
     table: &'a [u32],
     roots: &'a [u32],
     consts: &'a [u32],
-    words: &[u32],
+    line: &[u8],
     c: Control,
     root: usize,
-    k: usize,
+    from: usize,
 ) -> Outcome {
-    if words.len() < k {
+    let mut words = [0u32; 65536];
+    let Count::Is(k) = read_decimals(line, Cursor { at: from }, &mut words) else {
         return unknown(c);
-    }
-    word(paths::walk(heap, table, roots, consts, c, root, &words[0..k]))
+    };
+    word(paths::walk(heap, table, roots, consts, c, root, first_words(&words, k)))
 }
 
-// A part of bytes that are all b.
-fn fill(bytes: &mut [u8], b: u8) {
-    for i in 0..bytes.len() {
-        bytes[i] = b;
-    }
-}
-
-// The image is written over bytes that are all z.
-fn write(
+// The image is written over these bytes.
+fn write_over(
     heap: &[u32],
     table: &[u32],
     roots: &[u32],
@@ -185,7 +253,6 @@ fn write(
     bytes: &mut [u8],
     c: Control,
 ) -> Outcome {
-    fill(bytes, b'z');
     match image::write_image(heap, table, roots, consts, c, bytes) {
         Valued::Done(length, d) => saying(
             Answer::Image(length, hash::bytes(hash::empty(), bytes)),
@@ -195,7 +262,7 @@ fn write(
     }
 }
 
-// The first k lent bytes are the image's.
+// The image is written over the first k of these bytes.
 fn write_in(
     heap: &[u32],
     table: &[u32],
@@ -208,30 +275,42 @@ fn write_in(
     if bytes.len() < k {
         return unknown(c);
     }
-    write(heap, table, roots, consts, &mut bytes[0..k], c)
+    write_over(heap, table, roots, consts, &mut bytes[0..k], c)
+}
+
+// The image is written over bytes that are all z.
+fn write(
+    heap: &[u32],
+    table: &[u32],
+    roots: &[u32],
+    consts: &[u32],
+    c: Control,
+    k: usize,
+) -> Outcome {
+    let mut bytes = [b'z'; 262144];
+    write_in(heap, table, roots, consts, &mut bytes, c, k)
 }
 
 // A call that changes no lent word.
 pub fn ask<'a>(
     asked: Asking,
+    line: &[u8],
     heap: &'a [u32],
     table: &'a [u32],
     roots: &'a [u32],
     consts: &'a [u32],
-    words: &[u32],
-    bytes: &mut [u8],
     c: Control,
 ) -> Outcome {
     match asked {
         Asking::Fetch(w) => fetch(heap, table, roots, consts, c, w),
         Asking::Page(k) => page(heap, table, roots, consts, c, k),
-        Asking::Walk(root, k) => walk(heap, table, roots, consts, words, c, root, k),
+        Asking::Walk(root, from) => walk(heap, table, roots, consts, line, c, root, from),
         Asking::Audit => plain(audit::audit(heap, table, roots, consts, c)),
         Asking::Due => told(due::due(heap, table, roots, consts, c)),
         Asking::Used(j) => count(used::used_words(heap, table, roots, consts, c, j)),
         Asking::Num(i) => worded(numbers::word_of_number(i), c),
         Asking::TooLarge => saying(Answer::Refused(Refusal::NoNumber), c),
         Asking::Unnum(w) => numbered(numbers::number_of_word(w), c),
-        Asking::Write(k) => write_in(heap, table, roots, consts, bytes, c, k),
+        Asking::Write(k) => write(heap, table, roots, consts, c, k),
     }
 }

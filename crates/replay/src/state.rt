@@ -1,28 +1,28 @@
 // What is kept from line to line besides the words, and what one line does to it.
 use crate::calls::ask;
 use crate::calls::change;
+use crate::calls::make;
+use crate::calls::within;
 use answers::Outcome;
-use answers::put_answer;
+use answers::tell;
 use answers::unknown;
+use requests::Lending;
+use requests::Lengths;
 use requests::Request;
+use requests::read_lend;
 use requests::read_request;
 use rules::Control;
 use script::lines::is_skipped;
-use script::output::put_bytes;
-ghost use Prim.Native.Nat.{_≤_};
+use script::output::flush;
 
-// How many words are lent of each part, the record, and how much output waits.
+// How many words are lent of each part, and the record.
 pub struct State {
-    pub heap: usize,
-    pub table: usize,
-    pub roots: usize,
-    pub consts: usize,
+    pub lent: Lengths,
     pub control: Control,
-    pub out: usize,
 }
 
 // Parts of these lengths, with a record of zeros.
-fn lent(heap: usize, table: usize, roots: usize, consts: usize, out: usize) -> State {
+fn with_lent(lent: Lengths) -> State {
     let control = Control {
         n: 0,
         regions: 0,
@@ -30,51 +30,33 @@ fn lent(heap: usize, table: usize, roots: usize, consts: usize, out: usize) -> S
         last: 0,
         count: 0,
     };
-    State {
-        heap,
-        table,
-        roots,
-        consts,
-        control,
-        out,
-    }
+    State { lent, control }
 }
 
 // Before the first line.
 pub fn nothing_lent() -> State {
-    lent(0, 0, 0, 0, 0)
+    with_lent(Lengths {
+        heap: 0,
+        table: 0,
+        roots: 0,
+        consts: 0,
+    })
 }
 
-// The same parts, with this record and so much output.
-fn after(s: State, control: Control, out: usize) -> State {
-    State {
-        heap: s.heap,
-        table: s.table,
-        roots: s.roots,
-        consts: s.consts,
-        control,
-        out,
+// Whether parts as long as those can be made in these.
+fn fits(asked: Lengths, heap: usize, table: usize, roots: usize, consts: usize) -> bool {
+    asked.heap <= heap && asked.table <= table && asked.roots <= roots && asked.consts <= consts
+}
+
+// The lengths that a line asks to lend, where parts can be as long as that.
+fn asked_to_lend(line: &[u8], heap: usize, table: usize, roots: usize, consts: usize) -> Lending {
+    let Lending::Of(asked) = read_lend(line) else {
+        return Lending::Nothing;
+    };
+    if fits(asked, heap, table, roots, consts) {
+        return Lending::Of(asked);
     }
-}
-
-// The same parts and record, with so much output.
-pub fn waiting(s: State, out: usize) -> State {
-    let control = s.control;
-    after(s, control, out)
-}
-
-// Whether parts of these lengths can be lent.
-fn can_lend(
-    heap: usize,
-    table: usize,
-    roots: usize,
-    consts: usize,
-    h: usize,
-    t: usize,
-    r: usize,
-    k: usize,
-) -> bool {
-    h <= heap && t <= table && r <= roots && k <= consts
+    Lending::Nothing
 }
 
 // Clears a part's first words.
@@ -84,108 +66,67 @@ fn clear_first(part: &mut [u32], k: usize) {
     }
 }
 
-// Makes the four parts, all zero, where they can be as long as that.
-fn lend(
-    heap: &mut [u32],
-    table: &mut [u32],
-    roots: &mut [u32],
-    consts: &mut [u32],
-    out: &mut [u8],
-    s: State,
-    h: usize,
-    t: usize,
-    r: usize,
-    k: usize,
-) -> State {
-    if !can_lend(
-        heap.len(),
-        table.len(),
-        roots.len(),
-        consts.len(),
-        h,
-        t,
-        r,
-        k,
-    ) {
-        return waiting(s, put_bytes(out, s.out, b"?\n"));
-    }
-    clear_first(heap, h);
-    clear_first(table, t);
-    clear_first(roots, r);
-    clear_first(consts, k);
-    lent(h, t, r, k, put_bytes(out, s.out, b".\n"))
+// Makes the four parts, all zero.
+fn lend(heap: &mut [u32], table: &mut [u32], roots: &mut [u32], consts: &mut [u32], lent: Lengths) {
+    clear_first(heap, lent.heap);
+    clear_first(table, lent.table);
+    clear_first(roots, lent.roots);
+    clear_first(consts, lent.consts);
+    flush(b".\n", 2);
 }
 
-// Carries out a request on the lent parts.
+// Carries out what a line asks for on the lent parts.
 fn perform(
-    request: Request,
+    line: &[u8],
     heap: &mut [u32],
     table: &mut [u32],
     roots: &mut [u32],
     consts: &mut [u32],
-    words: &[u32],
-    bytes: &mut [u8],
     c: Control,
 ) -> Outcome {
-    match request {
-        Request::Change(asked) => change(asked, heap, table, roots, consts, words, bytes, c),
-        Request::Ask(asked) => ask(asked, heap, table, roots, consts, words, bytes, c),
-        Request::Lend(_, _, _, _) => unknown(c),
+    match read_request(line) {
+        Request::Make(asked) => make(asked, line, heap, table, roots, consts, c),
+        Request::Change(asked) => change(asked, line, heap, table, roots, consts, c),
+        Request::Ask(asked) => ask(asked, line, heap, table, roots, consts, c),
         Request::Nothing => unknown(c),
     }
 }
 
-// Carries out a request on the lent parts and writes its answer.
+// Carries out what a line asks for on the lent parts and writes its answer; the record from then on.
 fn answer(
-    request: Request,
+    line: &[u8],
     heap: &mut [u32],
     table: &mut [u32],
     roots: &mut [u32],
     consts: &mut [u32],
-    words: &[u32],
-    bytes: &mut [u8],
-    out: &mut [u8],
-    s: State,
-) -> State {
-    let o = perform(request, heap, table, roots, consts, words, bytes, s.control);
-    let at = put_answer(out, s.out, o, heap, table, roots, consts);
-    let control = o.control;
-    after(s, control, at)
+    c: Control,
+) -> Control {
+    let o = perform(line, heap, table, roots, consts, c);
+    tell(o, heap, table, roots, consts);
+    o.control
 }
 
-// A length, at most n.
-pub fn within(k: usize, n: usize) -> usize
-    ensures { λ r. ⌜ r ≤ n ⌝ }
-{
-    if k < n { k } else { n }
-}
-
-// Lends the parts, as long as they are, to a request.
+// Lends the parts, as long as they are, to a line.
 fn lend_to(
-    request: Request,
+    line: &[u8],
     heap: &mut [u32],
     table: &mut [u32],
     roots: &mut [u32],
     consts: &mut [u32],
-    words: &[u32],
-    bytes: &mut [u8],
-    out: &mut [u8],
-    s: State,
-) -> State {
-    let h = within(s.heap, heap.len());
-    let t = within(s.table, table.len());
-    let r = within(s.roots, roots.len());
-    let k = within(s.consts, consts.len());
+    lent: Lengths,
+    c: Control,
+) -> Control {
+    let h = within(lent.heap, heap.len());
+    let t = within(lent.table, table.len());
+    let r = within(lent.roots, roots.len());
+    let k = within(lent.consts, consts.len());
     answer(
-        request,
+        line,
         &mut heap[0..h],
         &mut table[0..t],
         &mut roots[0..r],
         &mut consts[0..k],
-        words,
-        bytes,
-        out,
-        s,
+        c,
     )
 }
 
@@ -196,17 +137,23 @@ pub fn run_line(
     table: &mut [u32],
     roots: &mut [u32],
     consts: &mut [u32],
-    words: &mut [u32],
-    bytes: &mut [u8],
-    out: &mut [u8],
     s: State,
 ) -> State {
     if is_skipped(line) {
         return s;
     }
-    let request = read_request(line, words, bytes);
-    if let Request::Lend(h, t, r, k) = request {
-        return lend(heap, table, roots, consts, out, s, h, t, r, k);
+    if let Lending::Of(lent) = asked_to_lend(
+        line,
+        heap.len(),
+        table.len(),
+        roots.len(),
+        consts.len(),
+    ) {
+        lend(heap, table, roots, consts, lent);
+        return with_lent(lent);
     }
-    lend_to(request, heap, table, roots, consts, words, bytes, out, s)
+    let lent = s.lent;
+    let c = s.control;
+    let control = lend_to(line, heap, table, roots, consts, lent, c);
+    State { lent, control }
 }

@@ -1,12 +1,8 @@
-// What a line asks for. Lists of words, paths and texts are read into lent parts, and a request says how much of these they take.
+// What a line asks for. Of a list of words, of a path and of a text a request says where on the line they begin.
 use rules::Control;
 use rules::Kind;
 use rules::Page;
 use rules::Region;
-use script::lists::Count;
-use script::lists::read_decimals;
-use script::lists::read_text;
-use script::lists::read_words;
 use script::numbers::Number;
 use script::numbers::Signed;
 use script::numbers::Word;
@@ -34,17 +30,35 @@ pub enum Part {
     Nothing,
 }
 
-// The operations that change lent words or the record.
-pub enum Changing {
+// How many words are lent of each part.
+pub struct Lengths {
+    pub heap: usize,
+    pub table: usize,
+    pub roots: usize,
+    pub consts: usize,
+}
+
+// What a line asks to lend, if it does.
+pub enum Lending {
+    Of(Lengths),
+    Nothing,
+}
+
+// The operations that make lent words and the record anew.
+pub enum Making {
     Poke(Part, usize, u32),
     Ctl(Control),
     Setup(u32),
+    Read(usize),
+}
+
+// The calls that change lent words or the record.
+pub enum Changing {
     Push,
     Pop,
     Alloc(Region, Kind, usize),
     Assign(u32, usize, u32),
     Root(usize, u32),
-    Read(usize),
     Collect,
 }
 
@@ -62,34 +76,42 @@ pub enum Asking {
     Write(usize),
 }
 
-// What a line asks for, if it is an operation.
+// What a line asks for, if it is an operation on lent parts.
 pub enum Request {
-    Lend(usize, usize, usize, usize),
+    Make(Making),
     Change(Changing),
     Ask(Asking),
     Nothing,
 }
 
-// The four parts' lengths.
-fn read_lend(line: &[u8], c: Cursor) -> Request {
+// The four parts' lengths, after the operation's name.
+fn read_lengths(line: &[u8], c: Cursor) -> Lending {
     let Number::Is(heap, after_heap) = read_decimal(line, c) else {
-        return Request::Nothing;
+        return Lending::Nothing;
     };
     let Number::Is(table, after_table) = read_decimal(line, after_heap) else {
-        return Request::Nothing;
+        return Lending::Nothing;
     };
     let Number::Is(roots, after_roots) = read_decimal(line, after_table) else {
-        return Request::Nothing;
+        return Lending::Nothing;
     };
     let Number::Is(consts, _) = read_last_decimal(line, after_roots) else {
-        return Request::Nothing;
+        return Lending::Nothing;
     };
-    Request::Lend(
-        heap as usize,
-        table as usize,
-        roots as usize,
-        consts as usize,
-    )
+    Lending::Of(Lengths {
+        heap: heap as usize,
+        table: table as usize,
+        roots: roots as usize,
+        consts: consts as usize,
+    })
+}
+
+// The lengths that a line asks to lend.
+pub fn read_lend(line: &[u8]) -> Lending {
+    if spells(line, 0, b"lend") {
+        return read_lengths(line, past(line, 0));
+    }
+    Lending::Nothing
 }
 
 // The part that the token at an index names.
@@ -119,7 +141,7 @@ fn read_poke(line: &[u8], c: Cursor) -> Request {
     let Word::Is(w, _) = read_last_word(line, next) else {
         return Request::Nothing;
     };
-    Request::Change(Changing::Poke(read_part(line, from), i as usize, w))
+    Request::Make(Making::Poke(read_part(line, from), i as usize, w))
 }
 
 fn read_ctl(line: &[u8], c: Cursor) -> Request {
@@ -138,7 +160,7 @@ fn read_ctl(line: &[u8], c: Cursor) -> Request {
     let Word::Is(count, _) = read_last_small(line, after_last) else {
         return Request::Nothing;
     };
-    Request::Change(Changing::Ctl(Control {
+    Request::Make(Making::Ctl(Control {
         n,
         regions,
         first,
@@ -151,31 +173,28 @@ fn read_setup(line: &[u8], c: Cursor) -> Request {
     let Number::Is(n, _) = read_last_decimal(line, c) else {
         return Request::Nothing;
     };
-    Request::Change(Changing::Setup(narrow(n)))
+    Request::Make(Making::Setup(narrow(n)))
 }
 
-// What follows the region of an allocation: the kind at an index, and the words.
-fn read_value(line: &[u8], from: usize, words: &mut [u32], j: Region) -> Request {
-    let Count::Is(l) = read_words(line, past(line, from), words) else {
-        return Request::Nothing;
-    };
+// An allocation's kind, which the token at an index names; the words come after it.
+fn read_value(line: &[u8], from: usize, j: Region) -> Request {
     if spells(line, from, b"rec") {
-        return Request::Change(Changing::Alloc(j, Kind::Record, l));
+        return Request::Change(Changing::Alloc(j, Kind::Record, past(line, from).at));
     }
     if spells(line, from, b"raw") {
-        return Request::Change(Changing::Alloc(j, Kind::Raw, l));
+        return Request::Change(Changing::Alloc(j, Kind::Raw, past(line, from).at));
     }
     Request::Nothing
 }
 
-fn read_alloc(line: &[u8], c: Cursor, words: &mut [u32]) -> Request {
+fn read_alloc(line: &[u8], c: Cursor) -> Request {
     let Number::Is(j, next) = read_decimal(line, c) else {
         return Request::Nothing;
     };
     let Start::At(from) = next_start(line, next) else {
         return Request::Nothing;
     };
-    read_value(line, from, words, Region(j as usize))
+    read_value(line, from, Region(j as usize))
 }
 
 fn read_assign(line: &[u8], c: Cursor) -> Request {
@@ -201,13 +220,6 @@ fn read_root(line: &[u8], c: Cursor) -> Request {
     Request::Change(Changing::Root(i as usize, w))
 }
 
-fn read_read(line: &[u8], c: Cursor, bytes: &mut [u8]) -> Request {
-    let Count::Is(k) = read_text(line, c, bytes) else {
-        return Request::Nothing;
-    };
-    Request::Change(Changing::Read(k))
-}
-
 // A change that is asked for by its name alone.
 fn change(line: &[u8], c: Cursor, asked: Changing) -> Request {
     if is_done(line, c) {
@@ -230,14 +242,11 @@ fn read_page(line: &[u8], c: Cursor) -> Request {
     Request::Ask(Asking::Page(Page(k as usize)))
 }
 
-fn read_walk(line: &[u8], c: Cursor, words: &mut [u32]) -> Request {
+fn read_walk(line: &[u8], c: Cursor) -> Request {
     let Number::Is(root, next) = read_decimal(line, c) else {
         return Request::Nothing;
     };
-    let Count::Is(k) = read_decimals(line, next, words) else {
-        return Request::Nothing;
-    };
-    Request::Ask(Asking::Walk(root as usize, k))
+    Request::Ask(Asking::Walk(root as usize, next.at))
 }
 
 fn read_used(line: &[u8], c: Cursor) -> Request {
@@ -277,24 +286,27 @@ fn question(line: &[u8], c: Cursor, asked: Asking) -> Request {
     Request::Nothing
 }
 
-// The operations that prepare lent memory.
+// The operations that make lent words and the record anew.
 fn read_making(line: &[u8], c: Cursor) -> Request {
-    if spells(line, 0, b"lend") {
-        return read_lend(line, c);
-    }
     if spells(line, 0, b"poke") {
         return read_poke(line, c);
     }
     if spells(line, 0, b"ctl") {
         return read_ctl(line, c);
     }
+    if spells(line, 0, b"setup") {
+        return read_setup(line, c);
+    }
+    if spells(line, 0, b"read") {
+        return Request::Make(Making::Read(c.at));
+    }
     Request::Nothing
 }
 
 // The calls that change lent words, and what is left.
 fn read_changing(line: &[u8], c: Cursor) -> Request {
-    if spells(line, 0, b"setup") {
-        return read_setup(line, c);
+    if spells(line, 0, b"alloc") {
+        return read_alloc(line, c);
     }
     if spells(line, 0, b"push") {
         return change(line, c, Changing::Push);
@@ -331,13 +343,17 @@ fn read_counting(line: &[u8], c: Cursor) -> Request {
     read_changing(line, c)
 }
 
-// The other calls that change no lent word, and what is left.
-fn read_asking(line: &[u8], c: Cursor) -> Request {
+// What a line asks for, of lent parts. The calls that change no lent word come first.
+pub fn read_request(line: &[u8]) -> Request {
+    let c = past(line, 0);
     if spells(line, 0, b"fetch") {
         return read_fetch(line, c);
     }
     if spells(line, 0, b"page") {
         return read_page(line, c);
+    }
+    if spells(line, 0, b"walk") {
+        return read_walk(line, c);
     }
     if spells(line, 0, b"audit") {
         return question(line, c, Asking::Audit);
@@ -346,19 +362,4 @@ fn read_asking(line: &[u8], c: Cursor) -> Request {
         return question(line, c, Asking::Due);
     }
     read_counting(line, c)
-}
-
-// What a line asks for. The calls that list words, a path or a text come first.
-pub fn read_request(line: &[u8], words: &mut [u32], bytes: &mut [u8]) -> Request {
-    let c = past(line, 0);
-    if spells(line, 0, b"alloc") {
-        return read_alloc(line, c, words);
-    }
-    if spells(line, 0, b"walk") {
-        return read_walk(line, c, words);
-    }
-    if spells(line, 0, b"read") {
-        return read_read(line, c, bytes);
-    }
-    read_asking(line, c)
 }

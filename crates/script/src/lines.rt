@@ -1,15 +1,12 @@
 // Lines of standard input, which comes in chunks.
-use crate::output::flush;
 use libc::STDIN_FILENO;
 ghost use Prim.Native.Nat.{_<_};
 
-// How far the input has been read: the chunk's bytes from `from` to `end` are still to come, `line` bytes of the next line are there, and `out`
-// bytes of output wait.
+// How far the input has been read: the chunk's bytes from `from` to `end` are still to come, and `line` bytes of the next line are there.
 pub struct Input {
     pub from: usize,
     pub end: usize,
     pub line: usize,
-    pub out: usize,
     pub is_whole: bool,
     pub is_over: bool,
 }
@@ -20,7 +17,6 @@ pub fn beginning() -> Input {
         from: 0,
         end: 0,
         line: 0,
-        out: 0,
         is_whole: false,
         is_over: false,
     }
@@ -55,7 +51,6 @@ fn take(chunk: &[u8], line: &mut [u8], i: Input) -> Input {
                 from,
                 end: i.end,
                 line: used,
-                out: i.out,
                 is_whole: true,
                 is_over: false,
             };
@@ -66,33 +61,30 @@ fn take(chunk: &[u8], line: &mut [u8], i: Input) -> Input {
         from,
         end: i.end,
         line: used,
-        out: i.out,
         is_whole: false,
         is_over: false,
     }
 }
 
-// Reads a chunk, after what waits is written. Where nothing comes the input is over.
-fn refill(chunk: &mut [u8], out: &[u8], i: Input) -> Input {
-    flush(out, i.out);
+// Reads a chunk. Where nothing comes the input is over.
+fn refill(chunk: &mut [u8], i: Input) -> Input {
     let got = libc::read(STDIN_FILENO, chunk);
     let end = io::count(got, chunk);
     Input {
         from: 0,
         end,
         line: i.line,
-        out: 0,
         is_whole: end == 0,
         is_over: end == 0,
     }
 }
 
 // One step to the next line.
-fn step(chunk: &mut [u8], line: &mut [u8], out: &[u8], i: Input) -> Input {
+fn step(chunk: &mut [u8], line: &mut [u8], i: Input) -> Input {
     if i.from < i.end {
         return take(chunk, line, i);
     }
-    refill(chunk, out, i)
+    refill(chunk, i)
 }
 
 // The turns that are left after one.
@@ -120,25 +112,23 @@ fn closed(line: &mut [u8], i: Input) -> Input {
         from: i.from,
         end: i.end,
         line: 1,
-        out: i.out,
         is_whole: true,
         is_over: i.is_over,
     }
 }
 
 // The next line. At the input's end it is what stands there without a newline, or nothing.
-pub fn next_line(chunk: &mut [u8], line: &mut [u8], out: &[u8], i: Input, waiting: usize) -> Input {
+pub fn next_line(chunk: &mut [u8], line: &mut [u8], i: Input) -> Input {
     let mut now = Input {
         from: i.from,
         end: i.end,
         line: 0,
-        out: waiting,
         is_whole: false,
         is_over: false,
     };
     let mut turns = u64::MAX;
     while 0 < turns {
-        now = step(chunk, line, out, now);
+        now = step(chunk, line, now);
         turns = left(turns, now.is_whole);
     }
     closed(line, now)

@@ -6,11 +6,11 @@ use Rattle.script.proofs.lines.next_line.Statement.{statement}
 use Rattle.script.proofs.lines.next_line.Tie as tie
 
 abbrev Inv-loop : tie.InvT-loop
-Inv-loop chunk₀ line₀ out waiting now₀ turns₀ chunk line now turns =
+Inv-loop chunk₀ line₀ now₀ turns₀ chunk line now turns =
     (length chunk ≡ length chunk₀) × (length line ≡ length line₀)
 
 abbrev μ-loop : tie.MeasureT-loop
-μ-loop chunk₀ line₀ out waiting now₀ turns₀ chunk line now turns =
+μ-loop chunk₀ line₀ now₀ turns₀ chunk line now turns =
     turns
 
 loop-holds : tie.Need-loop-holds Inv-loop μ-loop
