@@ -5,10 +5,9 @@ use rules::Numbered;
 use rules::Worded;
 use telling::say;
 
+// The word of a number.
 fn word_of(name: &[u8], i: i32) {
-    say::text(b"word of ");
     say::text(name);
-    say::text(b": ");
     match word_of_number(i) {
         Worded::Done(w) => {
             say::hex(w);
@@ -20,6 +19,7 @@ fn word_of(name: &[u8], i: i32) {
     say::text(b"\n");
 }
 
+// How far a number is from 0.
 fn magnitude(i: i32) -> u32 {
     if i < 0 {
         let below = !i as u32;
@@ -28,6 +28,7 @@ fn magnitude(i: i32) -> u32 {
     i as u32
 }
 
+// A number with its sign.
 fn signed(i: i32) {
     if i < 0 {
         say::text(b"-");
@@ -35,6 +36,7 @@ fn signed(i: i32) {
     say::decimal(magnitude(i));
 }
 
+// The number of a word.
 fn number_of(w: u32) {
     say::text(b"number of ");
     say::hex(w);
@@ -51,12 +53,12 @@ fn number_of(w: u32) {
 }
 
 fn words() {
-    word_of(b"0", 0);
-    word_of(b"-1", -1);
-    word_of(b"2^30-1", 1073741823);
-    word_of(b"-2^30", -1073741824);
-    word_of(b"2^30", 1073741824);
-    word_of(b"-2^30-1", -1073741825);
+    word_of(b"word of 0: ", 0);
+    word_of(b"word of -1: ", -1);
+    word_of(b"word of 2^30-1: ", 1073741823);
+    word_of(b"word of -2^30: ", -1073741824);
+    word_of(b"word of 2^30: ", 1073741824);
+    word_of(b"word of -2^30-1: ", -1073741825);
 }
 
 pub fn soundings() {

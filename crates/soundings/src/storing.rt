@@ -8,187 +8,78 @@ use telling::heaps;
 use telling::lent;
 use telling::say;
 
-fn stores(
-    name: &[u8],
-    heap: &mut [u32],
-    table: &mut [u32],
-    roots: &[u32],
-    consts: &[u32],
-    c: Control,
-    j: Region,
-    kind: Kind,
-    words: &[u32],
-) -> Control {
-    say::text(b"allocate ");
-    say::text(name);
-    say::text(b": ");
-    let before = lent::sum(heap, table, roots);
-    let after = say::valued(allocate(heap, table, roots, consts, c, j, kind, words));
-    lent::report(before, c, heap, table, roots, after);
-    after
-}
-
-// What is refused while pages are left: 5 comes before 8, and 8 before 7.
-fn lengths(heap: &mut [u32], table: &mut [u32], roots: &[u32], consts: &[u32], c: Control) {
-    stores(
-        b"14 words",
-        heap,
-        table,
-        roots,
-        consts,
-        c,
-        Region(0),
-        Kind::Record,
-        &[1u32; 14],
-    );
-    stores(
-        b"14 words in region 1 of 1",
-        heap,
-        table,
-        roots,
-        consts,
-        c,
-        Region(1),
-        Kind::Record,
-        &[1u32; 14],
-    );
-}
-
-fn bad_words(heap: &mut [u32], table: &mut [u32], roots: &[u32], consts: &[u32], c: Control) {
-    stores(
-        b"a record of 4",
-        heap,
-        table,
-        roots,
-        consts,
-        c,
-        Region(0),
-        Kind::Record,
-        &[4u32; 1],
-    );
-    stores(
-        b"14 words 4",
-        heap,
-        table,
-        roots,
-        consts,
-        c,
-        Region(0),
-        Kind::Record,
-        &[4u32; 14],
-    );
-}
-
-fn first_two(
-    heap: &mut [u32],
-    table: &mut [u32],
-    roots: &[u32],
-    consts: &[u32],
-    c: Control,
-) -> Control {
-    let a = stores(
-        b"13 words",
-        heap,
-        table,
-        roots,
-        consts,
-        c,
-        Region(0),
-        Kind::Record,
-        &[1u32; 13],
-    );
-    stores(
-        b"no words",
-        heap,
-        table,
-        roots,
-        consts,
-        a,
-        Region(0),
-        Kind::Record,
-        &[1u32; 0],
-    )
-}
-
-fn last_page(heap: &mut [u32], table: &mut [u32], roots: &[u32], consts: &[u32], c: Control) {
-    let d = stores(
-        b"13 words again",
-        heap,
-        table,
-        roots,
-        consts,
-        c,
-        Region(0),
-        Kind::Record,
-        &[1u32; 13],
-    );
-    stores(
-        b"no words, no page left",
-        heap,
-        table,
-        roots,
-        consts,
-        d,
-        Region(0),
-        Kind::Record,
-        &[1u32; 0],
-    );
-}
-
-fn last_two(heap: &mut [u32], table: &mut [u32], roots: &[u32], consts: &[u32], c: Control) {
-    let d = stores(
-        b"raw words 4 8",
-        heap,
-        table,
-        roots,
-        consts,
-        c,
-        Region(0),
-        Kind::Raw,
-        &[4, 8],
-    );
-    last_page(heap, table, roots, consts, d);
-}
-
-fn refusals(heap: &mut [u32], table: &mut [u32], roots: &[u32], consts: &[u32], c: Control) {
-    lengths(heap, table, roots, consts, c);
-    bad_words(heap, table, roots, consts, c);
-}
-
-// Three pages, one region.
-fn three_pages(heap: &mut [u32], table: &mut [u32], roots: &[u32], consts: &[u32], c: Control) {
-    let a = first_two(heap, table, roots, consts, c);
-    refusals(heap, table, roots, consts, a);
-    last_two(heap, table, roots, consts, a);
-}
-
-fn broken_row() {
-    let mut heap = [0u32; 32];
-    let mut table = [0u32; 256];
-    let mut roots = [0u32; 1];
-    let consts = [0u32; 0];
-    let c = heaps::with_regions(&mut heap, &mut table, &mut roots, &consts, 4, 1);
-    heaps::poke(&mut table, 2, 1);
-    stores(
-        b"where a is 1",
-        &mut heap,
-        &mut table,
-        &roots,
-        &consts,
-        c,
-        Region(0),
-        Kind::Record,
-        &[1],
-    );
-}
-
-fn values() {
+// A value more on the heap that a recipe makes, of three pages, and what the call left.
+fn stores(name: &[u8], region: usize, kind: Kind, words: &[u32], recipe: &[u8]) {
     let mut heap = [0u32; 48];
     let mut table = [0u32; 256];
     let mut roots = [0u32; 1];
     let consts = [0u32; 0];
-    let c = heaps::with_regions(&mut heap, &mut table, &mut roots, &consts, 4, 1);
-    three_pages(&mut heap, &mut table, &roots, &consts, c);
+    let c = heaps::made(&mut heap, &mut table, &mut roots, &consts, recipe);
+    let before = lent::sum(&heap, &table, &roots);
+    say::text(name);
+    let j = Region(region);
+    let after = say::valued(allocate(&mut heap, &mut table, &roots, &consts, c, j, kind, words));
+    lent::report(before, c, &heap, &table, &roots, after);
+}
+
+// A record on the heap of a full page and an empty record.
+fn stores_third(name: &[u8], region: usize, words: &[u32]) {
+    stores(
+        name,
+        region,
+        Kind::Record,
+        words,
+        b"push 1;record 0 1 1 1 1 1 1 1 1 1 1 1 1 1;record 0;",
+    );
+}
+
+fn first_two() {
+    stores(
+        b"allocate 13 words: ",
+        0,
+        Kind::Record,
+        &[1u32; 13],
+        b"push 1;",
+    );
+    stores(
+        b"allocate no words: ",
+        0,
+        Kind::Record,
+        &[1u32; 0],
+        b"push 1;record 0 1 1 1 1 1 1 1 1 1 1 1 1 1;",
+    );
+}
+
+// What is refused while pages are left: 5 comes before 8, and 8 before 7.
+fn refusals() {
+    stores_third(b"allocate 14 words: ", 0, &[1u32; 14]);
+    stores_third(b"allocate 14 words in region 1 of 1: ", 1, &[1u32; 14]);
+    stores_third(b"allocate a record of 4: ", 0, &[4u32; 1]);
+    stores_third(b"allocate 14 words 4: ", 0, &[4u32; 14]);
+}
+
+fn last_page() {
+    stores(
+        b"allocate raw words 4 8: ",
+        0,
+        Kind::Raw,
+        &[4, 8],
+        b"push 1;record 0 1 1 1 1 1 1 1 1 1 1 1 1 1;record 0;",
+    );
+    stores(
+        b"allocate 13 words again: ",
+        0,
+        Kind::Record,
+        &[1u32; 13],
+        b"push 1;record 0 1 1 1 1 1 1 1 1 1 1 1 1 1;record 0;words 0 4 8;",
+    );
+    stores(
+        b"allocate no words, no page left: ",
+        0,
+        Kind::Record,
+        &[1u32; 0],
+        b"push 1;record 0 1 1 1 1 1 1 1 1 1 1 1 1 1;record 0;words 0 4 8;record 0 1 1 1 1 1 1 1 1 1 1 1 1 1;",
+    );
 }
 
 // 128 pages, so many of them free.
@@ -211,8 +102,16 @@ fn due_with(name: &[u8], count: u32) {
 
 pub fn soundings() {
     say::text(b"Allocation and due\n");
-    values();
-    broken_row();
+    first_two();
+    refusals();
+    last_page();
+    stores(
+        b"allocate where a is 1: ",
+        0,
+        Kind::Record,
+        &[1],
+        b"push 1;table 2 1;",
+    );
     due_with(b"due, 42 of 128 pages free: ", 42);
     due_with(b"due, 43 of 128 pages free: ", 43);
 }

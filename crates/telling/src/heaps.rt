@@ -1,4 +1,17 @@
-// Heaps made by the calls, for soundings that begin with one.
+// Heaps made by the calls from a recipe, for soundings that begin with one. A recipe is steps; a step is a name, numbers, and a semicolon:
+//   push 2;            so many regions more
+//   record 0 8 15;     a record more in a region: the region, its words
+//   words 0 83 104;    a raw value more
+//   assign 8 0 15;     a field of the record that a word points to becomes a word
+//   name 0 20;         a root becomes a word
+// in front of them, where the heap is not to be a new one:
+//   label;             the heap of document 01's image: "Sh", and a record of it and the number 7
+//   four;              four raw values in two pages
+// and what is done behind the calls:
+//   heap 6 12;  table 3 1;  spoil 0 12;      a word of the heap, of the table, of the roots
+//   control 1 2 2 1;                         R, free first, free last and free count of the record
+ghost use Prim.Native.Nat.{_≤_};
+ghost use lib.ListN.{length};
 use crate::say;
 use access::set_root;
 use allocation::allocate;
@@ -12,12 +25,6 @@ use rules::Region;
 use rules::Valued;
 use setting_up::set_up;
 
-// A pointer to a new value, and the record after it.
-pub struct Kept {
-    pub word: u32,
-    pub c: Control,
-}
-
 pub fn record_of(p: Plain) -> Control {
     match p {
         Plain::Done(c) => c,
@@ -25,21 +32,16 @@ pub fn record_of(p: Plain) -> Control {
     }
 }
 
-pub fn fresh(
-    heap: &mut [u32],
-    table: &mut [u32],
-    roots: &mut [u32],
-    consts: &[u32],
-    n: u32,
-) -> Control {
-    match set_up(heap, table, roots, consts, n) {
+// A new heap with pages of 16 words.
+fn fresh(heap: &mut [u32], table: &mut [u32], roots: &mut [u32], consts: &[u32]) -> Control {
+    match set_up(heap, table, roots, consts, 4) {
         Opened::Done(c) => c,
         Opened::Refused(_) => say::no_record(),
     }
 }
 
 // So many regions more.
-pub fn pushed(
+fn pushed(
     heap: &mut [u32],
     table: &mut [u32],
     roots: &[u32],
@@ -56,159 +58,244 @@ pub fn pushed(
     now
 }
 
-// A new heap with so many regions.
-pub fn with_regions(
-    heap: &mut [u32],
-    table: &mut [u32],
-    roots: &mut [u32],
-    consts: &[u32],
-    n: u32,
-    regions: u32,
-) -> Control {
-    let c = fresh(heap, table, roots, consts, n);
-    pushed(heap, table, roots, consts, c, regions)
+fn place(i: u32) -> usize {
+    i as usize
 }
 
-// A value more. A refusal would show in the line as the pointer 0.
-pub fn stored(
-    heap: &mut [u32],
-    table: &mut [u32],
-    roots: &[u32],
-    consts: &[u32],
-    c: Control,
-    region: usize,
-    kind: Kind,
-    words: &[u32],
-) -> Kept {
-    match allocate(heap, table, roots, consts, c, Region(region), kind, words) {
-        Valued::Done(w, c1) => Kept { word: w, c: c1 },
-        Valued::Refused(_, c1) => Kept { word: 0, c: c1 },
+// The record after an allocation.
+fn valued_record(v: Valued) -> Control {
+    match v {
+        Valued::Done(_, c) => c,
+        Valued::Refused(_, c) => c,
     }
 }
 
-// A root becomes the word.
-pub fn rooted(
-    heap: &[u32],
-    table: &[u32],
-    roots: &mut [u32],
-    consts: &[u32],
-    c: Control,
-    root: usize,
-    w: u32,
-) -> Control {
-    record_of(set_root(heap, table, roots, consts, c, root, w))
-}
-
-// Field 0 of the record that w points to becomes the word.
-pub fn assigned(
-    heap: &mut [u32],
-    table: &[u32],
-    roots: &[u32],
-    consts: &[u32],
-    c: Control,
-    w: u32,
-    word: u32,
-) -> Control {
-    record_of(assign(heap, table, roots, consts, c, w, 0, word))
-}
-
-// "Sh" in region 0, and a record of it and the number 7.
-fn label(heap: &mut [u32], table: &mut [u32], roots: &[u32], consts: &[u32], c: Control) -> Kept {
-    let sh = stored(heap, table, roots, consts, c, 0, Kind::Raw, &[0x53, 0x68]);
-    stored(
-        heap,
-        table,
-        roots,
-        consts,
-        sh.c,
-        0,
-        Kind::Record,
-        &[sh.word, 15],
-    )
-}
-
-// The heap of document 01's image: "Sh" at 2, its record at 5, which is root 0.
-pub fn labelled(heap: &mut [u32], table: &mut [u32], roots: &mut [u32], consts: &[u32]) -> Control {
-    let c = with_regions(heap, table, roots, consts, 4, 1);
-    let top = label(heap, table, roots, consts, c);
-    rooted(heap, table, roots, consts, top.c, 0, top.word)
-}
-
-// Two raw values of 7 words, headers counted, in region 0: they fill a page.
-fn sevens(
+// A value more: k numbers, its region and its words.
+fn stored(
     heap: &mut [u32],
     table: &mut [u32],
     roots: &[u32],
     consts: &[u32],
     c: Control,
+    kind: Kind,
+    row: &[u32; 16],
+    k: usize,
 ) -> Control {
-    let a = stored(heap, table, roots, consts, c, 0, Kind::Raw, &[5u32; 6]);
-    let b = stored(heap, table, roots, consts, a.c, 0, Kind::Raw, &[6u32; 6]);
-    b.c
+    if k < 1 {
+        return c;
+    }
+    let all = &row[..];
+    if all.len() < k {
+        return c;
+    }
+    let words = &all[1..k];
+    let j = Region(place(row[0]));
+    valued_record(allocate(heap, table, roots, consts, c, j, kind, words))
 }
 
-// One of 10 words and one of 4: they fill the next.
-fn ten_and_four(
+// A field of the record that a word points to becomes a word.
+fn assigned(
     heap: &mut [u32],
-    table: &mut [u32],
+    table: &[u32],
     roots: &[u32],
     consts: &[u32],
     c: Control,
+    row: &[u32; 16],
 ) -> Control {
-    let a = stored(heap, table, roots, consts, c, 0, Kind::Raw, &[7u32; 9]);
-    let b = stored(heap, table, roots, consts, a.c, 0, Kind::Raw, &[8u32; 3]);
-    b.c
-}
-
-// The first two roots.
-fn two_named(
-    heap: &[u32],
-    table: &[u32],
-    roots: &mut [u32],
-    consts: &[u32],
-    c: Control,
-    v: u32,
-    w: u32,
-) -> Control {
-    let d = rooted(heap, table, roots, consts, c, 0, v);
-    rooted(heap, table, roots, consts, d, 1, w)
-}
-
-// The first four roots.
-pub fn named(
-    heap: &[u32],
-    table: &[u32],
-    roots: &mut [u32],
-    consts: &[u32],
-    c: Control,
-    words: [u32; 4],
-) -> Control {
-    let d = two_named(heap, table, roots, consts, c, words[0], words[1]);
-    let e = rooted(heap, table, roots, consts, d, 2, words[2]);
-    rooted(heap, table, roots, consts, e, 3, words[3])
-}
-
-fn four_values(
-    heap: &mut [u32],
-    table: &mut [u32],
-    roots: &[u32],
-    consts: &[u32],
-    c: Control,
-) -> Control {
-    let d = sevens(heap, table, roots, consts, c);
-    ten_and_four(heap, table, roots, consts, d)
-}
-
-// Raw values of 7, 7, 10 and 4 words, with roots that name the 10, 7, 7 and 4.
-pub fn four(heap: &mut [u32], table: &mut [u32], roots: &mut [u32], consts: &[u32]) -> Control {
-    let c = with_regions(heap, table, roots, consts, 4, 1);
-    let d = four_values(heap, table, roots, consts, c);
-    named(heap, table, roots, consts, d, [72, 8, 36, 112])
+    let field = place(row[1]);
+    record_of(assign(heap, table, roots, consts, c, row[0], field, row[2]))
 }
 
 // One word of a part changed behind the calls.
-pub fn poke(part: &mut [u32], i: usize, w: u32) {
-    if i < part.len() {
-        part[i] = w;
+fn poke(part: &mut [u32], i: u32, w: u32) {
+    let at = place(i);
+    if at < part.len() {
+        part[at] = w;
     }
+}
+
+// The record with another R, free first, free last and free count.
+fn controlled(c: Control, row: &[u32; 16]) -> Control {
+    Control {
+        n: c.n,
+        regions: row[0],
+        first: row[1],
+        last: row[2],
+        count: row[3],
+    }
+}
+
+// A step behind the calls that changes a word of a part.
+fn spoiled(heap: &mut [u32], table: &mut [u32], roots: &mut [u32], letter: u8, a: u32, b: u32) {
+    match letter {
+        b'h' => poke(heap, a, b),
+        b't' => poke(table, a, b),
+        b's' => poke(roots, a, b),
+        _ => {}
+    }
+}
+
+// A step of k numbers, by the letter that its name begins with.
+fn done(
+    heap: &mut [u32],
+    table: &mut [u32],
+    roots: &mut [u32],
+    consts: &[u32],
+    c: Control,
+    letter: u8,
+    row: &[u32; 16],
+    k: usize,
+) -> Control {
+    let a = row[0];
+    let b = row[1];
+    match letter {
+        b'p' => pushed(heap, table, roots, consts, c, a),
+        b'r' => stored(heap, table, roots, consts, c, Kind::Record, row, k),
+        b'w' => stored(heap, table, roots, consts, c, Kind::Raw, row, k),
+        b'a' => assigned(heap, table, roots, consts, c, row),
+        b'n' => record_of(set_root(heap, table, roots, consts, c, place(a), b)),
+        b'c' => controlled(c, row),
+        _ => {
+            spoiled(heap, table, roots, letter, a, b);
+            c
+        }
+    }
+}
+
+// A number with one digit more; any other byte leaves it.
+fn extended(n: u32, byte: u8) -> u32 {
+    if byte < 48 {
+        return n;
+    }
+    if 57 < byte {
+        return n;
+    }
+    if 400000000 < n {
+        return n;
+    }
+    n * 10 + (byte - 48) as u32
+}
+
+// The numbers so far, and how many, with a byte more: a space begins a number.
+fn taken(row: &mut [u32; 16], k: usize, byte: u8) -> usize {
+    if 15 < k {
+        return k;
+    }
+    if byte == b' ' {
+        return k + 1;
+    }
+    if 0 < k {
+        let last = k - 1;
+        row[last] = extended(row[last], byte);
+    }
+    k
+}
+
+// The numbers of a step, and how many.
+fn numbers(step: &[u8], row: &mut [u32; 16]) -> usize {
+    let mut k: usize = 0;
+    let mut i = 0;
+    while i < step.len() {
+        k = taken(row, k, step[i]);
+        i += 1;
+    }
+    k
+}
+
+fn first(text: &[u8]) -> u8 {
+    if text.len() == 0 {
+        return b' ';
+    }
+    text[0]
+}
+
+// The step that a text is.
+fn step(
+    heap: &mut [u32],
+    table: &mut [u32],
+    roots: &mut [u32],
+    consts: &[u32],
+    c: Control,
+    text: &[u8],
+) -> Control {
+    let mut row = [0u32; 16];
+    let k = numbers(text, &mut row);
+    done(heap, table, roots, consts, c, first(text), &row, k)
+}
+
+// Where the step that starts at a place ends: at its semicolon.
+fn end_of(recipe: &[u8], from: usize) -> usize
+    requires { ⌜ from ≤ length (now recipe) ⌝ }
+    ensures { λ r. ⌜ (from ≤ r) × (r ≤ length (now (recipe .entry))) ⌝ }
+{
+    let mut e = from;
+    while e < recipe.len() {
+        if recipe[e] == b';' {
+            return e;
+        }
+        e += 1;
+    }
+    e
+}
+
+// The steps of a recipe, in their order.
+fn follow(
+    heap: &mut [u32],
+    table: &mut [u32],
+    roots: &mut [u32],
+    consts: &[u32],
+    c: Control,
+    recipe: &[u8],
+) -> Control {
+    let mut now = c;
+    let mut at = 0;
+    while at < recipe.len() {
+        let e = end_of(recipe, at);
+        now = step(heap, table, roots, consts, now, &recipe[at..e]);
+        at = e + 1;
+    }
+    now
+}
+
+// What a recipe begins with. The heap of document 01's image: "Sh" at 2, its record at 5, which is root 0. Raw values of 7, 7, 10 and 4 words,
+// headers counted, with roots that name the 10, 7, 7 and 4. Else a new heap.
+fn begun(
+    heap: &mut [u32],
+    table: &mut [u32],
+    roots: &mut [u32],
+    consts: &[u32],
+    letter: u8,
+) -> Control {
+    let c = fresh(heap, table, roots, consts);
+    match letter {
+        b'l' => follow(
+            heap,
+            table,
+            roots,
+            consts,
+            c,
+            b"push 1;words 0 83 104;record 0 8 15;name 0 20;",
+        ),
+        b'f' => follow(
+            heap,
+            table,
+            roots,
+            consts,
+            c,
+            b"push 1;words 0 5 5 5 5 5 5;words 0 6 6 6 6 6 6;words 0 7 7 7 7 7 7 7 7 7;words 0 8 8 8;name 0 72;name 1 8;name 2 36;name 3 112;",
+        ),
+        _ => c,
+    }
+}
+
+// The heap that a recipe makes.
+pub fn made(
+    heap: &mut [u32],
+    table: &mut [u32],
+    roots: &mut [u32],
+    consts: &[u32],
+    recipe: &[u8],
+) -> Control {
+    let c = begun(heap, table, roots, consts, first(recipe));
+    follow(heap, table, roots, consts, c, recipe)
 }
