@@ -9,42 +9,42 @@ use rules::Refusal;
 use samples::census;
 use samples::census::add;
 
-// The places of the sums. Heaps of page exponent n are counted at 1 + n.
-pub const HEAPS: usize = 0; // heaps, or images
+// The places of the sums, in the order in which they are reported.
+pub const HEAPS: usize = 3; // heaps, or images; those of page exponent n are counted at n
 
-pub const FINISHED: usize = 1; // finished
+pub const OF_NO_REGION: usize = 9; // heaps of no region
 
-pub const NO_PAGE: usize = 2; // refused for want of a page
+pub const OF_ALL_REGIONS: usize = 10; // of 64 regions
 
-pub const REFUSED_ELSE: usize = 3; // refused for another reason
+pub const OF_ALL_WORDS: usize = 11; // of 65,536 words
 
-pub const DIFFERENCES: usize = 4; // heaps on which the collectors differ
+pub const OF_ALL_ROOTS: usize = 12; // of 1,024 roots
 
-pub const OF_NO_REGION: usize = 10; // heaps of no region
+pub const FEW_FREE: usize = 13; // with fewer free pages than regions
 
-pub const OF_ALL_REGIONS: usize = 11; // of 64 regions
+pub const ROOTS_TO_VALUES: usize = 14; // roots that point to values
 
-pub const OF_ALL_WORDS: usize = 12; // of 65,536 words
+pub const FINISHED: usize = 15; // finished
 
-pub const OF_ALL_ROOTS: usize = 13; // of 1,024 roots
+pub const GAINED: usize = 16; // heaps that gained pages, and behind it the pages gained
 
-pub const FEW_FREE: usize = 14; // with fewer free pages than regions
-
-pub const NO_PAGE_LATER: usize = 15; // refused after each region had its fresh page
-
-pub const PAGES_GAINED: usize = 16; // pages gained
-
-pub const THAT_GAINED: usize = 17; // heaps that gained pages
-
-pub const PAGES_LOST: usize = 18; // pages lost
-
-pub const THAT_LOST: usize = 19; // heaps that lost pages
+pub const LOST: usize = 18; // heaps that lost pages, and behind it the pages lost
 
 pub const BROKEN_AFTER: usize = 20; // finished heaps that fail the audit
 
-pub const ROOTS_TO_VALUES: usize = 21; // roots that point to values
+pub const NO_PAGE: usize = 21; // refused for want of a page
 
-pub const TEXTS_DIFFER: usize = 22; // images whose text differs from its answer
+pub const NO_PAGE_LATER: usize = 22; // refused after each region had its fresh page
+
+pub const REFUSED_ELSE: usize = 23; // refused for another reason
+
+pub const DIFFERENCES: usize = 24; // heaps on which the collectors differ
+
+pub const TEXTS_DIFFER: usize = 25; // images whose text differs from its answer
+
+pub const BEFORE: usize = 32; // the census before the collections
+
+pub const LIVING: usize = 48; // the census after those that finished
 
 fn add_if(sums: &mut [u32], kind: usize, holds: bool) {
     if holds {
@@ -54,7 +54,7 @@ fn add_if(sums: &mut [u32], kind: usize, holds: bool) {
 
 fn size(sums: &mut [u32], words: usize, roots: usize, c: Control) {
     add(sums, HEAPS, 1);
-    add(sums, 1 + c.n as usize % 9, 1);
+    add(sums, c.n as usize % 9, 1);
     add_if(sums, OF_ALL_WORDS, words == 65536);
     add_if(sums, OF_ALL_ROOTS, roots == 1024);
 }
@@ -74,7 +74,18 @@ fn named(sums: &mut [u32], roots: &[u32]) {
     }
 }
 
-fn words_of(n: u32) -> usize
+// What stands in a heap, counted from a place of the sums on.
+fn stands(sums: &mut [u32], from: usize, heap: &[u32], c: Control)
+    requires { ⌜ from ≤ 48 ⌝ }
+{
+    let end = from + 16;
+    if end <= sums.len() {
+        census::count(heap, &mut sums[from..end], page_words(c.n));
+    }
+}
+
+// The words of a page.
+fn page_words(n: u32) -> usize
     ensures { λ r. ⌜ (0 < r) × (r ≤ 256) ⌝ }
 {
     if n == 4 {
@@ -93,67 +104,65 @@ fn words_of(n: u32) -> usize
 }
 
 // A sample before its collection.
-pub fn made(sums: &mut [u32], tally: &mut [u32], heap: &[u32], roots: &[u32], c: Control) {
+pub fn made(sums: &mut [u32], heap: &[u32], roots: &[u32], c: Control) {
     size(sums, heap.len(), roots.len(), c);
     regions(sums, c);
     named(sums, roots);
-    census::count(heap, tally, words_of(c.n));
+    stands(sums, BEFORE, heap, c);
 }
 
-fn gained(sums: &mut [u32], pages: u32) {
-    add(sums, PAGES_GAINED, pages as usize);
-    add(sums, THAT_GAINED, 1);
+// A heap that gained or lost so many pages.
+fn pages_moved(sums: &mut [u32], kind: usize, pages: u32)
+    requires { ⌜ kind ≤ 48 ⌝ }
+{
+    add(sums, kind, 1);
+    add(sums, kind + 1, pages as usize);
 }
 
-fn lost(sums: &mut [u32], pages: u32) {
-    add(sums, PAGES_LOST, pages as usize);
-    add(sums, THAT_LOST, 1);
-}
-
-fn moved(sums: &mut [u32], c: Control, after: Control) {
-    if c.count < after.count {
-        gained(sums, after.count - c.count);
+// The free pages before a collection and after it.
+fn moved(sums: &mut [u32], before: u32, after: u32) {
+    if before < after {
+        pages_moved(sums, GAINED, after - before);
         return;
     }
-    if after.count < c.count {
-        lost(sums, c.count - after.count);
+    if after < before {
+        pages_moved(sums, LOST, before - after);
     }
 }
 
-fn finished(sums: &mut [u32], c: Control, after: Control) {
+fn finished(sums: &mut [u32], before: u32, after: u32) {
     add(sums, FINISHED, 1);
-    moved(sums, c, after);
+    moved(sums, before, after);
 }
 
-fn refused(sums: &mut [u32], why: Refusal, c: Control) {
+fn refused(sums: &mut [u32], why: Refusal, later: bool) {
     if refusal_number(why) != 4 {
         add(sums, REFUSED_ELSE, 1);
         return;
     }
     add(sums, NO_PAGE, 1);
-    add_if(sums, NO_PAGE_LATER, c.regions <= c.count);
+    add_if(sums, NO_PAGE_LATER, later);
 }
 
 // How the collection ended.
 pub fn ended(sums: &mut [u32], answer: Plain, c: Control, agree: bool) {
     add_if(sums, DIFFERENCES, !agree);
     match answer {
-        Plain::Done(after) => finished(sums, c, after),
-        Plain::Refused(why, _) => refused(sums, why, c),
+        Plain::Done(after) => finished(sums, c.count, after.count),
+        Plain::Refused(why, _) => refused(sums, why, c.regions <= c.count),
     }
 }
 
-fn sound(sums: &mut [u32], heap: &[u32], table: &[u32], roots: &[u32], consts: &[u32], c: Control) {
-    match audit(heap, table, roots, consts, c) {
-        Plain::Done(_) => {}
-        Plain::Refused(_, _) => add(sums, BROKEN_AFTER, 1),
+fn passes(p: Plain) -> bool {
+    match p {
+        Plain::Done(_) => true,
+        Plain::Refused(_, _) => false,
     }
 }
 
 // A sample after its collection: what is left is counted, and passes the audit.
 pub fn left(
     sums: &mut [u32],
-    tally: &mut [u32],
     heap: &[u32],
     table: &[u32],
     roots: &[u32],
@@ -162,8 +171,9 @@ pub fn left(
 ) {
     match answer {
         Plain::Done(c) => {
-            census::count(heap, tally, words_of(c.n));
-            sound(sums, heap, table, roots, consts, c);
+            stands(sums, LIVING, heap, c);
+            let sound = passes(audit(heap, table, roots, consts, c));
+            add_if(sums, BROKEN_AFTER, !sound);
         }
         Plain::Refused(_, _) => {}
     }

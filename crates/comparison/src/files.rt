@@ -1,4 +1,5 @@
 // The images of data/: each is read, collected and written, and the text compared with its answer.
+ghost use Prim.Native.Nat.{_≤_};
 use crate::counts;
 use crate::trial::both;
 use check::same;
@@ -92,9 +93,7 @@ fn collected(
     out: &mut [u8],
     sums: &mut [u32],
 ) -> usize {
-    let compared = both(heap, table, roots, consts, c);
-    let answer = compared.answer;
-    counts::ended(sums, answer, c, compared.agree);
+    let answer = both(heap, table, roots, consts, c, sums);
     answer_text(heap, table, roots, consts, answer, out)
 }
 
@@ -114,24 +113,14 @@ fn through(
     }
 }
 
-// Parts of the lengths that the first frame states.
-fn lend(text: &[u8], h: Head, out: &mut [u8], sums: &mut [u32]) -> usize {
+// Parts of these lengths.
+fn lend(text: &[u8], words: usize, r: usize, k: usize, out: &mut [u8], sums: &mut [u32]) -> usize
+    requires { ⌜ (words ≤ 4096) × (r ≤ 1024) × (k ≤ 1024) ⌝ }
+{
     let mut heap = [0u32; 4096];
     let mut table = [0u32; 256];
     let mut roots = [0u32; 1024];
     let mut consts = [0u32; 1024];
-    let words = (h.pages as usize) << (h.n % 16);
-    let r = h.roots as usize;
-    let k = h.consts as usize;
-    if 4096 < words {
-        return 0;
-    }
-    if 1024 < r {
-        return 0;
-    }
-    if 1024 < k {
-        return 0;
-    }
     through(
         text,
         &mut heap[0..words],
@@ -143,10 +132,21 @@ fn lend(text: &[u8], h: Head, out: &mut [u8], sums: &mut [u32]) -> usize {
     )
 }
 
+// The lengths are those that the first frame states.
+fn sized(text: &[u8], h: Head, out: &mut [u8], sums: &mut [u32]) -> usize {
+    let words = (h.pages as usize) << (h.n % 16);
+    let r = h.roots as usize;
+    let k = h.consts as usize;
+    if words <= 4096 && r <= 1024 && k <= 1024 {
+        return lend(text, words, r, k, out, sums);
+    }
+    0
+}
+
 fn answered(text: &[u8], out: &mut [u8], sums: &mut [u32]) -> usize {
     match judge(text) {
         Judged::Malformed(line) => refusal_text(Refusal::Malformed(line), out),
-        Judged::Well(h) => lend(text, h, out, sums),
+        Judged::Well(h) => sized(text, h, out, sums),
     }
 }
 

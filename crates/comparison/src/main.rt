@@ -4,64 +4,49 @@ mod files;
 mod report;
 mod trial;
 
-use rules::Control;
+ghost use Prim.Native.Nat.{_≤_};
 use samples::chance;
 use samples::making::make;
 use samples::shape::Shape;
 use samples::shape::shape_of;
 use trial::both;
 
-fn made(
-    heap: &mut [u32],
-    table: &mut [u32],
-    roots: &mut [u32],
-    consts: &[u32],
-    x: u32,
-    shape: Shape,
-) -> Control {
-    let mut pool = [1u32; 64];
-    let mut words = [0u32; 253];
-    make(heap, table, roots, consts, &mut pool, &mut words, x, shape)
-}
-
-// The sample collected twice.
+// A sample made, and collected twice.
 fn tried(
     heap: &mut [u32],
     table: &mut [u32],
     roots: &mut [u32],
-    consts: &[u32],
-    c: Control,
-    sums: &mut [u32],
-    living: &mut [u32],
-) {
-    let compared = both(heap, table, roots, consts, c);
-    let answer = compared.answer;
-    counts::ended(sums, answer, c, compared.agree);
-    counts::left(sums, living, heap, table, roots, consts, answer);
-}
-
-fn collected(
-    heap: &mut [u32],
-    table: &mut [u32],
-    roots: &mut [u32],
     x: u32,
     shape: Shape,
     sums: &mut [u32],
-    before: &mut [u32],
-    living: &mut [u32],
 ) {
     // records of a number and of the first two, a raw "Sh", a record of no words
     let consts = [9u32, 7, 19, 83, 104, 17, 2, 10, 1, 0];
-    let c = made(heap, table, roots, &consts, x, shape);
-    counts::made(sums, before, heap, roots, c);
-    tried(heap, table, roots, &consts, c, sums, living);
+    let c = make(heap, table, roots, &consts, x, shape);
+    counts::made(sums, heap, roots, c);
+    let answer = both(heap, table, roots, &consts, c, sums);
+    counts::left(sums, heap, table, roots, &consts, answer);
 }
 
-// Lends the sample parts of its lengths.
-fn sample(i: u32, sums: &mut [u32], before: &mut [u32], living: &mut [u32]) {
+// Parts of these lengths.
+fn lend(words: usize, r: usize, x: u32, shape: Shape, sums: &mut [u32])
+    requires { ⌜ (words ≤ 65536) × (r ≤ 1024) ⌝ }
+{
     let mut heap = [0u32; 65536];
     let mut table = [0u32; 256];
     let mut roots = [0u32; 1024];
+    tried(
+        &mut heap[0..words],
+        &mut table,
+        &mut roots[0..r],
+        x,
+        shape,
+        sums,
+    );
+}
+
+// Sample number i.
+fn sample(i: u32, sums: &mut [u32]) {
     let x = chance::start(i);
     let shape = shape_of(x);
     let words = (shape.pages as usize) << (shape.n % 16);
@@ -72,22 +57,13 @@ fn sample(i: u32, sums: &mut [u32], before: &mut [u32], living: &mut [u32]) {
     if 1024 < r {
         return;
     }
-    collected(
-        &mut heap[0..words],
-        &mut table,
-        &mut roots[0..r],
-        x,
-        shape,
-        sums,
-        before,
-        living,
-    );
+    lend(words, r, x, shape, sums);
 }
 
-fn all_samples(most: u32, sums: &mut [u32], before: &mut [u32], living: &mut [u32]) {
+fn all_samples(most: u32, sums: &mut [u32]) {
     let mut i: u32 = 0;
     while i < most {
-        sample(i, sums, before, living);
+        sample(i, sums);
         i += 1;
     }
 }
@@ -103,15 +79,13 @@ fn all_images(sums: &mut [u32]) {
 }
 
 fn samples_compared() {
-    let mut sums = [0u32; 32];
-    let mut before = [0u32; 16];
-    let mut living = [0u32; 16];
-    all_samples(4000, &mut sums, &mut before, &mut living);
-    report::samples(&sums, &before, &living);
+    let mut sums = [0u32; 64];
+    all_samples(4000, &mut sums);
+    report::samples(&sums);
 }
 
 fn images_compared() {
-    let mut sums = [0u32; 32];
+    let mut sums = [0u32; 64];
     all_images(&mut sums);
     report::images(&sums);
 }

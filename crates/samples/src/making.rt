@@ -61,11 +61,16 @@ fn push_all(
     now
 }
 
+// One of the pool.
+fn pooled(bag: &[u32], x: u32) -> u32 {
+    narrow(word(bag, below(x, 64) as usize))
+}
+
 // A word for a field: a number, a pointer to a constant, or one of the pool.
-fn word_for(pool: &[u32], x: u32, pointers: u32) -> u32 {
+fn word_for(bag: &[u32], x: u32, pointers: u32) -> u32 {
     let y = next(x);
     if below(x, 4) < pointers {
-        return narrow(word(pool, below(y, 64) as usize));
+        return pooled(bag, y);
     }
     if below(y, 3) == 0 {
         return constant(next(y));
@@ -101,27 +106,32 @@ fn constant(x: u32) -> u32 {
 }
 
 // A word for a field, or any word: it may look like a pointer.
-fn value_word(pool: &[u32], x: u32, pointers: u32, any: bool) -> u32 {
+fn value_word(bag: &[u32], x: u32, pointers: u32, any: bool) -> u32 {
     if any {
         return x / 16;
     }
-    word_for(pool, x, pointers)
+    word_for(bag, x, pointers)
 }
 
-// The first words of the buffer become words for a value.
-fn fill_words(words: &mut [u32], pool: &[u32], x: u32, pointers: u32, any: bool, m: usize) -> u32 {
+// The first m words behind the pool become words for a value.
+fn fill_words(bag: &mut [u32], x: u32, pointers: u32, any: bool, m: usize) -> u32
+    requires { ⌜ m < 4294967296 ⌝ }
+{
     let mut y = x;
     let mut i: usize = 0;
     while i < m {
         y = next(y);
-        write(words, i, wide(value_word(pool, y, pointers, any)));
+        let w = wide(value_word(bag, y, pointers, any));
+        write(bag, 64 + i, w);
         i += 1;
     }
     y
 }
 
 // The most words of a value in a page.
-fn longest(n: u32) -> usize {
+fn longest(n: u32) -> usize
+    ensures { λ r. ⌜ r < 4294967296 ⌝ }
+{
     if n == 4 {
         return 13;
     }
@@ -140,6 +150,7 @@ fn longest(n: u32) -> usize {
 // What is left of region j's last page, as the length of a value that fills it.
 fn rest_of(table: &[u32], j: usize) -> usize
     requires { ⌜ j < 4294967296 ⌝ }
+    ensures { λ r. ⌜ r < 4294967296 ⌝ }
 {
     let e = word(table, 4 * j);
     let a = word(table, 4 * j + 2);
@@ -152,6 +163,7 @@ fn rest_of(table: &[u32], j: usize) -> usize
 // A length: mostly short; now and then the longest, or the one that fills region j's page to its end.
 fn length_for(table: &[u32], x: u32, j: usize, n: u32) -> usize
     requires { ⌜ j < 4294967296 ⌝ }
+    ensures { λ r. ⌜ r < 4294967296 ⌝ }
 {
     let class = below(x, 16);
     if class == 0 {
@@ -163,43 +175,46 @@ fn length_for(table: &[u32], x: u32, j: usize, n: u32) -> usize
     below(next(x), 9) as usize
 }
 
-// A value more, whose pointer goes into the pool.
+// The record after an allocation; the pointer to a new value goes into the pool.
+fn stored(bag: &mut [u32], x: u32, v: Valued) -> Control {
+    match v {
+        Valued::Done(w, c) => {
+            write(bag, below(x, 64) as usize, wide(w));
+            c
+        }
+        Valued::Refused(_, c) => c,
+    }
+}
+
+// A value more in region j: of the first m words behind the pool.
 fn store(
     heap: &mut [u32],
     table: &mut [u32],
     roots: &[u32],
     consts: &[u32],
-    pool: &mut [u32],
+    bag: &mut [u32],
     s: Stand,
     j: usize,
     kind: Kind,
-    words: &[u32],
-) -> Stand {
-    match allocate(heap, table, roots, consts, s.c, Region(j), kind, words) {
-        Valued::Done(w, c) => {
-            write(pool, below(s.x, 64) as usize, wide(w));
-            Stand { x: s.x, c: c }
-        }
-        Valued::Refused(_, c) => Stand { x: s.x, c: c },
-    }
-}
-
-fn store_words(
-    heap: &mut [u32],
-    table: &mut [u32],
-    roots: &[u32],
-    consts: &[u32],
-    pool: &mut [u32],
-    s: Stand,
-    j: usize,
-    kind: Kind,
-    words: &[u32],
     m: usize,
-) -> Stand {
-    if words.len() < m {
-        return s;
+) -> Control
+    requires { ⌜ m < 4294967296 ⌝ }
+{
+    let end = 64 + m;
+    if bag.len() < end {
+        return s.c;
     }
-    store(heap, table, roots, consts, pool, s, j, kind, &words[0..m])
+    let v = allocate(
+        heap,
+        table,
+        roots,
+        consts,
+        s.c,
+        Region(j),
+        kind,
+        &bag[64..end],
+    );
+    stored(bag, s.x, v)
 }
 
 fn kind_for(any: bool) -> Kind {
@@ -211,31 +226,20 @@ fn one_value(
     table: &mut [u32],
     roots: &[u32],
     consts: &[u32],
-    pool: &mut [u32],
-    words: &mut [u32],
+    bag: &mut [u32],
     s: Stand,
     pointers: u32,
 ) -> Stand {
-    let x = next(s.x);
-    let j = wide(below(x, s.c.regions));
-    let y = next(x);
-    let m = length_for(table, y, j, s.c.n);
-    let any = below(next(y), 4) == 0;
-    let z = fill_words(words, pool, y, pointers, any, m);
     let c = s.c;
+    let x = next(s.x);
+    let j = wide(below(x, c.regions));
+    let y = next(x);
+    let m = length_for(table, y, j, c.n);
+    let any = below(next(y), 4) == 0;
+    let z = fill_words(bag, y, pointers, any, m);
     let at = Stand { x: z, c: c };
-    store_words(
-        heap,
-        table,
-        roots,
-        consts,
-        pool,
-        at,
-        j,
-        kind_for(any),
-        words,
-        m,
-    )
+    let d = store(heap, table, roots, consts, bag, at, j, kind_for(any), m);
+    Stand { x: z, c: d }
 }
 
 // A field of one of the pool becomes a word: often the pointer to its own value.
@@ -244,19 +248,19 @@ fn one_assign(
     table: &[u32],
     roots: &[u32],
     consts: &[u32],
-    pool: &[u32],
+    bag: &[u32],
     s: Stand,
     pointers: u32,
 ) -> Stand {
     let x = next(s.x);
-    let target = narrow(word(pool, below(x, 64) as usize));
+    let target = pooled(bag, x);
     let y = next(x);
     let field = below(y, 9) as usize;
     let z = next(y);
     let w = if below(z, 4) == 0 {
         target
     } else {
-        word_for(pool, z, pointers)
+        word_for(bag, z, pointers)
     };
     let c = record_of(assign(heap, table, roots, consts, s.c, target, field, w));
     Stand { x: z, c: c }
@@ -268,13 +272,13 @@ fn one_pair(
     table: &[u32],
     roots: &[u32],
     consts: &[u32],
-    pool: &[u32],
+    bag: &[u32],
     s: Stand,
 ) -> Stand {
     let x = next(s.x);
-    let a = narrow(word(pool, below(x, 64) as usize));
+    let a = pooled(bag, x);
     let y = next(x);
-    let b = narrow(word(pool, below(y, 64) as usize));
+    let b = pooled(bag, y);
     let c = record_of(assign(heap, table, roots, consts, s.c, a, 0, b));
     let d = record_of(assign(heap, table, roots, consts, c, b, 0, a));
     Stand { x: y, c: d }
@@ -286,8 +290,7 @@ fn one_step(
     table: &mut [u32],
     roots: &[u32],
     consts: &[u32],
-    pool: &mut [u32],
-    words: &mut [u32],
+    bag: &mut [u32],
     s: Stand,
     pointers: u32,
 ) -> Stand {
@@ -296,12 +299,12 @@ fn one_step(
     let at = Stand { x: x, c: c };
     let class = below(x, 8);
     if class < 6 {
-        return one_value(heap, table, roots, consts, pool, words, at, pointers);
+        return one_value(heap, table, roots, consts, bag, at, pointers);
     }
     if class == 6 {
-        return one_assign(heap, table, roots, consts, pool, at, pointers);
+        return one_assign(heap, table, roots, consts, bag, at, pointers);
     }
-    one_pair(heap, table, roots, consts, pool, at)
+    one_pair(heap, table, roots, consts, bag, at)
 }
 
 // Steps until no more pages are free than shall stay, and a few in any case.
@@ -310,21 +313,17 @@ fn steps(
     table: &mut [u32],
     roots: &[u32],
     consts: &[u32],
-    pool: &mut [u32],
-    words: &mut [u32],
+    bag: &mut [u32],
     s: Stand,
-    keep: u32,
-    pointers: u32,
+    shape: Shape,
 ) -> Stand {
     let mut now = s;
     let mut left: u32 = 40000;
     while 0 < left {
-        if left < 39988 {
-            if now.c.count <= keep {
-                return now;
-            }
+        if left < 39988 && now.c.count <= shape.keep {
+            return now;
         }
-        now = one_step(heap, table, roots, consts, pool, words, now, pointers);
+        now = one_step(heap, table, roots, consts, bag, now, shape.pointers);
         left -= 1;
     }
     now
@@ -336,58 +335,45 @@ fn name_roots(
     table: &[u32],
     roots: &mut [u32],
     consts: &[u32],
-    pool: &[u32],
+    bag: &[u32],
     s: Stand,
-) -> Stand {
+) -> Control {
     let mut now = s;
     let mut i: usize = 0;
     while i < roots.len() {
         let x = next(now.x);
-        let w = word_for(pool, x, 3);
+        let w = word_for(bag, x, 3);
         let c = record_of(set_root(heap, table, roots, consts, now.c, i, w));
         now = Stand { x: x, c: c };
         i += 1;
     }
-    now
+    now.c
 }
 
-// A sample of this shape, its regions empty. The pool has 64 words, all 1 before.
+// A sample of this shape, its regions empty.
 fn begin(
     heap: &mut [u32],
     table: &mut [u32],
     roots: &mut [u32],
     consts: &[u32],
-    x: u32,
     shape: Shape,
-) -> Stand {
+) -> Control {
     let c = opened(set_up(heap, table, roots, consts, shape.n));
-    let d = push_all(heap, table, roots, consts, c, shape.regions);
-    Stand { x: x, c: d }
+    push_all(heap, table, roots, consts, c, shape.regions)
 }
 
-// The sample with the start x.
+// The sample with the start x. The bag has a pool of 64 words, and room for the longest value.
 pub fn make(
     heap: &mut [u32],
     table: &mut [u32],
     roots: &mut [u32],
     consts: &[u32],
-    pool: &mut [u32],
-    words: &mut [u32],
     x: u32,
     shape: Shape,
 ) -> Control {
-    let s = begin(heap, table, roots, consts, x, shape);
-    let t = steps(
-        heap,
-        table,
-        roots,
-        consts,
-        pool,
-        words,
-        s,
-        shape.keep,
-        shape.pointers,
-    );
-    let u = name_roots(heap, table, roots, consts, pool, t);
-    u.c
+    let mut bag = [1u32; 317];
+    let c = begin(heap, table, roots, consts, shape);
+    let s = Stand { x: x, c: c };
+    let t = steps(heap, table, roots, consts, &mut bag, s, shape);
+    name_roots(heap, table, roots, consts, &bag, t)
 }

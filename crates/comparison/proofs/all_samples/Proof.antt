@@ -7,10 +7,10 @@ use Rattle.comparison.proofs.all_samples.Statement.{statement}
 use Rattle.comparison.proofs.all_samples.Tie as tie
 
 abbrev Inv-loop : tie.InvT-loop
-Inv-loop most sums₀ before₀ living₀ i₀ sums before living i = (length sums ≡ length sums₀) × (length before ≡ length before₀) × (length living ≡ length living₀) × (i ≤ most)
+Inv-loop most sums₀ i₀ sums i = (length sums ≡ length sums₀) × (i ≤ most)
 
 abbrev μ-loop : tie.MeasureT-loop
-μ-loop most sums₀ before₀ living₀ i₀ sums before living i = most - i
+μ-loop most sums₀ i₀ sums i = most - i
 
 loop-holds : tie.Need-loop-holds Inv-loop μ-loop
 loop-holds c = search needs
@@ -30,12 +30,6 @@ loop-again c = search needs
 same-length : tie.Need-same-length Inv-loop μ-loop
 same-length c = search needs
 
-same-length-2 : tie.Need-same-length-2 Inv-loop μ-loop
-same-length-2 c = search needs
-
-same-length-3 : tie.Need-same-length-3 Inv-loop μ-loop
-same-length-3 c = search needs
-
 returns : tie.Need-returns Inv-loop μ-loop
 returns c = search needs
 
@@ -51,6 +45,4 @@ all-samples-spec =
     loop-less
     loop-again
     same-length
-    same-length-2
-    same-length-3
     returns)

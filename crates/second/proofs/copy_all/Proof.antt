@@ -1,16 +1,16 @@
--- `second::copy_all` is safe and ends: the place never passes the count.
-use Prim.Native.Nat.{_-_, _≤_}
+-- `second::copy_all` is safe and ends: the words grow up to their count.
 use mathlib.Core.Path.{_≡_}
+use Prim.Native.Nat.{_-_, _≤_}
 use lib.ListN.{length}
 use borrow.Author.Needs.{needs}
 use Rattle.second.proofs.copy_all.Statement.{statement}
 use Rattle.second.proofs.copy_all.Tie as tie
 
 abbrev Inv-loop : tie.InvT-loop
-Inv-loop words heap new-heap₀ free copies₀ book₀ side₀ n a m i₀ new-heap copies book side i = (length new-heap ≡ length new-heap₀) × (length copies ≡ length copies₀) × (length book ≡ length book₀) × (length side ≡ length side₀) × (i ≤ m)
+Inv-loop old new₀ book₀ n a m i₀ new book i = (length new ≡ length new₀) × (length book ≡ length book₀) × (i ≤ m)
 
 abbrev μ-loop : tie.MeasureT-loop
-μ-loop words heap new-heap₀ free copies₀ book₀ side₀ n a m i₀ new-heap copies book side i = m - i
+μ-loop old new₀ book₀ n a m i₀ new book i = m - i
 
 loop-holds : tie.Need-loop-holds Inv-loop μ-loop
 loop-holds c = search needs
@@ -30,12 +30,6 @@ same-length c = search needs
 same-length-2 : tie.Need-same-length-2 Inv-loop μ-loop
 same-length-2 c = search needs
 
-same-length-3 : tie.Need-same-length-3 Inv-loop μ-loop
-same-length-3 c = search needs
-
-same-length-4 : tie.Need-same-length-4 Inv-loop μ-loop
-same-length-4 c = search needs
-
 returns : tie.Need-returns Inv-loop μ-loop
 returns c = search needs
 
@@ -48,17 +42,11 @@ loop-less c = search needs
 loop-again : tie.Need-loop-again Inv-loop μ-loop
 loop-again c = search needs
 
-same-length-5 : tie.Need-same-length-5 Inv-loop μ-loop
-same-length-5 c = search needs
+same-length-3 : tie.Need-same-length-3 Inv-loop μ-loop
+same-length-3 c = search needs
 
-same-length-6 : tie.Need-same-length-6 Inv-loop μ-loop
-same-length-6 c = search needs
-
-same-length-7 : tie.Need-same-length-7 Inv-loop μ-loop
-same-length-7 c = search needs
-
-same-length-8 : tie.Need-same-length-8 Inv-loop μ-loop
-same-length-8 c = search needs
+same-length-4 : tie.Need-same-length-4 Inv-loop μ-loop
+same-length-4 c = search needs
 
 returns-2 : tie.Need-returns-2 Inv-loop μ-loop
 returns-2 c = search needs
@@ -75,14 +63,10 @@ copy-all-spec =
     copy-named-requires
     same-length
     same-length-2
-    same-length-3
-    same-length-4
     returns
     add-i
     loop-less
     loop-again
-    same-length-5
-    same-length-6
-    same-length-7
-    same-length-8
+    same-length-3
+    same-length-4
     returns-2)

@@ -1,16 +1,16 @@
--- `second::copy_words` is safe and ends: the place never passes the count, and storing keeps the length.
-use Prim.Native.Nat.{_-_, _≤_}
+-- `second::copy_words` is safe and ends: the words grow up to their count.
 use mathlib.Core.Path.{_≡_}
+use Prim.Native.Nat.{_-_, _≤_}
 use lib.ListN.{length}
 use borrow.Author.Needs.{needs}
 use Rattle.second.proofs.copy_words.Statement.{statement}
 use Rattle.second.proofs.copy_words.Tie as tie
 
 abbrev Inv-loop : tie.InvT-loop
-Inv-loop heap new-heap₀ a b m i₀ new-heap i = (length new-heap ≡ length new-heap₀) × (i ≤ m)
+Inv-loop from to₀ a b m i₀ to i = (length to ≡ length to₀) × (i ≤ m)
 
 abbrev μ-loop : tie.MeasureT-loop
-μ-loop heap new-heap₀ a b m i₀ new-heap i = m - i
+μ-loop from to₀ a b m i₀ to i = m - i
 
 loop-holds : tie.Need-loop-holds Inv-loop μ-loop
 loop-holds c = search needs

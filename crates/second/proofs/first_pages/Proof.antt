@@ -1,16 +1,16 @@
--- `second::first_pages` is safe and ends: the region grows up to the number of regions.
-use Prim.Native.Nat.{_-_, _≤_}
+-- `second::first_pages` is safe and ends: the regions grow up to their count.
 use mathlib.Core.Path.{_≡_}
+use Prim.Native.Nat.{_-_, _≤_}
 use lib.ListN.{length}
 use borrow.Author.Needs.{needs}
 use Rattle.second.proofs.first_pages.Statement.{statement}
 use Rattle.second.proofs.first_pages.Tie as tie
 
 abbrev Inv-loop : tie.InvT-loop
-Inv-loop new-heap₀ free book₀ n regions j₀ new-heap book j = (length new-heap ≡ length new-heap₀) × (length book ≡ length book₀) × (j ≤ regions)
+Inv-loop new₀ book₀ n regions j₀ new book j = (length new ≡ length new₀) × (length book ≡ length book₀) × (j ≤ regions)
 
 abbrev μ-loop : tie.MeasureT-loop
-μ-loop new-heap₀ free book₀ n regions j₀ new-heap book j = regions - j
+μ-loop new₀ book₀ n regions j₀ new book j = regions - j
 
 loop-holds : tie.Need-loop-holds Inv-loop μ-loop
 loop-holds c = search needs

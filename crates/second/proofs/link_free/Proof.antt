@@ -1,37 +1,31 @@
--- `second::link_free` is safe and ends: the place grows up to the last one.
-use Prim.Native.Nat.{_-_, _≤_}
+-- `second::link_free` is safe and ends: the place in the list grows up to the last one.
 use mathlib.Core.Path.{_≡_}
+use Prim.Native.Nat.{_-_}
 use lib.ListN.{length}
 use borrow.Author.Needs.{needs}
 use Rattle.second.proofs.link_free.Statement.{statement}
 use Rattle.second.proofs.link_free.Tie as tie
 
 abbrev Inv-loop : tie.InvT-loop
-Inv-loop new-heap₀ free n from to i₀ new-heap i = length new-heap ≡ length new-heap₀
+Inv-loop new₀ book n from to i₀ new i = length new ≡ length new₀
 
 abbrev μ-loop : tie.MeasureT-loop
-μ-loop new-heap₀ free n from to i₀ new-heap i = to - i
+μ-loop new₀ book n from to i₀ new i = to - i
 
 loop-holds : tie.Need-loop-holds Inv-loop μ-loop
 loop-holds c = search needs
 
-get-requires : tie.Need-get-requires Inv-loop μ-loop
-get-requires c κs = search needs
-
-add-base : tie.Need-add-base Inv-loop μ-loop
-add-base c = search needs
+listed-at-requires : tie.Need-listed-at-requires Inv-loop μ-loop
+listed-at-requires c κs = search needs
 
 base-requires : tie.Need-base-requires Inv-loop μ-loop
 base-requires c κs = search needs
 
-add-get : tie.Need-add-get Inv-loop μ-loop
-add-get c = search needs
+add-listed-at : tie.Need-add-listed-at Inv-loop μ-loop
+add-listed-at c = search needs
 
-get-requires-2 : tie.Need-get-requires-2 Inv-loop μ-loop
-get-requires-2 c κs = search needs
-
-add-set : tie.Need-add-set Inv-loop μ-loop
-add-set c = search needs
+listed-at-requires-2 : tie.Need-listed-at-requires-2 Inv-loop μ-loop
+listed-at-requires-2 c κs = search needs
 
 set-requires : tie.Need-set-requires Inv-loop μ-loop
 set-requires c κs = search needs
@@ -58,12 +52,10 @@ link-free-spec =
     Inv-loop
     μ-loop
     loop-holds
-    get-requires
-    add-base
+    listed-at-requires
     base-requires
-    add-get
-    get-requires-2
-    add-set
+    add-listed-at
+    listed-at-requires-2
     set-requires
     add-i
     loop-less

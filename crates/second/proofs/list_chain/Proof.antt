@@ -1,5 +1,4 @@
 -- `second::list_chain` is safe and ends: each turn uses up one of the pages that may be listed.
-use Prim.Native.Nat.{_-_, _≤_}
 use mathlib.Core.Path.{_≡_}
 use lib.ListN.{length}
 use borrow.Author.Needs.{needs}
@@ -7,19 +6,16 @@ use Rattle.second.proofs.list_chain.Statement.{statement}
 use Rattle.second.proofs.list_chain.Tie as tie
 
 abbrev Inv-loop : tie.InvT-loop
-Inv-loop heap free₀ book₀ n link most next₀ left₀ free book next left = (length free ≡ length free₀) × (length book ≡ length book₀) × (next ≤ 4294967296)
+Inv-loop old book₀ n link most next₀ left₀ book next left = length book ≡ length book₀
 
 abbrev μ-loop : tie.MeasureT-loop
-μ-loop heap free₀ book₀ n link most next₀ left₀ free book next left = left
+μ-loop old book₀ n link most next₀ left₀ book next left = left
 
 loop-holds : tie.Need-loop-holds Inv-loop μ-loop
 loop-holds c = search needs
 
 same-length : tie.Need-same-length Inv-loop μ-loop
 same-length c = search needs
-
-same-length-2 : tie.Need-same-length-2 Inv-loop μ-loop
-same-length-2 c = search needs
 
 returns : tie.Need-returns Inv-loop μ-loop
 returns c = search needs
@@ -45,11 +41,8 @@ loop-less c = search needs
 loop-again : tie.Need-loop-again Inv-loop μ-loop
 loop-again c = search needs
 
-same-length-3 : tie.Need-same-length-3 Inv-loop μ-loop
-same-length-3 c = search needs
-
-same-length-4 : tie.Need-same-length-4 Inv-loop μ-loop
-same-length-4 c = search needs
+same-length-2 : tie.Need-same-length-2 Inv-loop μ-loop
+same-length-2 c = search needs
 
 returns-2 : tie.Need-returns-2 Inv-loop μ-loop
 returns-2 c = search needs
@@ -62,7 +55,6 @@ list-chain-spec =
     μ-loop
     loop-holds
     same-length
-    same-length-2
     returns
     sub-list-page
     list-page-requires
@@ -71,6 +63,5 @@ list-chain-spec =
     sub-left
     loop-less
     loop-again
-    same-length-3
-    same-length-4
+    same-length-2
     returns-2)

@@ -1,16 +1,16 @@
--- `second::list_old` is safe and ends: the region grows up to the number of regions.
-use Prim.Native.Nat.{_-_, _≤_}
+-- `second::list_old` is safe and ends: the regions grow up to their count.
 use mathlib.Core.Path.{_≡_}
+use Prim.Native.Nat.{_-_, _≤_}
 use lib.ListN.{length}
 use borrow.Author.Needs.{needs}
 use Rattle.second.proofs.list_old.Statement.{statement}
 use Rattle.second.proofs.list_old.Tie as tie
 
 abbrev Inv-loop : tie.InvT-loop
-Inv-loop heap table free₀ book₀ n regions pages j₀ free book j = (length free ≡ length free₀) × (length book ≡ length book₀) × (j ≤ regions)
+Inv-loop old book₀ n regions j₀ book j = (length book ≡ length book₀) × (j ≤ regions)
 
 abbrev μ-loop : tie.MeasureT-loop
-μ-loop heap table free₀ book₀ n regions pages j₀ free book j = regions - j
+μ-loop old book₀ n regions j₀ book j = regions - j
 
 loop-holds : tie.Need-loop-holds Inv-loop μ-loop
 loop-holds c = search needs
@@ -21,14 +21,14 @@ mul-get c = search needs
 add-get : tie.Need-add-get Inv-loop μ-loop
 add-get c = search needs
 
+add-get-2 : tie.Need-add-get-2 Inv-loop μ-loop
+add-get-2 c = search needs
+
 get-requires : tie.Need-get-requires Inv-loop μ-loop
 get-requires c κs = search needs
 
-page-of-requires : tie.Need-page-of-requires Inv-loop μ-loop
-page-of-requires c κs = search needs
-
-add-first : tie.Need-add-first Inv-loop μ-loop
-add-first c = search needs
+link-of-requires : tie.Need-link-of-requires Inv-loop μ-loop
+link-of-requires c κs = search needs
 
 list-chain-requires : tie.Need-list-chain-requires Inv-loop μ-loop
 list-chain-requires c κs = search needs
@@ -45,9 +45,6 @@ loop-again c = search needs
 same-length : tie.Need-same-length Inv-loop μ-loop
 same-length c = search needs
 
-same-length-2 : tie.Need-same-length-2 Inv-loop μ-loop
-same-length-2 c = search needs
-
 returns : tie.Need-returns Inv-loop μ-loop
 returns c = search needs
 
@@ -60,13 +57,12 @@ list-old-spec =
     loop-holds
     mul-get
     add-get
+    add-get-2
     get-requires
-    page-of-requires
-    add-first
+    link-of-requires
     list-chain-requires
     add-j
     loop-less
     loop-again
     same-length
-    same-length-2
     returns)

@@ -1,16 +1,16 @@
--- `second::write_all` is safe and ends: the place never passes the count.
-use Prim.Native.Nat.{_-_, _≤_}
+-- `second::write_all` is safe and ends: the words grow up to their count.
 use mathlib.Core.Path.{_≡_}
+use Prim.Native.Nat.{_-_, _≤_}
 use lib.ListN.{length}
 use borrow.Author.Needs.{needs}
 use Rattle.second.proofs.write_all.Statement.{statement}
 use Rattle.second.proofs.write_all.Tie as tie
 
 abbrev Inv-loop : tie.InvT-loop
-Inv-loop words target₀ side a b m i₀ target i = (length target ≡ length target₀) × (i ≤ m)
+Inv-loop old new₀ book a b m i₀ new i = (length new ≡ length new₀) × (i ≤ m)
 
 abbrev μ-loop : tie.MeasureT-loop
-μ-loop words target₀ side a b m i₀ target i = m - i
+μ-loop old new₀ book a b m i₀ new i = m - i
 
 loop-holds : tie.Need-loop-holds Inv-loop μ-loop
 loop-holds c = search needs

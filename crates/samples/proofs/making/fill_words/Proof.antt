@@ -1,4 +1,4 @@
--- `samples::making::fill_words` is safe and ends: the place grows up to the count.
+-- `samples::making::fill_words` is safe and ends: the words grow up to their count.
 use mathlib.Core.Path.{_≡_}
 use Prim.Native.Nat.{_-_}
 use lib.ListN.{length}
@@ -7,10 +7,10 @@ use Rattle.samples.proofs.making.fill_words.Statement.{statement}
 use Rattle.samples.proofs.making.fill_words.Tie as tie
 
 abbrev Inv-loop : tie.InvT-loop
-Inv-loop words₀ pool x pointers any m y₀ i₀ words y i = length words ≡ length words₀
+Inv-loop bag₀ x pointers any m y₀ i₀ bag y i = length bag ≡ length bag₀
 
 abbrev μ-loop : tie.MeasureT-loop
-μ-loop words₀ pool x pointers any m y₀ i₀ words y i = m - i
+μ-loop bag₀ x pointers any m y₀ i₀ bag y i = m - i
 
 loop-holds : tie.Need-loop-holds Inv-loop μ-loop
 loop-holds c = search needs
@@ -23,6 +23,9 @@ value-word-requires c κs = search needs
 
 wide-requires : tie.Need-wide-requires Inv-loop μ-loop
 wide-requires c κs = search needs
+
+add-write : tie.Need-add-write Inv-loop μ-loop
+add-write c = search needs
 
 write-requires : tie.Need-write-requires Inv-loop μ-loop
 write-requires c κs = search needs
@@ -52,6 +55,7 @@ fill-words-spec =
     next-requires
     value-word-requires
     wide-requires
+    add-write
     write-requires
     add-i
     loop-less

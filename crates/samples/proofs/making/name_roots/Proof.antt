@@ -1,4 +1,4 @@
--- `samples::making::name_roots` is safe and ends: the root's number grows up to their count.
+-- `samples::making::name_roots` is safe and ends: the roots grow up to their count.
 use mathlib.Core.Path.{_≡_}
 use Prim.Native.Nat.{_-_, _≤_}
 use lib.ListN.{length}
@@ -7,10 +7,10 @@ use Rattle.samples.proofs.making.name_roots.Statement.{statement}
 use Rattle.samples.proofs.making.name_roots.Tie as tie
 
 abbrev Inv-loop : tie.InvT-loop
-Inv-loop heap table roots₀ consts pool now₀ i₀ roots now i = (length roots ≡ length roots₀) × (i ≤ length roots)
+Inv-loop heap table roots₀ consts bag now₀ i₀ roots now i = (length roots ≡ length roots₀) × (i ≤ length roots)
 
 abbrev μ-loop : tie.MeasureT-loop
-μ-loop heap table roots₀ consts pool now₀ i₀ roots now i = length roots₀ - i
+μ-loop heap table roots₀ consts bag now₀ i₀ roots now i = length roots₀ - i
 
 loop-holds : tie.Need-loop-holds Inv-loop μ-loop
 loop-holds c = search needs

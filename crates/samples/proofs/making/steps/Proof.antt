@@ -6,10 +6,10 @@ use Rattle.samples.proofs.making.steps.Statement.{statement}
 use Rattle.samples.proofs.making.steps.Tie as tie
 
 abbrev Inv-loop : tie.InvT-loop
-Inv-loop heap₀ table₀ roots consts pool₀ words₀ keep pointers now₀ left₀ heap table pool words now left = (length heap ≡ length heap₀) × (length table ≡ length table₀) × (length pool ≡ length pool₀) × (length words ≡ length words₀)
+Inv-loop heap₀ table₀ roots consts bag₀ shape now₀ left₀ heap table bag now left = (length heap ≡ length heap₀) × (length table ≡ length table₀) × (length bag ≡ length bag₀)
 
 abbrev μ-loop : tie.MeasureT-loop
-μ-loop heap₀ table₀ roots consts pool₀ words₀ keep pointers now₀ left₀ heap table pool words now left = left
+μ-loop heap₀ table₀ roots consts bag₀ shape now₀ left₀ heap table bag now left = left
 
 loop-holds : tie.Need-loop-holds Inv-loop μ-loop
 loop-holds c = search needs
@@ -22,9 +22,6 @@ same-length-2 c = search needs
 
 same-length-3 : tie.Need-same-length-3 Inv-loop μ-loop
 same-length-3 c = search needs
-
-same-length-4 : tie.Need-same-length-4 Inv-loop μ-loop
-same-length-4 c = search needs
 
 returns : tie.Need-returns Inv-loop μ-loop
 returns c = search needs
@@ -41,17 +38,14 @@ loop-less c = search needs
 loop-again : tie.Need-loop-again Inv-loop μ-loop
 loop-again c = search needs
 
+same-length-4 : tie.Need-same-length-4 Inv-loop μ-loop
+same-length-4 c = search needs
+
 same-length-5 : tie.Need-same-length-5 Inv-loop μ-loop
 same-length-5 c = search needs
 
 same-length-6 : tie.Need-same-length-6 Inv-loop μ-loop
 same-length-6 c = search needs
-
-same-length-7 : tie.Need-same-length-7 Inv-loop μ-loop
-same-length-7 c = search needs
-
-same-length-8 : tie.Need-same-length-8 Inv-loop μ-loop
-same-length-8 c = search needs
 
 returns-2 : tie.Need-returns-2 Inv-loop μ-loop
 returns-2 c = search needs
@@ -66,14 +60,12 @@ steps-spec =
     same-length
     same-length-2
     same-length-3
-    same-length-4
     returns
     one-step-requires
     sub-left
     loop-less
     loop-again
+    same-length-4
     same-length-5
     same-length-6
-    same-length-7
-    same-length-8
     returns-2)
