@@ -64,7 +64,7 @@ fn paging() {
 }
 
 // A walk on the heap that a recipe makes.
-fn walks(name: &[u8], root: usize, path: &[u32], recipe: &[u8]) {
+fn walks_on(recipe: &[u8], name: &[u8], root: usize, path: &[u32]) {
     let mut heap = [0u32; 32];
     let mut table = [0u32; 256];
     let mut roots = [0u32; 1];
@@ -75,61 +75,71 @@ fn walks(name: &[u8], root: usize, path: &[u32], recipe: &[u8]) {
     say::text(b"\n");
 }
 
-fn paths() {
-    walks(b"walk from root 0 by 0: ", 0, &[0], b"label;");
-    walks(b"walk from root 0 by 1: ", 0, &[1], b"label;");
-    walks(b"walk from root 0 by 0, 0: ", 0, &[0, 0], b"label;");
-    walks(b"walk from root 0 by 1, 0: ", 0, &[1, 0], b"label;");
-    walks(b"walk from root 0 by 2: ", 0, &[2], b"label;");
+fn walks(name: &[u8], path: &[u32]) {
+    walks_on(b"label;", name, 0, path);
 }
 
 fn walking() {
-    let here = [0u32; 0];
-    walks(b"walk from root 0: ", 0, &here, b"label;");
-    paths();
-    walks(b"walk from root 1: ", 1, &here, b"label;");
-    walks(
+    walks(b"walk from root 0: ", &[0u32; 0]);
+    walks(b"walk from root 0 by 0: ", &[0u32; 1]);
+    walks(b"walk from root 0 by 1: ", &[1u32; 1]);
+    walks(b"walk from root 0 by 0, 0: ", &[0u32; 2]);
+    walks(b"walk from root 0 by 1, 0: ", &[1, 0]);
+    walks(b"walk from root 0 by 2: ", &[2u32; 1]);
+}
+
+fn no_walks() {
+    walks_on(b"label;", b"walk from root 1: ", 1, &[0u32; 0]);
+    walks_on(
+        b"label;spoil 0 12;",
         b"walk from root 0, which is 12: ",
         0,
-        &here,
-        b"label;spoil 0 12;",
+        &[0u32; 0],
     );
 }
 
-// A word to a field, on the heap that a recipe makes, and what it left.
-fn assigns(name: &[u8], w: u32, field: usize, word: u32, recipe: &[u8]) {
+fn assign_asked(w: u32, field: usize, word: u32) {
+    say::text(b"assign ");
+    say::decimal(word);
+    say::text(b" to field ");
+    io::print_decimal(1, field as u64);
+    say::text(b" of ");
+    say::decimal(w);
+    say::text(b": ");
+}
+
+// A word to a field of what w points to, on the heap that a recipe makes, and what it left.
+fn assigns_on(recipe: &[u8], w: u32, field: usize, word: u32) {
     let mut heap = [0u32; 32];
     let mut table = [0u32; 256];
     let mut roots = [0u32; 1];
     let consts = [9u32, 7];
     let c = heaps::made(&mut heap, &mut table, &mut roots, &consts, recipe);
     let before = lent::sum(&heap, &table, &roots);
-    say::text(name);
+    assign_asked(w, field, word);
     let after = say::plain(assign(&mut heap, &table, &roots, &consts, c, w, field, word));
     lent::report(before, c, &heap, &table, &roots, after);
 }
 
+fn assigns(w: u32, field: usize, word: u32) {
+    assigns_on(b"label;", w, field, word);
+}
+
 // A target that is none, or that takes no word.
 fn targets() {
-    assigns(b"assign 1 to field 0 of 12: ", 12, 0, 1, b"label;");
-    assigns(b"assign 1 to field 0 of 6: ", 6, 0, 1, b"label;");
-    assigns(b"assign 1 to field 0 of 1: ", 1, 0, 1, b"label;");
-    assigns(b"assign 1 to field 0 of 2: ", 2, 0, 1, b"label;");
-    assigns(b"assign 1 to field 0 of 8: ", 8, 0, 1, b"label;");
+    assigns(12, 0, 1);
+    assigns(6, 0, 1);
+    assigns(1, 0, 1);
+    assigns(2, 0, 1);
+    assigns(8, 0, 1);
 }
 
 fn assigning() {
-    assigns(b"assign 5 to field 1 of 20: ", 20, 1, 5, b"label;");
-    assigns(
-        b"assign 20 to field 0 of 20: ",
-        20,
-        0,
-        20,
-        b"label;assign 20 1 5;",
-    );
+    assigns(20, 1, 5);
+    assigns_on(b"label;assign 20 1 5;", 20, 0, 20);
     targets();
-    assigns(b"assign 1 to field 2 of 20: ", 20, 2, 1, b"label;");
-    assigns(b"assign 12 to field 0 of 20: ", 20, 0, 12, b"label;");
+    assigns(20, 2, 1);
+    assigns(20, 0, 12);
 }
 
 // A root to a word, on the heap that a recipe makes, and the roots after it.
@@ -158,6 +168,7 @@ pub fn soundings() {
     fetching();
     paging();
     walking();
+    no_walks();
     assigning();
     rooting();
 }

@@ -10,7 +10,7 @@
 // and what is done behind the calls:
 //   heap 6 12;  table 3 1;  spoil 0 12;      a word of the heap, of the table, of the roots
 //   control 1 2 2 1;                         R, free first, free last and free count of the record
-ghost use Prim.Native.Nat.{_≤_};
+ghost use Prim.Native.Nat.{_+_, _-_, _≤_};
 ghost use lib.ListN.{length};
 use crate::say;
 use access::set_root;
@@ -70,6 +70,13 @@ fn valued_record(v: Valued) -> Control {
     }
 }
 
+fn kind_of(letter: u8) -> Kind {
+    if letter == b'w' {
+        return Kind::Raw;
+    }
+    Kind::Record
+}
+
 // A value more: k numbers, its region and its words.
 fn stored(
     heap: &mut [u32],
@@ -77,7 +84,7 @@ fn stored(
     roots: &[u32],
     consts: &[u32],
     c: Control,
-    kind: Kind,
+    letter: u8,
     row: &[u32; 16],
     k: usize,
 ) -> Control {
@@ -90,6 +97,7 @@ fn stored(
     }
     let words = &all[1..k];
     let j = Region(place(row[0]));
+    let kind = kind_of(letter);
     valued_record(allocate(heap, table, roots, consts, c, j, kind, words))
 }
 
@@ -126,13 +134,26 @@ fn controlled(c: Control, row: &[u32; 16]) -> Control {
 }
 
 // A step behind the calls that changes a word of a part.
-fn spoiled(heap: &mut [u32], table: &mut [u32], roots: &mut [u32], letter: u8, a: u32, b: u32) {
+fn spoiled(heap: &mut [u32], table: &mut [u32], roots: &mut [u32], letter: u8, row: &[u32; 16]) {
     match letter {
-        b'h' => poke(heap, a, b),
-        b't' => poke(table, a, b),
-        b's' => poke(roots, a, b),
+        b'h' => poke(heap, row[0], row[1]),
+        b't' => poke(table, row[0], row[1]),
+        b's' => poke(roots, row[0], row[1]),
         _ => {}
     }
+}
+
+// A root becomes a word.
+fn rooted(
+    heap: &[u32],
+    table: &[u32],
+    roots: &mut [u32],
+    consts: &[u32],
+    c: Control,
+    row: &[u32; 16],
+) -> Control {
+    let root = place(row[0]);
+    record_of(set_root(heap, table, roots, consts, c, root, row[1]))
 }
 
 // A step of k numbers, by the letter that its name begins with.
@@ -146,17 +167,14 @@ fn done(
     row: &[u32; 16],
     k: usize,
 ) -> Control {
-    let a = row[0];
-    let b = row[1];
     match letter {
-        b'p' => pushed(heap, table, roots, consts, c, a),
-        b'r' => stored(heap, table, roots, consts, c, Kind::Record, row, k),
-        b'w' => stored(heap, table, roots, consts, c, Kind::Raw, row, k),
+        b'p' => pushed(heap, table, roots, consts, c, row[0]),
+        b'r' | b'w' => stored(heap, table, roots, consts, c, letter, row, k),
         b'a' => assigned(heap, table, roots, consts, c, row),
-        b'n' => record_of(set_root(heap, table, roots, consts, c, place(a), b)),
+        b'n' => rooted(heap, table, roots, consts, c, row),
         b'c' => controlled(c, row),
         _ => {
-            spoiled(heap, table, roots, letter, a, b);
+            spoiled(heap, table, roots, letter, row);
             c
         }
     }
@@ -223,14 +241,13 @@ fn step(
     done(heap, table, roots, consts, c, first(text), &row, k)
 }
 
-// Where the step that starts at a place ends: at its semicolon.
-fn end_of(recipe: &[u8], from: usize) -> usize
-    requires { ⌜ from ≤ length (now recipe) ⌝ }
-    ensures { λ r. ⌜ (from ≤ r) × (r ≤ length (now (recipe .entry))) ⌝ }
+// Where what starts at a place ends: at the first such byte, or with the text.
+pub fn end_of(text: &[u8], from: usize, byte: u8) -> usize
+    ensures { λ r. ⌜ (from ≤ r) × (r ≤ from + (length (now (text .entry)) - from)) ⌝ }
 {
     let mut e = from;
-    while e < recipe.len() {
-        if recipe[e] == b';' {
+    while e < text.len() {
+        if text[e] == byte {
             return e;
         }
         e += 1;
@@ -250,7 +267,7 @@ fn follow(
     let mut now = c;
     let mut at = 0;
     while at < recipe.len() {
-        let e = end_of(recipe, at);
+        let e = end_of(recipe, at, b';');
         now = step(heap, table, roots, consts, now, &recipe[at..e]);
         at = e + 1;
     }

@@ -1,15 +1,15 @@
--- `telling::heaps::end_of` is right and ends: the place starts at from and grows up to the recipe's length.
-use Prim.Native.Nat.{_-_, _≤_}
+-- `telling::heaps::end_of` is right and ends: the place starts at from and grows up to the text's length.
+use Prim.Native.Nat.{_+_, _-_, _≤_}
 use lib.ListN.{length}
 use borrow.Author.Needs.{needs}
 use Rattle.telling.proofs.heaps.end_of.Statement.{statement}
 use Rattle.telling.proofs.heaps.end_of.Tie as tie
 
 abbrev Inv-loop : tie.InvT-loop
-Inv-loop recipe from e₀ e = (from ≤ e) × (e ≤ length recipe)
+Inv-loop text from byte e₀ e = (from ≤ e) × (e ≤ from + (length text - from))
 
 abbrev μ-loop : tie.MeasureT-loop
-μ-loop recipe from e₀ e = length recipe - e
+μ-loop text from byte e₀ e = length text - e
 
 loop-holds : tie.Need-loop-holds Inv-loop μ-loop
 loop-holds c = search needs
