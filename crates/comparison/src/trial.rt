@@ -8,6 +8,8 @@ use rules::Control;
 use rules::Plain;
 use rules::Refusal;
 use samples::making::record_of;
+use second::BOOKS;
+use second::WHOLE;
 use second::collect_again;
 use second::lay_out;
 
@@ -25,19 +27,19 @@ fn same(a: &[u32], b: &[u32]) -> bool {
 
 // The second collector into a heap that is all 0 before; false where a page was lacking.
 fn again(old: &[u32], new: &mut [u32]) -> bool {
-    let mut book = [0u32; 266820];
+    let mut book = [0u32; BOOKS];
     collect_again(old, new, &mut book)
 }
 
 // Whether the second collector finishes with the words and the record that the first one left.
 fn finishes_so(old: &[u32], now: &[u32]) -> bool {
-    let mut new = [0u32; 66822];
+    let mut new = [0u32; WHOLE];
     again(old, &mut new) && same(now, &new)
 }
 
 // Whether the second collector lacks a page too.
 fn lacks_too(old: &[u32]) -> bool {
-    let mut new = [0u32; 66822];
+    let mut new = [0u32; WHOLE];
     !again(old, &mut new)
 }
 
@@ -56,7 +58,7 @@ fn made_so(answer: Plain, old: &[u32], now: &[u32]) -> bool {
 }
 
 fn agrees(answer: Plain, old: &[u32], heap: &[u32], table: &[u32], roots: &[u32]) -> bool {
-    let mut now = [0u32; 66822];
+    let mut now = [0u32; WHOLE];
     lay_out(&mut now, heap, table, roots, record_of(answer));
     made_so(answer, old, &now)
 }
@@ -70,7 +72,7 @@ pub fn both(
     c: Control,
     sums: &mut [u32],
 ) -> Plain {
-    let mut old = [0u32; 66822];
+    let mut old = [0u32; WHOLE];
     lay_out(&mut old, heap, table, roots, c);
     let answer = collect(heap, table, roots, consts, c);
     ended(sums, answer, c, agrees(answer, &old, heap, table, roots));

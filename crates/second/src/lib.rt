@@ -18,8 +18,7 @@
 //   580 + 4i + 3  the next copy of its region, number plus 1, 0 where it is the last
 //   262724 to 266819  the list of free pages
 use rules::Control;
-ghost use mathlib.Core.Path.{_≡_};
-ghost use Prim.Native.Nat.{_+_, _*_, _/_, _^_, _≤_, _<_};
+ghost use Prim.Native.Nat.{_≤_, _<_};
 
 // The words of a heap with all that belongs to it, and of the books.
 pub const WHOLE: usize = 66822;
