@@ -1,7 +1,6 @@
 -- The fields of a copy scanned at work and in the plain run, one after the other: a copy stands behind its page's descriptor, so both read the same
 -- word and set it alike.
 use Prim.Native.Nat.{ℕ, zero, suc, _+_, _*_, _^_, _≤_, _<_}
-use native.Mathlib.Nat.{mul-le-mul-right}
 use native.Mathlib.Omega.{arith}
 use mathlib.Core.Path.{_≡_, refl, ap, _∙_}
 use mathlib.Core.Logic.{_≢_, _⊎_, inl, inr}
@@ -15,7 +14,7 @@ use Rattle.rules.specs.Words.{rec, headOf}
 use Rattle.rules.specs.Pages.{Run, withHeap}
 use Rattle.rules.specs.Collection.{evacuate, scanFields}
 use Rattle.facts.proofs.Steps.{steps-le}
-use Rattle.facts.proofs.Laid.{mine≢beyond}
+use Rattle.facts.proofs.Laid.{mine≢beyond, page-in}
 use Rattle.facts.proofs.Sound.{Sound}
 use Rattle.working.proofs.Log.{Copy}
 use Rattle.working.proofs.Invariant.{Ghost, Kept, Inv, Became}
@@ -76,7 +75,8 @@ module _ (s : Store) (S : Sound s) (g₀ : Ghost) (r₀ : Run) (c b l : ℕ) (he
       inside : (g′ : Ghost) (r′ : Run) → Inv s S g′ r′ → b + suc i < length (r′ .heap)
       inside g′ r′ I′ =
           let z = I′ .laid .size in
-          let p = mul-le-mul-right (2 ^ n) (Q .inv .laid .known (C .into) (λ q. mine≢beyond (C .into-mine) q)) in
+          let y = Q .inv .laid .size in
+          let p = page-in (Q .inv .laid) (C .into) (λ q. mine≢beyond (C .into-mine) q) in
           let hi = x-hi in
           omega arith
 

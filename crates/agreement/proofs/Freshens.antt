@@ -28,7 +28,8 @@ use Rattle.motion.specs.Leaves.{Desk, desk, depth, freeFirst, taken, freeLast, 
 use Rattle.motion.specs.Whole.{freshAt, freshOn, fresh}
 use Rattle.agreement.proofs.Matching.{Matching, bare}
 use Rattle.agreement.proofs.Frames.{set-alike, owning, by-owners, rows-on}
-use Rattle.agreement.proofs.Stuck.{Stuck, unmoved, stuck-fresh}
+use Rattle.working.proofs.Running.{unmoved}
+use Rattle.agreement.proofs.Stuck.{Stuck, stuck-fresh}
 use Rattle.agreement.proofs.Took as T
 
 -- the regions below j have their fresh page, in both

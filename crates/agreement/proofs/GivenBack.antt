@@ -1,7 +1,7 @@
 -- The old pages given back, by the notes and by the plain run: both clear the page and set it behind the last free one. The old chains are
 -- still as they were, since a page's link is read before the page is given back. So both end with the same heap and free list.
 use Prim.Native.Nat.{ℕ, zero, suc, _+_, _-_, _*_, _^_, _≤_, _<_}
-use native.Mathlib.Nat.{le-refl, mul-le-mul-right, mul-le-mul-left, mod-eq-of-lt}
+use native.Mathlib.Nat.{le-refl, mul-le-mul-left, mod-eq-of-lt}
 use native.Mathlib.Omega.{arith}
 use mathlib.Core.Path.{_≡_, refl, sym, ap, _∙_, subst}
 use mathlib.Core.Logic.{_≢_}
@@ -9,6 +9,7 @@ use mathlib.Core.List.{List, [], _∷_, _++_, List·Memᴰ, List·Memᴰ·head, 
 use lib.ListN.{length, set, length-set, length-append}
 use lib.Seq.{append-snoc, getD-set-same, getD-set-other, set-comm}
 use borrow.Author.Tests.{le-leb, eq-eqb, ne-eqb}
+use Rattle.laws.proofs.Lists.{one-part}
 use Rattle.laws.specs.Lists.{at, lastOr}
 use Rattle.laws.proofs.Once.{Once, once-tail, once-head, once-most, Last, later as further, last-in, Linked, linked-none, linked-first}
 use Rattle.rules.specs.Memory.{Store, pageCount, link, origin, firstLink, pagesFrom}
@@ -16,7 +17,7 @@ use Rattle.rules.specs.Audit.{lastLink}
 use Rattle.rules.specs.Pages.{Run, withFree, clearPage, giveBack, giveBackAll}
 use Rattle.rules.specs.Collection.{fromSpace}
 use Rattle.rules.proofs.Whole.{pages-of, pages-once}
-use Rattle.facts.proofs.Laid.{upd, upd-other, old≢spare, old≢beyond, spare≢beyond, mine≢beyond, Owner, old, spare, Layout}
+use Rattle.facts.proofs.Laid.{upd, upd-other, old≢spare, old≢beyond, spare≢beyond, mine≢beyond, Owner, old, spare, Layout, chain-body, page-in}
 use Rattle.facts.proofs.Given.{last-link, link-last, given as given-page}
 use Rattle.facts.proofs.Passing.{pages-are}
 use Rattle.facts.proofs.Steps.{steps-le}
@@ -25,7 +26,7 @@ use Rattle.working.proofs.Invariant.{Ghost, Inv}
 use Rattle.motion.specs.Leaves.{Desk, desk, low, freeFirst, taken, freeLast, given, pageStart}
 use Rattle.motion.specs.Whole.{giveOn, giveBack as giveDesk, linkOn, giveChain, giveAll}
 use Rattle.agreement.proofs.Matching.{Matching}
-use Rattle.facts.proofs.Cleared.{one-page, clear-else, first-link}
+use Rattle.facts.proofs.Cleared.{clear-else, first-link}
 use Rattle.agreement.proofs.Walked.{steps-keep, along-all}
 
 -- ---- one page, both ways: it is the only free page, or it follows page z
@@ -107,7 +108,7 @@ module _ (s : Store) (S : Sound s) (g : Ghost) (r : Run) (I : Inv s S g r) (d : 
     own-k = K .olds k (List·Memᴰ·head refl)
 
     k-in : k * P + P ≤ length (K .run .heap)
-    k-in = let a = K .laid .size in let b = mul-le-mul-right P (K .laid .known k (old≢beyond own-k)) in omega arith
+    k-in = page-in (K .laid) k (old≢beyond own-k)
 
     new : (l : ℕ) → List·Memᴰ l ls → l ≢ k
     new l m q = once-head (K .once) (subst (λ y. List·Memᴰ y ls) q m)
@@ -223,7 +224,7 @@ module _ (s : Store) (S : Sound s) (g : Ghost) (r : Run) (I : Inv s S g r) (d : 
                 not-last : (l : ℕ) → List·Memᴰ l ls → l * P ≡ z * P → ⊥
                 not-last l m w =
                     let b = S .laid .big in
-                    one-page n l z (l * P) (λ q. old≢spare (K .olds l (List·Memᴰ·tail m)) (ap (K .own) q ∙ own-z)) (le-refl _) (omega arith) (omega arith) (omega arith)
+                    one-part (2 ^ n) l z (l * P) (λ q. old≢spare (K .olds l (List·Memᴰ·tail m)) (ap (K .own) q ∙ own-z)) (le-refl _) (omega arith) (omega arith) (omega arith)
 
     pub give : (linkOn n e k ≡ link n (s .heap) k) × Giving ls (giveDesk n k e)
     give = (ap (λ h. link n h k) (K .heap) ∙ K .links k (List·Memᴰ·head refl), gives)
@@ -262,7 +263,7 @@ module _ (s : Store) (S : Sound s) (g : Ghost) (r : Run) (I : Inv s S g r) (d : 
   unfolding origin
   from-once =
       pages-once n (s .heap) (s .table) R (λ j b. rw (pages-are s S j b) (S .laid .mine-once j b))
-      (λ j k b m. S .laid .mine-body j k (S .laid .mine-own j k b (rw (pages-are s S j b) at m)) .whose)
+      (λ j k b m. chain-body (S .laid) j k b (rw (pages-are s S j b) at m) .whose)
       R 0 (omega arith)
 
   pub from-old : (k : ℕ) → List·Memᴰ k (fromSpace s) → g .own k ≡ old
@@ -284,7 +285,7 @@ module _ (s : Store) (S : Sound s) (g : Ghost) (r : Run) (I : Inv s S g r) (d : 
       in-other (C .from) lo (omega arith))
     where
       in-other : (f : ℕ) → f * P + 2 ≤ k * P → k * P < f * P + P → ⊥
-      in-other f lo hi = let b = S .laid .big in one-page n f k (k * P) (λ q. let w : f * P ≡ k * P = ap (λ y. y * P) q in omega arith) (omega arith) (omega arith) (le-refl _) (omega arith)
+      in-other f lo hi = let b = S .laid .big in one-part (2 ^ n) f k (k * P) (λ q. let w : f * P ≡ k * P = ap (λ y. y * P) q in omega arith) (omega arith) (omega arith) (le-refl _) (omega arith)
 
   -- the free list's last, where a page is free or none was taken
   last-free : (g .free ≡ [] → M .took ≡ []) → s .ctl .last ≡ r .last

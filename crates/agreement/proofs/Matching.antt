@@ -1,6 +1,6 @@
 -- How the collection at work matches the plain run at each step: their heaps have the same words but for the origins of the pages that were
 -- taken, where the one at work keeps the old free links; and the notes hold what the run's table, free list and scan stack hold.
-use Prim.Native.Nat.{ℕ, suc, _+_, _-_, _*_, _^_, _≤_, _<_}
+use Prim.Native.Nat.{ℕ, _+_, _-_, _*_, _^_, _≤_, _<_}
 use mathlib.Core.Path.{_≡_}
 use mathlib.Core.Logic.{_≢_, _↔_}
 use mathlib.Core.List.{List, [], _∷_, _++_, List·Memᴰ}

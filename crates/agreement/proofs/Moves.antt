@@ -1,7 +1,6 @@
 -- A value moved at work and in the plain run: a forward is met by both, or both lack a page, or both copy the same words to the same place and leave
 -- the forward. The value stands in an old page and its copy in a new one, so the two ranges lie apart, and no origin of a taken page is in either.
 use Prim.Native.Nat.{ℕ, suc, _+_, _-_, _*_, _/_, _%_, _^_, _≤_, _<_}
-use native.Mathlib.Nat.{mul-le-mul-right}
 use native.Mathlib.Omega.{arith}
 use native.Mathlib.Decide.{ℕ-discrete, decLt}
 use mathlib.Core.Path.{_≡_, refl, sym, ap, _∙_}
@@ -10,13 +9,13 @@ use mathlib.Core.Bool.{Bool, true, false, _||_}
 use mathlib.Core.Option.{none, some}
 use mathlib.Core.List.{List, [], _∷_, List·Memᴰ, List·Memᴰ·head}
 use lib.ListN.{length, take, drop, set, length-set, length-drop}
-use lib.Seq.{getD-set-same, getD-set-other, length-take-le}
+use lib.Seq.{getD-set-same, length-take-le}
 use lib.Dec.{leb}
 use borrow.Author.Tests.{le-leb, eq-eqb, ne-eqb}
 use Rattle.laws.specs.Lists.{at, put}
 use Rattle.laws.specs.Each.{after}
 use Rattle.laws.proofs.Facts.{and-of}
-use Rattle.laws.proofs.Lists.{apart as pages-apart, part-same, length-put, at-put-below, at-put-in, at-put-above}
+use Rattle.laws.proofs.Lists.{apart as pages-apart, one-part, put-elsewhere, part-same, length-put, at-put-below, at-put-in, at-put-above}
 use Rattle.rules.specs.Memory.{Store, pageCount, origin, endOf, topOf, statusOf, setTop}
 use Rattle.rules.specs.Words.{headOf}
 use Rattle.rules.specs.Pages.{Run, withHeap, store}
@@ -25,7 +24,7 @@ use Rattle.rules.specs.Collection.{regionAt, evacuateAt, moveTo, wake}
 use Rattle.rules.proofs.Chains.{page-of}
 use Rattle.rules.specs.Seen.{seen, Reached}
 use Rattle.facts.proofs.Steps.{steps-le}
-use Rattle.facts.proofs.Laid.{old, mine, old≢spare, old≢mine, old≢beyond, mine≢beyond}
+use Rattle.facts.proofs.Laid.{old, mine, old≢spare, old≢mine, old≢beyond, mine≢beyond, page-in}
 use Rattle.facts.proofs.Copied.{to, went}
 use Rattle.facts.proofs.Sound.{InHeap, Sound}
 use Rattle.working.proofs.Placed.{Roomed}
@@ -60,21 +59,13 @@ module _ (s : Store) (S : Sound s) (g : Ghost) where
   pub body-plain : (k x : ℕ) → k * P + 2 ≤ x → x < k * P + P → Plain s g x
   body-plain k x lo hi l j o e = go (ℕ-discrete l k)
     where
-      by : (l * P + P ≤ k * P) ⊎ (k * P + P ≤ l * P) → ⊥
-      by (inl t) = let b = S .laid .big in omega arith
-      by (inr t) = omega arith
-
       go : Dec (l ≡ k) → ⊥
       go (yes q) = let w : l * P ≡ k * P = ap (λ y. y * P) q in omega arith
-      go (no ne) = by (pages-apart P l k ne)
+      go (no ne) = let b = S .laid .big in one-part P l k x ne (omega arith) (omega arith) (omega arith) hi
 
   -- in an old page
   pub old-plain : (k x : ℕ) → g .own k ≡ old → k * P ≤ x → x < k * P + P → Plain s g x
-  old-plain k x own lo hi l j o e = go (pages-apart P l k (λ q. old≢mine own (ap (g .own) (sym q) ∙ o)))
-    where
-      go : (l * P + P ≤ k * P) ⊎ (k * P + P ≤ l * P) → ⊥
-      go (inl t) = let b = S .laid .big in omega arith
-      go (inr t) = omega arith
+  old-plain k x own lo hi l j o e = let b = S .laid .big in one-part P l k x (λ q. old≢mine own (ap (g .own) (sym q) ∙ o)) (omega arith) (omega arith) lo hi
 
 -- the same words put into two lists
 put-alike : (g h : List ℕ) (b : ℕ) (ws : List ℕ) (x : ℕ) → b + length ws ≤ length g → b + length ws ≤ length h → at g x ≡ at h x → at (put g b ws) x ≡ at (put h b ws) x
@@ -133,10 +124,7 @@ module _ (s : Store) (S : Sound s) (g : Ghost) (r : Run) (I : Inv s S g r) (d : 
     a-hi = x .stands .ends
 
     f-in : f * 2 ^ n + 2 ^ n ≤ length (r .heap)
-    f-in =
-        let z = I .laid .size in
-        let p = mul-le-mul-right (2 ^ n) (I .laid .known f (λ q. old≢beyond own-f q)) in
-        omega arith
+    f-in = page-in (I .laid) f (λ q. old≢beyond own-f q)
 
     f-known : f < N
     f-known = I .laid .known f (λ q. old≢beyond own-f q)
@@ -231,10 +219,7 @@ module _ (s : Store) (S : Sound s) (g : Ghost) (r : Run) (I : Inv s S g r) (d : 
         own-p = mk .moved .b-mine
 
         p-in : p * 2 ^ n + 2 ^ n ≤ length (r₁ .heap)
-        p-in =
-            let z = K .laid .size in
-            let w = mul-le-mul-right (2 ^ n) (K .laid .known p (λ q. mine≢beyond own-p q)) in
-            omega arith
+        p-in = page-in (K .laid) p (λ q. mine≢beyond own-p q)
 
         same-size : length (r₁ .heap) ≡ length (r .heap)
         same-size = K .laid .size ∙ sym (I .laid .size)
@@ -310,16 +295,17 @@ module _ (s : Store) (S : Sound s) (g : Ghost) (r : Run) (I : Inv s S g r) (d : 
                 fits : b + length ws ≤ length (d₁ .heap)
                 fits = let z = M₁ .heap-length in let y = len in let w = p-in in let o = b-hi in omega arith
 
-                by : (k * 2 ^ n + 2 ^ n ≤ p * 2 ^ n) ⊎ (p * 2 ^ n + 2 ^ n ≤ k * 2 ^ n) → at (put (d₁ .heap) b ws) (k * 2 ^ n + 1) ≡ at (d₁ .heap) (k * 2 ^ n + 1)
-                by (inl t) = let c = b-lo in let g = I .laid .big in at-put-below (d₁ .heap) b ws (k * 2 ^ n + 1) fits (omega arith)
-                by (inr t) = let c = b-hi in let y = len in at-put-above (d₁ .heap) b ws (k * 2 ^ n + 1) fits (omega arith)
-
                 go : Dec (k ≡ p) → at (put (d₁ .heap) b ws) (k * 2 ^ n + 1) ≡ at (d₁ .heap) (k * 2 ^ n + 1)
                 go (yes e) =
                     let c = b-lo in
                     let t : k * 2 ^ n ≡ p * 2 ^ n = ap (λ y. y * 2 ^ n) e in
                     at-put-below (d₁ .heap) b ws (k * 2 ^ n + 1) fits (omega arith)
-                go (no ne) = by (pages-apart (2 ^ n) k p ne)
+                go (no ne) =
+                    let c = b-lo in
+                    let d = b-hi in
+                    let y = len in
+                    let g = I .laid .big in
+                    put-elsewhere (2 ^ n) (d₁ .heap) p b ws k (k * 2 ^ n + 1) fits (omega arith) (omega arith) ne (omega arith) (omega arith)
 
         wide : 4 * R ≤ length (r₁ .table)
         wide = K .laid .rows
@@ -356,16 +342,13 @@ module _ (s : Store) (S : Sound s) (g : Ghost) (r : Run) (I : Inv s S g r) (d : 
         unfolding store B
         deep e = go (mk .how)
           where
-            same : statusOf (store n j ws r₁ .table) j ≡ statusOf (r .table) j
-            same = getD-set-other (r₁ .table) (4 * j + 2) (4 * j + 3) (b + length ws) 0 (omega arith) ∙ K .row-kept (4 * j + 3) (omega arith) (omega arith)
-
             go : ((statusOf (r .table) j ≡ 0) × (r′ .stack ≡ entry j b ∷ r .stack)) ⊎ ((statusOf (r .table) j ≢ 0) × (r′ .stack ≡ r .stack)) → length (r₁ .stack) < 64
             go (inl t) =
                 let c = stack-few s S end r′ (B .inv) in
                 let z : length (r′ .stack) ≡ suc (length (r .stack)) = ap length (t .1) in
                 let y : length (r₁ .stack) ≡ length (r .stack) = ap length (K .stack-kept) in
                 omega arith
-            go (inr t) = absurd (t .0 (sym same ∙ e))
+            go (inr t) = absurd (t .0 (sym (C.same-status s S g r I u r₁ K) ∙ e))
 
         abbrev d₄ : Desk
         d₄ = desk (d₂ .heap) (W.wake j b (d₃ .notes))

@@ -9,17 +9,18 @@ use mathlib.Core.Logic.{_≢_, _⊎_, inl, inr}
 use mathlib.Core.List.{List, [], _∷_, List·Memᴰ, List·Memᴰ·head, List·Memᴰ·tail, List·Memᴰ·cases-cons}
 use lib.ListN.{length, set, length-set}
 use lib.Seq.{getD-set-same, getD-set-other, ext-getD}
+use Rattle.laws.proofs.Lists.{one-part}
 use Rattle.laws.specs.Lists.{at}
 use Rattle.laws.proofs.Once.{once-most}
 use Rattle.rules.specs.Memory.{Store, pageCount, link, firstLink}
 use Rattle.rules.specs.Pages.{Run}
-use Rattle.facts.proofs.Laid.{mine≢beyond}
+use Rattle.facts.proofs.Laid.{mine≢beyond, chain-body}
 use Rattle.facts.proofs.Sound.{Sound}
 use Rattle.working.proofs.Invariant.{Ghost, Inv}
 use Rattle.motion.specs.Leaves.{Desk}
 use Rattle.motion.specs.Whole.{own, ownChain, ownAll}
 use Rattle.agreement.proofs.Matching.{Matching}
-use Rattle.facts.proofs.Cleared.{one-page, first-link}
+use Rattle.facts.proofs.Cleared.{first-link}
 use Rattle.agreement.proofs.Walked.{steps-keep, along-all, From, Before, from-split, before-none, from-none}
 
 module _ (s : Store) (S : Sound s) (g : Ghost) (r : Run) (I : Inv s S g r) (d : Desk) (M : Matching s S g r d) where
@@ -49,7 +50,7 @@ module _ (s : Store) (S : Sound s) (g : Ghost) (r : Run) (I : Inv s S g r) (d : 
     where
       go : Dec (k ≡ l) → ⊥
       go (yes q) = let w : k * P ≡ l * P = ap (λ y. y * P) q in omega arith
-      go (no ne) = let c = S .laid .big in one-page n k l (k * P) ne (omega arith) (omega arith) (omega arith) (omega arith)
+      go (no ne) = let c = S .laid .big in one-part (2 ^ n) k l (k * P) ne (omega arith) (omega arith) (omega arith) (omega arith)
 
   module _ (j : ℕ) (jR : j < R) where
     small : (k : ℕ) → List·Memᴰ k (g .pages j) → k < N
@@ -78,7 +79,7 @@ module _ (s : Store) (S : Sound s) (g : Ghost) (r : Run) (I : Inv s S g r) (d : 
             let b = I .laid .size in
             let c = I .laid .big in
             let f = K .half .size in
-            rw e (getD-set-same h (k * P + 1) (suc j) 0 (omega arith) ∙ sym (I .laid .mine-body j k (I .laid .mine-own j k jR m) .whose))
+            rw e (getD-set-same h (k * P + 1) (suc j) 0 (omega arith) ∙ sym (chain-body (I .laid) j k jR m .whose))
         words x ne (no f) = getD-set-other h (k * P + 1) x (suc j) 0 f ∙ K .half .words x before
           where
             before : (l : ℕ) → Before R (g .pages) (k ∷ ks) (suc j) l → x ≢ l * P + 1

@@ -14,6 +14,7 @@ use lib.ListN.{length, set, length-set}
 use lib.Seq.{getD-set-same, getD-set-other}
 use lib.Dec.{leb, eqb}
 use borrow.Author.Tests.{le-leb, lt-leb, eq-eqb, ne-eqb}
+use Rattle.laws.proofs.Lists.{one-part}
 use Rattle.laws.specs.Lists.{at}
 use Rattle.laws.specs.Each.{after}
 use Rattle.laws.specs.Loop.{more, over}
@@ -21,7 +22,7 @@ use Rattle.laws.proofs.Loops.{loop-more, loop-over, loop-end}
 use Rattle.laws.proofs.Once.{once-most, member?}
 use Rattle.rules.specs.Memory.{Store, pageCount, link, firstLink}
 use Rattle.rules.specs.Words.{headOf, lengthBy, headBy}
-use Rattle.facts.proofs.Laid.{old≢mine, old≢beyond, mine≢beyond, old, mine, Body}
+use Rattle.facts.proofs.Laid.{old≢mine, old≢beyond, mine≢beyond, old, mine, Body, chain-body}
 use Rattle.facts.proofs.Steps.{Stands, Steps, here, over as passes, steps-le, steps-then, apart}
 use Rattle.facts.proofs.Copied.{to}
 use Rattle.facts.proofs.Sound.{Sound}
@@ -32,7 +33,7 @@ use Rattle.motion.specs.Leaves.{Desk}
 use Rattle.motion.specs.Whole.{undoOf, undoTurn, undoVals, undoPage, undoChain, undoHeaders}
 use Rattle.agreement.proofs.Matching.{Matching}
 use Rattle.agreement.proofs.Stuck.{Stuck}
-use Rattle.facts.proofs.Cleared.{one-page, first-link}
+use Rattle.facts.proofs.Cleared.{first-link}
 use Rattle.agreement.proofs.Walked.{steps-keep, along-all, From, Before, from-split, before-none, from-none}
 
 -- ---- headers and forwards as numbers
@@ -112,7 +113,7 @@ module _ (s : Store) (S : Sound s) (d : Desk) (A : Stuck s S d) where
         go (no ne) =
             let a = steps-le (C .from-steps) in
             let c = C .from-stands .ends in
-            absurd (one-page n (C .from) k x ne (omega arith) (omega arith) (p .0) (p .1))
+            absurd (one-part (2 ^ n) (C .from) k x ne (omega arith) (omega arith) (p .0) (p .1))
 
     logged-steps : Steps (s .heap) (k * P + P) (k * P + 2) x
     logged-steps = subst (λ y. Steps (s .heap) (y * P + P) (y * P + 2) x) from-is (C .from-steps)
@@ -150,7 +151,7 @@ module _ (s : Store) (S : Sound s) (d : Desk) (A : Stuck s S d) where
         where
           go : Dec (l ≡ k) → g .own l ≡ old
           go (yes w) = ap (g .own) w ∙ o
-          go (no ne) = absurd (one-page n l k y ne (q .0) (q .1) (rw z (p .0)) (rw z (p .1)))
+          go (no ne) = absurd (one-part (2 ^ n) l k y ne (q .0) (q .1) (rw z (p .0)) (rw z (p .1)))
 
       by : (l y : ℕ) → In l y → Either h y → Dec (y ≡ x) → Either (set h x v) y
       by l y q t (yes z) = inl (set-here y z)
@@ -177,7 +178,7 @@ module _ (s : Store) (S : Sound s) (d : Desk) (A : Stuck s S d) where
         where
           go : Dec (k ≡ i) → ⊥
           go (yes e) = let w : k * P ≡ i * P = ap (λ y. y * P) e in omega arith
-          go (no ne) = let c = S .laid .big in one-page n k i b ne (omega arith) (omega arith) (omega arith) (omega arith)
+          go (no ne) = let c = S .laid .big in one-part (2 ^ n) k i b ne (omega arith) (omega arith) (omega arith) (omega arith)
 
   -- ---- one page
 
@@ -339,7 +340,7 @@ module _ (s : Store) (S : Sound s) (d : Desk) (A : Stuck s S d) where
     turn k ks h K =
         let m : List·Memᴰ k (S .pages j) = K .theirs k (List·Memᴰ·head refl) in
         let o : g .own k ≡ old = A .from-space k .1 (j, jR, m) in
-        let B = S .laid .mine-body j k (S .laid .mine-own j k jR m) in
+        let B = chain-body (S .laid) j k jR m in
         let U = undo-page (Before R (S .pages) (k ∷ ks) (suc j)) k j o B h (K .half) in
         let c = S .laid .big in (
           descriptor (Before R (S .pages) (k ∷ ks) (suc j)) k j o B h (K .half) (k * P) (le-refl _) (omega arith),
@@ -355,7 +356,7 @@ module _ (s : Store) (S : Sound s) (d : Desk) (A : Stuck s S d) where
           },
         )
       where
-        back-by : PageBack (Before R (S .pages) (k ∷ ks) (suc j)) k j (A .from-space k .1 (j, jR, K .theirs k (List·Memᴰ·head refl))) (S .laid .mine-body j k (S .laid .mine-own j k jR (K .theirs k (List·Memᴰ·head refl)))) (undoPage n k h)
+        back-by : PageBack (Before R (S .pages) (k ∷ ks) (suc j)) k j (A .from-space k .1 (j, jR, K .theirs k (List·Memᴰ·head refl))) (chain-body (S .laid) j k jR (K .theirs k (List·Memᴰ·head refl))) (undoPage n k h)
             → (l x : ℕ) → g .own l ≡ old → (Before R (S .pages) ks (suc j) l → ⊥) → In l x → Dec (l ≡ k) → at (undoPage n k h) x ≡ at (s .heap) x
         back-by U l x w ne p (yes e) = U .page x (subst (λ y. In y x) e p)
         back-by U l x w ne p (no f) = U .half .back l x w (λ q. ne (tails q)) p
@@ -394,7 +395,7 @@ module _ (s : Store) (S : Sound s) (d : Desk) (A : Stuck s S d) where
         where
           go : (l j : ℕ) → g .own l ≡ mine j → x ≡ l * P + 1 → Dec (l ≡ k) → ⊥
           go l j w q (yes e) = old≢mine (ap (g .own) e ∙ o) w
-          go l j w q (no ne) = let c = S .laid .big in one-page n l k x ne (omega arith) (omega arith) (p .0) (p .1)
+          go l j w q (no ne) = let c = S .laid .big in one-part (2 ^ n) l k x ne (omega arith) (omega arith) (p .0) (p .1)
 
       either : (k x : ℕ) → g .own k ≡ old → In k x → Either (r .heap) x
       either k x o p = go (member? x (olds (g .log)))

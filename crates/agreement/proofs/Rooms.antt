@@ -1,6 +1,5 @@
 -- Room for a region at work and in the plain run: both have it, or both take the same page and link it, since they read the same row.
 use Prim.Native.Nat.{ℕ, suc, _+_, _-_, _*_, _^_, _≤_, _<_}
-use native.Mathlib.Nat.{mul-le-mul-right}
 use native.Mathlib.Numerals.{sub-one}
 use native.Mathlib.Omega.{arith}
 use mathlib.Core.Path.{_≡_, refl, sym, ap, _∙_, subst}
@@ -14,7 +13,7 @@ use Rattle.laws.specs.Each.{after}
 use Rattle.laws.proofs.Once.{linked-none, last-in, Linked}
 use Rattle.rules.specs.Memory.{Store, pageCount, link, endOf, topOf}
 use Rattle.rules.specs.Pages.{Run, withHeap, withTable, join}
-use Rattle.facts.proofs.Laid.{mine, Layout, upd, mine≢beyond, spare≢beyond}
+use Rattle.facts.proofs.Laid.{mine, Layout, upd, mine≢beyond, spare≢beyond, page-in}
 use Rattle.facts.proofs.Sound.{Sound}
 use Rattle.working.proofs.Taken.{taken}
 use Rattle.working.proofs.Placed.{Roomed}
@@ -87,11 +86,7 @@ module _ (s : Store) (S : Sound s) (g : Ghost) (r : Run) (d : Desk) (M : Matchin
     x-is = let e = L .mine-top j jR .2 in let q : endOf (r₀ .table) j ≡ endOf (r .table) j = ap (λ t. endOf t j) same-table in omega arith
 
     z-in : z * P + P ≤ length (r .heap)
-    z-in =
-        let a = L .size in
-        let o = L .mine-own j z jR (last-in (L .mine-top j jR .1)) in
-        let b = mul-le-mul-right P (L .known z (λ q. mine≢beyond o q)) in
-        omega arith
+    z-in = page-in L z (λ q. mine≢beyond (L .mine-own j z jR (last-in (L .mine-top j jR .1))) q)
 
     abbrev r₁ : Run
     r₁ = withHeap r₀ (set (r₀ .heap) x (suc k))

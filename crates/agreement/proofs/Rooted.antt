@@ -1,8 +1,8 @@
 -- The roots evacuated in order, at work and in the plain run. At work only their values are moved; each root's new word is the forward in its value's
 -- old header, which stays there to the end.
-use Prim.Native.Nat.{ℕ, zero, suc, _*_, _/_, _%_, _<_, zero-le, suc-le-suc}
+use Prim.Native.Nat.{ℕ, suc, _*_, _/_, _%_, _<_, zero-le, suc-le-suc}
 use native.Mathlib.Omega.{arith}
-use mathlib.Core.Path.{_≡_, refl, ap, _∙_}
+use mathlib.Core.Path.{_≡_, refl, _∙_}
 use mathlib.Core.Logic.{_⊎_, inl, inr}
 use mathlib.Core.Bool.{true, false}
 use mathlib.Core.Option.{none, some}
@@ -22,9 +22,9 @@ use Rattle.facts.proofs.Steps.{steps-le}
 use Rattle.facts.proofs.Copied.{to, Rel, num, stay, went}
 use Rattle.facts.proofs.Sound.{Good, Sound}
 use Rattle.working.proofs.Log.{pointers}
-use Rattle.working.proofs.Invariant.{Ghost, Kept, Inv, later-refl, later-trans, Became}
+use Rattle.working.proofs.Invariant.{Ghost, Kept, Inv, Became}
 use Rattle.working.proofs.Evacuating.{of-pointers}
-use Rattle.working.proofs.Roots.{rel-grows, AllBecame}
+use Rattle.working.proofs.Roots.{all-none, all-more, AllBecame}
 use Rattle.motion.specs.Leaves.{Desk}
 use Rattle.motion.specs.Run.{move}
 use Rattle.motion.specs.Whole.{moveRoot, rootWord, writtenRoots}
@@ -85,36 +85,16 @@ module _ (s : Store) (S : Sound s) where
 
   pub moves-all : (ws : List ℕ) (g : Ghost) (r : Run) → Inv s S g r → ((i : ℕ) → i < length ws → Good n (s .ctl .regions) (s .heap) (s .consts) (at ws i))
       → ((i : ℕ) → i < length ws → Reached (seen s) (s .roots) (at ws i)) → (d : Desk) → Matching s S g r d → Rooted g r d ws
-  unfolding evacuateAll eachOf
+  unfolding evacuateAll eachOf all-none all-more
   moves-all [] g r I good reached d M =
-      inr ([], r, refl, record { ghost = g; inv = I; later = later-refl (s .ctl .regions) g r; count = refl; rels = λ i b. absurd (omega arith) }, d, refl, M)
+      inr ([], r, refl, all-none s S g r I, d, refl, M)
   moves-all (w ∷ ws) g r I good reached d M =
       go (λ g′ r′ I′ d′ M′. moves-all ws g′ r′ I′ (λ i b. good (suc i) (suc-le-suc b)) (λ i b. reached (suc i) (suc-le-suc b)) d′ M′)
       (evacuates s S g r I d M w (good 0 (suc-le-suc zero-le)) (reached 0 (suc-le-suc zero-le)))
     where
       then : (v : ℕ) (r₁ : Run) → evacuate n w r ≡ some (v, r₁) → (B : Became s S g r w v r₁) (d₁ : Desk) → moveRoot n w d ≡ after true d₁ → Rooted (B .ghost) r₁ d₁ ws → Rooted g r d (w ∷ ws)
       then v r₁ e B d₁ t (inl u) = inl (rw (e, evacuateAll, u .0), u .1, rw t (u .2), u .3)
-      then v r₁ e B d₁ t (inr u) =
-          let A : AllBecame s S (B .ghost) r₁ ws (u .0) (u .1) = u .3 in
-          inr (
-            v ∷ u .0,
-            u .1,
-            rw (e, evacuateAll, u .2),
-            record {
-              ghost = A .ghost;
-              inv = A .inv;
-              later = later-trans (B .later) (A .later);
-              count = ap suc (A .count);
-              rels = λ i b. each i b A;
-            },
-            u .4,
-            rw t (u .5),
-            u .6,
-          )
-        where
-          each : (i : ℕ) → i < suc (length ws) → (A : AllBecame s S (B .ghost) r₁ ws (u .0) (u .1)) → Rel (Kept s) (pointers (A .ghost .log)) (at (w ∷ ws) i) (at (v ∷ u .0) i)
-          each zero b A = rel-grows (B .ghost .log) (A .ghost .log) (A .later .log) (B .rel)
-          each (suc i) b A = A .rels i (omega arith)
+      then v r₁ e B d₁ t (inr u) = inr (v ∷ u .0, u .1, rw (e, evacuateAll, u .2), all-more B (u .3), u .4, rw t (u .5), u .6)
 
       go : ((g′ : Ghost) (r′ : Run) → Inv s S g′ r′ → (d′ : Desk) → Matching s S g′ r′ d′ → Rooted g′ r′ d′ ws) → Evacuates s S g r I d M w → Rooted g r d (w ∷ ws)
       go rest (inl u) = inl (rw (u .0, evacuateAll), d, rw (root-stops s S g r I d M w (u .1) (u .2)), stuck-moving s S g r d I M (u .3))

@@ -1,22 +1,20 @@
 -- Where the work stops for want of a page: the desk still matches a run, no page is free, and what was copied is in the log. So what the run has
 -- changed can be put back. It holds because a step that wants a page writes nothing before it has it.
-use Prim.Native.Nat.{ℕ, _+_, _*_, _^_, _<_}
+use Prim.Native.Nat.{ℕ, _*_, _^_, _<_}
 use native.Mathlib.Omega.{arith}
-use mathlib.Core.Path.{_≡_, sym, ap, _∙_}
+use mathlib.Core.Path.{_≡_}
 use mathlib.Core.Logic.{_≢_, _↔_}
-use mathlib.Core.List.{[], List·Memᴰ, List·Memᴰ·eq-of-singleton}
-use mathlib.Core.Option.{none}
+use mathlib.Core.List.{[], List·Memᴰ}
 use lib.ListN.{length}
-use Rattle.laws.proofs.Once.{once-none}
 use Rattle.rules.specs.Memory.{Store, pageCount}
 use Rattle.rules.specs.Pages.{Run, withTable}
-use Rattle.facts.proofs.Steps.{steps-le}
-use Rattle.facts.proofs.Laid.{old, beyond, mine}
+use Rattle.facts.proofs.Laid.{old, beyond}
 use Rattle.facts.proofs.Sound.{Sound}
 use Rattle.working.proofs.Owned.{Owned}
 use Rattle.working.proofs.Log.{Log}
 use Rattle.working.proofs.Invariant.{Ghost, Kept, Inv}
 use Rattle.working.proofs.Fresh.{Fresh}
+use Rattle.working.proofs.Running.{unmoved, unmoved-log}
 use Rattle.motion.specs.Leaves.{Desk}
 use Rattle.agreement.proofs.Matching.{Matching}
 
@@ -48,22 +46,6 @@ stuck-moving s S g r d I M e =
 
 -- ---- while the regions get their fresh pages
 
--- the ghost of a state in which nothing is copied yet
-abbrev pub unmoved : {s : Store} {S : Sound s} {j : ℕ} {r : Run} → Fresh s S j r → Ghost
-unmoved F =
-    record {
-      own = F .own;
-      fin = F .fin;
-      pages = F .pages;
-      free = F .free;
-      log = [];
-      count = λ b. 0;
-      past = λ j. [];
-      todo = λ j. [];
-      cur = none;
-      half = none;
-    }
-
 -- rows that are not written yet do not count
 pub stuck-fresh : (s : Store) (S : Sound s) (j : ℕ) (r : Run) (d : Desk) → j < s .ctl .regions → (F : Fresh s S j r) → Matching s S (unmoved F) (withTable r (d .notes)) d → F .free ≡ [] → Stuck s S d
 stuck-fresh s S j r d jR F M e =
@@ -74,16 +56,7 @@ stuck-fresh s S j r d jR F M e =
       none-free = e;
       size = F .laid .size;
       known = F .laid .known;
-      logged =
-          record {
-            copies = λ m. elim m [ ];
-            unmoved = λ k x o p q no-entry. F .words k x o p q;
-            one-new = λ m m′. elim m [ ];
-            one-old = λ m m′. elim m [ ];
-            live = λ m. elim m [ ];
-            every = λ k i b o t u. let q = fin-is k i o in let lo = steps-le t in absurd (omega arith);
-            once = once-none;
-          };
+      logged = unmoved-log F;
       from-space = F .from-space;
       owned =
           record {
@@ -92,10 +65,3 @@ stuck-fresh s S j r d jR F M e =
             mines = λ k i o. let t = F .owned .mines k i o in let b = t .0 in (omega arith, t .1);
           };
     }
-  where
-    fin-is : (k i : ℕ) → F .own k ≡ mine i → F .fin k ≡ k * 2 ^ s .ctl .n + 2
-    fin-is k i o =
-        let m = F .owned .mines k i o in
-        let t = F .single i (m .0) in
-        let q : k ≡ t .0 = List·Memᴰ·eq-of-singleton (rw (t .1) at (m .1)) in
-        ap (F .fin) q ∙ t .2 ∙ ap (λ x. x * 2 ^ s .ctl .n + 2) (sym q)

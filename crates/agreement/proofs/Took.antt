@@ -13,7 +13,7 @@ use lib.Seq.{getD-set-same, getD-set-other}
 use borrow.Author.Tests.{le-leb, ne-eqb}
 use Rattle.laws.specs.Lists.{at}
 use Rattle.laws.specs.Each.{after}
-use Rattle.laws.proofs.Lists.{apart}
+use Rattle.laws.proofs.Lists.{starts-differ, begins-none}
 use Rattle.laws.proofs.Once.{Linked, linked-first, linked-none, in-snoc, once-most}
 use Rattle.rules.specs.Memory.{Store, pageCount, link}
 use Rattle.rules.specs.Pages.{Run}
@@ -66,15 +66,7 @@ module _ (s : Store) (S : Sound s) where
 
   -- a link is no page's origin
   pub link-plain : (g : Ghost) (k : ℕ) → Plain s g (k * P)
-  link-plain g k l j o e = go (ℕ-discrete k l)
-    where
-      by : (k * P + P ≤ l * P) ⊎ (l * P + P ≤ k * P) → ⊥
-      by (inl t) = omega arith
-      by (inr t) = let b = S .laid .big in omega arith
-
-      go : Dec (k ≡ l) → ⊥
-      go (yes q) = let w : k * P ≡ l * P = ap (λ x. x * P) q in omega arith
-      go (no ne) = by (apart P k l ne)
+  link-plain g k l j o e = let b = S .laid .big in begins-none P l k (l * P + 1) (omega arith) (omega arith) (sym e)
 
   -- ---- a page that can be taken
   module _ (g : Ghost) (r : Run) (d : Desk) (M : Matching s S g r d) (R : ℕ) (fin : ℕ → ℕ) (pages : ℕ → List ℕ) (k : ℕ) (ks : List ℕ) (free : g .free ≡ k ∷ ks)
@@ -132,11 +124,7 @@ module _ (s : Store) (S : Sound s) where
     heap₁ = set (d .heap) (k * P) 0
 
     far : (l : ℕ) → l ≢ k → (l * P + 1 ≢ k * P) × (l * P + 1 ≢ k * P + 1)
-    far l ne = go (apart P l k ne)
-      where
-        go : (l * P + P ≤ k * P) ⊎ (k * P + P ≤ l * P) → (l * P + 1 ≢ k * P) × (l * P + 1 ≢ k * P + 1)
-        go (inl t) = let b = L .big in (λ q. omega arith, λ q. omega arith)
-        go (inr t) = let b = L .big in (λ q. omega arith, λ q. omega arith)
+    far l ne = let b = L .big in (begins-none P l k (l * P + 1) (omega arith) (omega arith), λ q. starts-differ P l k (omega arith) ne (omega arith))
 
     words : (x : ℕ) → Plain s g′ x → at (d′ .heap) x ≡ at (T.taken n j k r .heap) x
     unfolding T.taken

@@ -9,6 +9,7 @@ use mathlib.Core.Logic.{_≢_, _⊎_, inl, inr}
 use mathlib.Core.List.{List, [], _∷_, _++_, List·Memᴰ, List·Memᴰ·head, List·Memᴰ·tail, List·Memᴰ·cases-cons, List·Memᴰ·not-nil, Memᴰ·append-left}
 use lib.ListN.{length, set, length-set}
 use lib.Seq.{getD-set-same, getD-set-other, ext-getD}
+use Rattle.laws.proofs.Lists.{one-part}
 use Rattle.laws.specs.Lists.{at}
 use Rattle.laws.proofs.Once.{Once, once-none, once-more, once-tail, once-head, Linked}
 use Rattle.rules.specs.declared.Refusal.{Refusal}
@@ -22,7 +23,7 @@ use Rattle.motion.specs.Leaves.{Desk, taken}
 use Rattle.motion.specs.Whole.{undoHeaders, relink, relinkAll, undo, lacking}
 use Rattle.agreement.proofs.Matching.{Matching}
 use Rattle.agreement.proofs.Stuck.{Stuck}
-use Rattle.facts.proofs.Cleared.{one-page, clear-length, clear-else, clear-in}
+use Rattle.facts.proofs.Cleared.{clear-length, clear-else, clear-in}
 use Rattle.agreement.proofs.Walked.{along-front}
 use Rattle.agreement.proofs.Restored.{headers-back, old-back}
 
@@ -99,7 +100,7 @@ module _ (s : Store) (S : Sound s) (d : Desk) (A : Stuck s S d) where
       else-same : (l x : ℕ) → l ≢ k → l * P ≤ x → x < l * P + P → at (set h₂ (k * P) w) x ≡ at h x
       else-same l x ne p q =
           let c = S .laid .big in
-          getD-set-other h₂ (k * P) x w 0 (λ e. one-page n l k x ne p q (omega arith) (omega arith)) ∙ clear-else n h k k-in l x ne p q
+          getD-set-other h₂ (k * P) x w 0 (λ e. one-part (2 ^ n) l k x ne p q (omega arith) (omega arith)) ∙ clear-else n h k k-in l x ne p q
 
       in-page : (x : ℕ) → k * P ≤ x → x < k * P + P → Dec (x ≡ k * P) → at (set h₂ (k * P) w) x ≡ at (s .heap) x
       in-page x p q (yes e) =

@@ -1,5 +1,5 @@
 -- A copy scanned at work and in the plain run: both read the same header, and a record's fields go alike.
-use Prim.Native.Nat.{ℕ, suc, _+_, _/_, _%_, _≤_}
+use Prim.Native.Nat.{ℕ, suc, _+_, _/_, _%_}
 use native.Mathlib.Omega.{arith}
 use mathlib.Core.Path.{_≡_, refl, sym, ap, _∙_}
 use mathlib.Core.Logic.{_≢_, _⊎_, inl, inr}
@@ -20,7 +20,7 @@ use Rattle.working.proofs.Log.{Copy}
 use Rattle.working.proofs.Invariant.{Ghost, Kept, Inv, later-refl}
 use Rattle.working.proofs.Scanning.{Ready}
 use Rattle.working.proofs.Turn as T
-use Rattle.working.proofs.Turn.{opened, Turned, b-fresh, b-gone, turned}
+use Rattle.working.proofs.Turn.{opened, Turned, turned}
 use Rattle.motion.specs.Leaves.{Desk}
 use Rattle.motion.specs.Run as X
 use Rattle.motion.specs.Run.{scanOf}
@@ -60,28 +60,16 @@ module _ (s : Store) (S : Sound s) (g : Ghost) (r : Run) (I : Inv s S g r) (j b 
   no-head z = let z′ : _≡_ {A = ℕ} 0 1 = cc in absurd (omega arith)
 
   by-head : (y : Head) → headOf (at (r .heap) b) ≡ y → Values
-  unfolding scanValue scanOf turned
+  unfolding scanValue scanOf turned T.ready
   by-head (raw l) e =
       let w : (at (d .heap) b) % 8 ≢ 1 = rw here (raw-rest (at (r .heap) b) l e) in
       let Z = turned s S g r I j b ts cur todo none-open (T.start s S g r I j b ts cur todo none-open) (later-refl _ _ _)
       (λ k q. let z : raw l ≡ rec k = sym e ∙ q in let z′ : _≡_ {A = ℕ} 0 1 = cc in absurd (omega arith)) in
       inr (r, rw (e, scanValue), Z, d, rw (ne-eqb ((at (d .heap) b) % 8) 1 w), by-owners s S g r d M (Z .ghost) refl refl)
-  by-head (rec l) e = go (scans-fields s S (opened g j b ts) r c b l (ap headOf (sym header) ∙ e) l r 0 (omega arith) ready d (by-owners s S g r d M (opened g j b ts) refl refl))
+  by-head (rec l) e = go (scans-fields s S (opened g j b ts) r c b l (ap headOf (sym header) ∙ e) l r 0 (omega arith) (T.ready s S g r I j b ts cur todo none-open l e) d (by-owners s S g r d M (opened g j b ts) refl refl))
     where
-      ready : Ready s S (opened g j b ts) r c b l r 0
-      ready =
-          record {
-            ghost = opened g j b ts;
-            inv = T.start s S g r I j b ts cur todo none-open;
-            later = later-refl _ _ _;
-            entry = m;
-            next = b-fresh s S g r I j b ts cur todo none-open;
-            mid = refl;
-            gone = b-gone s S g r I j b ts cur todo none-open;
-          }
-
       is : scanValue n b r ≡ scanFields n l (b + suc 0) r
-      is = let q : suc b ≡ b + suc 0 = omega arith in rw (e, scanValue) (ap (λ x. scanFields n l x r) q)
+      is = T.scan-is s S g r I j b ts cur todo none-open l e
 
       is-at-work : X.scanValue n b d ≡ each l (X.evacuate n) (b + suc 0) d
       is-at-work =
@@ -89,19 +77,12 @@ module _ (s : Store) (S : Sound s) (g : Ghost) (r : Run) (I : Inv s S g r) (j b 
           let q : b + 1 ≡ b + suc 0 = omega arith in
           rw (eq-eqb ((at (d .heap) b) % 8) 1 (w .0), w .1) (ap (λ x. each l (X.evacuate n) x d) q)
 
-      full : (r′ : Run) (Q : Ready s S (opened g j b ts) r c b l r′ l) (k : ℕ) → headOf (at (r′ .heap) b) ≡ rec k → k ≤ Q .ghost .count b
-      full r′ Q k q =
-          let t : rec k ≡ rec l = sym q ∙ ap headOf (Q .inv .logged .copies (Q .entry) .head ∙ sym header) ∙ e in
-          let u : k ≡ l = cc in
-          let w = Q .next in
-          omega arith
-
       go : Scans s S (opened g j b ts) r c b l (ap headOf (sym header) ∙ e) r d l 0 → Values
       go (inl u) = inl (is ∙ u .0, u .1, is-at-work ∙ u .2, u .3)
       go (inr u) =
           let r′ : Run = u .0 in
           let Q : Ready s S (opened g j b ts) r c b l r′ l = u .2 in
-          let Z = turned s S g r I j b ts cur todo none-open (Q .inv) (Q .later) (full r′ Q) in
+          let Z = turned s S g r I j b ts cur todo none-open (Q .inv) (Q .later) (T.full s S g r I j b ts cur todo none-open l e r′ Q) in
           inr (r′, is ∙ u .1, Z, u .3, is-at-work ∙ u .4, by-owners s S (Q .ghost) r′ (u .3) (u .5) (Z .ghost) refl refl)
   by-head (moved k) e = no-head (sym (ap lengthBy e) ∙ C .into-stands .head)
   by-head wrong e = no-head (sym (ap lengthBy e) ∙ C .into-stands .head)

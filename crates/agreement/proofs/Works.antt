@@ -27,7 +27,7 @@ use Rattle.working.proofs.Invariant.{Ghost, Inv, Enough}
 use Rattle.working.proofs.Turn.{Turned}
 use Rattle.working.proofs.Leaving.{scanning, left, left-last, left-next}
 use Rattle.working.proofs.Work.{Finished, log-bound, not-top, next}
-use Rattle.working.proofs.Roots.{entered-inv}
+use Rattle.working.proofs.Roots.{begin, begins-at, begins-work, entered-enough, entered-finished, ends-work, ends-finished, entered-inv}
 use Rattle.motion.specs.declared.Step.{Step}
 use Rattle.motion.specs.Leaves.{Desk, desk, low, entry, depth, goOn, popOn, pop}
 use Rattle.motion.specs.Run as X
@@ -252,21 +252,13 @@ module _ (s : Store) (S : Sound s) where
 
   pub works-stack : (g : Ghost) (r : Run) → Inv s S g r → g .cur ≡ none → g .half ≡ none → total (g .todo) R + length (r .stack) ≤ 2 * length (g .log)
       → (d : Desk) → Matching s S g r d → WorksStack g r d
-  unfolding workStack Y.workFrom
+  unfolding workStack Y.workFrom ends-finished entered-finished
   works-stack g r I none-cur none-open cost d M = go (r .stack) refl
     where
       go : (st : List Scan) → r .stack ≡ st → WorksStack g r d
-      go [] e =
-          inr (
-            r,
-            rw (e, workStack) (ap (λ st. finished (withStack r st)) e),
-            record { ghost = g; inv = I; no-cur = none-cur; none-open = none-open; stack = e; log = λ x m. m },
-            d,
-            rw (pops-none s S g r d M e),
-            M,
-          )
+      go [] e = inr (r, ends-work s S g r I none-cur none-open e, ends-finished s S g r I none-cur none-open e, d, rw (pops-none s S g r d M e), M)
       go (t ∷ ts) e =
-          by (works f (scanning g (some (t .region))) (withStack r ts) (t .region) (entered-inv s S g r I none-cur t ts e) refl none-open enough d′
+          by (works f (scanning g (some (t .region))) (withStack r ts) (t .region) (entered-inv s S g r I none-cur t ts e) refl none-open (entered-enough s S g r I none-cur t ts e cost) d′
           (by-owners s S g (withStack r ts) d′ (popped-matches s S g r d M t ts e) (scanning g (some (t .region))) refl refl))
         where
           f : ℕ
@@ -275,34 +267,17 @@ module _ (s : Store) (S : Sound s) where
           d′ : Desk
           d′ = desk (d .heap) (set (d .notes) depth (length ts))
 
-          enough : Enough s (scanning g (some (t .region))) (withStack r ts) f
-          enough =
-              let a = I .laid .size in
-              let b = S .laid .size in
-              let c : length (r .stack) ≡ suc (length ts) = ap length e in
-              record { steps = omega arith }
-
           a : ℕ
-          a = headOr (topOf (r .table) (t .region)) (g .todo (t .region))
-
-          a-is : t .address ≡ a
-          a-is = let W = I .pending .stacked t (rw e (List·Memᴰ·head refl)) in rw (W .begins)
+          a = begin s S g r I none-cur t ts e
 
           is : workStack n r ≡ work n f (t .region) a (withStack r ts)
-          is = rw (e, workStack) (ap (λ x. work n f (t .region) x (withStack r ts)) a-is)
+          is = begins-work s S g r I none-cur t ts e
 
           is-at-work : Y.workStack n f d ≡ X.work n f (X.scanning (t .region) a d′)
-          is-at-work = rw (pops s S g r d M t ts e) (ap (λ x. X.work n f (X.scanning (t .region) x d′)) a-is)
+          is-at-work = rw (pops s S g r d M t ts e) (ap (λ x. X.work n f (X.scanning (t .region) x d′)) (begins-at s S g r I none-cur t ts e))
 
           by : Works (scanning g (some (t .region))) (withStack r ts) d′ f (t .region) a → WorksStack g r d
           by (inl u) = inl (is ∙ u .0, u .1, is-at-work ∙ u .2, u .3)
           by (inr u) =
               let F : Finished s S (scanning g (some (t .region))) (u .0) = u .2 in
-              inr (
-                u .0,
-                is ∙ u .1,
-                record { ghost = F .ghost; inv = F .inv; no-cur = F .no-cur; none-open = F .none-open; stack = F .stack; log = F .log },
-                u .3,
-                is-at-work ∙ u .4,
-                u .5,
-              )
+              inr (u .0, is ∙ u .1, entered-finished s S g r I none-cur t ts e F, u .3, is-at-work ∙ u .4, u .5)

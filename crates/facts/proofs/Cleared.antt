@@ -3,22 +3,13 @@ use Prim.Native.Nat.{ℕ, suc, _+_, _-_, _*_, _/_, _^_, _≤_, _<_}
 use native.Mathlib.Nat.{le-refl, mul-div-left}
 use native.Mathlib.Omega.{arith}
 use mathlib.Core.Path.{_≡_, sym, ap, _∙_}
-use mathlib.Core.Logic.{_≢_, _⊎_, inl, inr}
+use mathlib.Core.Logic.{_≢_}
 use mathlib.Core.List.{List}
 use lib.ListN.{length, replicate, length-replicate, getD-replicate}
 use Rattle.laws.specs.Lists.{at}
-use Rattle.laws.proofs.Lists.{apart, length-put, at-put-in}
+use Rattle.laws.proofs.Lists.{put-elsewhere, length-put, at-put-in}
 use Rattle.rules.specs.Memory.{firstOf, firstLink}
 use Rattle.rules.specs.Pages.{clearPage}
-use Rattle.facts.proofs.Laid.{put-elsewhere}
-
--- no word is in two pages
-pub one-page : (n k l x : ℕ) → k ≢ l → k * 2 ^ n ≤ x → x < k * 2 ^ n + 2 ^ n → l * 2 ^ n ≤ x → x < l * 2 ^ n + 2 ^ n → ⊥
-one-page n k l x ne a b c d = go (apart (2 ^ n) k l ne)
-  where
-    go : (k * 2 ^ n + 2 ^ n ≤ l * 2 ^ n) ⊎ (l * 2 ^ n + 2 ^ n ≤ k * 2 ^ n) → ⊥
-    go (inl q) = omega arith
-    go (inr q) = omega arith
 
 module _ (n : ℕ) (h : List ℕ) (k : ℕ) (inside : k * 2 ^ n + 2 ^ n ≤ length h) where
   abbrev Z : List ℕ
@@ -36,7 +27,7 @@ module _ (n : ℕ) (h : List ℕ) (k : ℕ) (inside : k * 2 ^ n + 2 ^ n ≤ leng
 
   pub clear-else : (l x : ℕ) → l ≢ k → l * 2 ^ n ≤ x → x < l * 2 ^ n + 2 ^ n → at (clearPage n h k) x ≡ at h x
   unfolding clearPage
-  clear-else l x ne p q = put-elsewhere n h k (k * 2 ^ n) Z l x fits (le-refl _) (let e = len-Z in omega arith) ne p q
+  clear-else l x ne p q = put-elsewhere (2 ^ n) h k (k * 2 ^ n) Z l x fits (le-refl _) (let e = len-Z in omega arith) ne p q
 
   pub clear-in : (x : ℕ) → k * 2 ^ n ≤ x → x < k * 2 ^ n + 2 ^ n → at (clearPage n h k) x ≡ 0
   unfolding clearPage

@@ -1,21 +1,21 @@
 -- Pages given back: each is cleared and follows the last free page, so the heap stays laid out, and no other page changes but for the link
 -- of the page that was last.
 use Prim.Native.Nat.{ℕ, suc, _+_, _-_, _*_, _^_, _≤_, _<_}
-use native.Mathlib.Nat.{le-refl, mul-le-mul-right}
+use native.Mathlib.Nat.{le-refl}
 use native.Mathlib.Omega.{arith}
 use native.Mathlib.Decide.{ℕ-discrete}
 use mathlib.Core.Path.{_≡_, refl, sym, ap, _∙_}
 use mathlib.Core.Logic.{_≢_, _⊎_, inl, inr}
-use mathlib.Core.List.{List, [], _∷_, _++_, append-nil, List·Memᴰ, List·Memᴰ·head, List·Memᴰ·tail, List·Memᴰ·cases-cons, List·Memᴰ·not-nil}
-use lib.ListN.{length, set, length-set, replicate, length-replicate, getD-replicate, length-append}
-use lib.Seq.{append-snoc, getD-set-same, getD-set-other}
+use mathlib.Core.List.{List, [], _∷_, _++_, append-nil, List·Memᴰ, List·Memᴰ·head, List·Memᴰ·tail, List·Memᴰ·not-nil}
+use lib.ListN.{length, set, length-set, length-append}
+use lib.Seq.{append-snoc, getD-set-same}
 use Rattle.laws.specs.Lists.{at, lastOr}
-use Rattle.laws.proofs.Lists.{apart, length-put, at-put-in}
-use Rattle.laws.proofs.Once.{Once, once-more, Last, only, later, last-in, Linked, stop, goes, linked-same, linked-snoc, last-snoc, in-snoc, once-snoc}
+use Rattle.laws.proofs.Once.{Once, once-more, in-tail, Last, only, later, last-in, Linked, stop, goes, linked-same, linked-snoc, last-snoc, in-snoc, once-snoc}
 use Rattle.rules.specs.Memory.{link}
 use Rattle.rules.specs.Audit.{lastLink}
 use Rattle.rules.specs.Pages.{Run, clearPage, giveBack, giveBackAll}
-use Rattle.facts.proofs.Laid.{upd, upd-same, upd-other, old≢spare, old≢mine, old≢beyond, spare≢mine, spare≢beyond, Owner, old, spare, beyond, mine, Body, Clean, Like, body-like, clean-like, put-elsewhere, Layout}
+use Rattle.facts.proofs.Laid.{upd, upd-same, upd-other, old≢spare, old≢mine, old≢beyond, spare≢mine, spare≢beyond, Owner, old, spare, beyond, mine, Body, Clean, Like, body-like, clean-like, like-relinked, link-relinked, Layout, page-in}
+use Rattle.facts.proofs.Cleared.{clear-length, clear-else, clear-in}
 
 -- ---- the last of a list of pages, as a link
 
@@ -41,36 +41,20 @@ module _ (n N R : ℕ) (own : ℕ → Owner) (fin : ℕ → ℕ) (pages : ℕ �
   P = 2 ^ n
 
   k-in : k * P + P ≤ length (r .heap)
-  k-in = let s = L .size in let p = mul-le-mul-right P (L .known k (old≢beyond own-k)) in omega arith
-
-  abbrev Z : List ℕ
-  Z = replicate (2 ^ n) 0
-
-  len-Z : length Z ≡ P
-  len-Z = length-replicate {A = ℕ} P 0
+  k-in = page-in L k (old≢beyond own-k)
 
   -- the page cleared
-  h₁ : List ℕ
+  abbrev h₁ : List ℕ
   h₁ = clearPage n (r .heap) k
 
-  fits : k * P + length Z ≤ length (r .heap)
-  fits = let a = k-in in let b = len-Z in omega arith
-
   length₁ : length h₁ ≡ length (r .heap)
-  unfolding h₁ clearPage
-  length₁ = length-put (r .heap) (k * P) Z fits
+  length₁ = clear-length n (r .heap) k k-in
 
   others₁ : (l x : ℕ) → l ≢ k → l * P ≤ x → x < l * P + P → at h₁ x ≡ at (r .heap) x
-  unfolding h₁ clearPage
-  others₁ l x ne p q =
-      put-elsewhere n (r .heap) k (k * P) Z l x fits (le-refl _) (let e = len-Z in omega arith) ne p q
+  others₁ = clear-else n (r .heap) k k-in
 
   cleared : (x : ℕ) → k * P ≤ x → x < k * P + P → at h₁ x ≡ 0
-  unfolding h₁ clearPage
-  cleared x p q =
-      let e : k * P + (x - k * P) ≡ x = omega arith in
-      let len = len-Z in
-      ap (at h₁) (sym e) ∙ at-put-in (r .heap) (k * P) Z (x - k * P) fits (omega arith) ∙ getD-replicate {A = ℕ} P (x - k * P) 0 0 (omega arith)
+  cleared = clear-in n (r .heap) k k-in
 
   like₁ : (l : ℕ) → l ≢ k → Like n (r .heap) h₁ l
   like₁ l ne = record { word = λ x p q. sym (others₁ l x ne (omega arith) q) }
@@ -80,28 +64,13 @@ module _ (n N R : ℕ) (own : ℕ → Owner) (fin : ℕ → ℕ) (pages : ℕ �
     h₂ : List ℕ
     h₂ = set h₁ (z * P) v
 
-    keep : (x : ℕ) → x ≢ z * P → at h₂ x ≡ at h₁ x
-    unfolding h₂
-    keep x ne = getD-set-other h₁ (z * P) x v 0 ne
-
     like₂ : (l : ℕ) → Like n h₁ h₂ l
-    like₂ l = record { word = λ x p q. sym (keep x (λ e. go (ℕ-discrete l z) x p q e)) }
-      where
-        by : (l * P + P ≤ z * P) ⊎ (z * P + P ≤ l * P) → (x : ℕ) → l * P < x → x < l * P + P → x ≡ z * P → ⊥
-        by (inl t) x p q e = omega arith
-        by (inr t) x p q e = let b = L .big in omega arith
-
-        go : Dec (l ≡ z) → (x : ℕ) → l * P < x → x < l * P + P → x ≡ z * P → ⊥
-        go (yes e′) x p q e = let w : l * P ≡ z * P = ap (λ t. t * P) e′ in omega arith
-        go (no ne) x p q e = by (apart P l z ne) x p q e
+    unfolding h₂
+    like₂ = like-relinked n h₁ z v
 
     links₂ : (l : ℕ) → l ≢ z → link n h₁ l ≡ link n h₂ l
-    unfolding link
-    links₂ l ne = sym (keep (l * P) (λ e. go (apart P l z ne) e))
-      where
-        go : (l * P + P ≤ z * P) ⊎ (z * P + P ≤ l * P) → l * P ≡ z * P → ⊥
-        go (inl t) e = let b = L .big in omega arith
-        go (inr t) e = let b = L .big in omega arith
+    unfolding h₂
+    links₂ l = let b = L .big in link-relinked n h₁ z v l (omega arith)
 
     link₂ : link n h₂ z ≡ v
     unfolding link h₂
@@ -188,7 +157,7 @@ module _ (n N R : ℕ) (own : ℕ → Owner) (fin : ℕ → ℕ) (pages : ℕ �
         }
 
   z-in : (z : ℕ) → own z ≡ spare → z * P + P ≤ length (r .heap)
-  z-in z o = let s = L .size in let p = mul-le-mul-right P (L .known z (spare≢beyond o)) in omega arith
+  z-in z o = page-in L z (spare≢beyond o)
 
   alone : (fs : List ℕ) → fs ≡ [] → Linked (link n h₁) (suc k) (fs ++ k ∷ [])
   alone fs e =
@@ -215,7 +184,7 @@ module _ (n N R : ℕ) (own : ℕ → Owner) (fin : ℕ → ℕ) (pages : ℕ �
     pub table : giveBack n k r .table ≡ r .table
 
   pub given : Given
-  unfolding giveBack h₁ h₂ lastLink
+  unfolding giveBack h₂ lastLink
   given = go free refl
     where
       is-last : (f : ℕ) (fs : List ℕ) → free ≡ f ∷ fs → r .last ≡ suc (lastOr f fs)
@@ -255,14 +224,10 @@ spared-by [] own l (inl e) = e
 spared-by [] own l (inr m) = absurd (List·Memᴰ·not-nil m)
 spared-by (k ∷ ks) own l c = spared-by ks (upd own k spare) l (go (ℕ-discrete l k) c)
   where
-    tail : l ≢ k → (l ≡ k) ⊎ List·Memᴰ l ks → (upd own k spare l ≡ spare) ⊎ List·Memᴰ l ks
-    tail ne (inl e) = absurd (ne e)
-    tail ne (inr m) = inr m
-
     go : Dec (l ≡ k) → (own l ≡ spare) ⊎ List·Memᴰ l (k ∷ ks) → (upd own k spare l ≡ spare) ⊎ List·Memᴰ l ks
     go (yes e) c = inl (upd-same own k spare l e)
     go (no ne) (inl e) = inl (upd-other own k spare l ne ∙ e)
-    go (no ne) (inr m) = tail ne (List·Memᴰ·cases-cons m)
+    go (no ne) (inr m) = inr (in-tail ne m)
 
 pub spared-in : (own : ℕ → Owner) (ks : List ℕ) (l : ℕ) → List·Memᴰ l ks → spared own ks l ≡ spare
 spared-in own ks l m = spared-by ks own l (inr m)

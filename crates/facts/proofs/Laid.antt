@@ -1,20 +1,22 @@
 -- How a heap under collection is laid out: whose each page is, and what stands in it. Every fact is about single words.
 use Prim.Native.Nat.{ℕ, zero, suc, _+_, _*_, _^_, _≤_, _<_}
+use native.Mathlib.Nat.{mul-le-mul-right}
 use native.Mathlib.Omega.{arith}
 use mathlib.Core.Path.{_≡_, refl, sym, _∙_}
-use mathlib.Core.Logic.{_≢_, _⊎_, inl, inr}
+use mathlib.Core.Logic.{_≢_}
 use mathlib.Core.Bool.{Bool, true, false}
 use mathlib.Core.Option.{some}
 use mathlib.Core.List.{List, List·Memᴰ}
-use lib.ListN.{length}
+use lib.ListN.{length, set}
+use lib.Seq.{getD-set-other}
 use lib.Dec.{eqb}
 use borrow.Author.Tests.{eqb-true, eqb-false}
 use Rattle.rules.specs.Words.{headOf, lengthBy}
 use Rattle.rules.specs.Memory.{link, endOf, firstOf, topOf}
-use Rattle.laws.specs.Lists.{at, put}
+use Rattle.laws.specs.Lists.{at}
 use Rattle.rules.specs.Audit.{lastLink}
 use Rattle.rules.specs.Pages.{Run}
-use Rattle.laws.proofs.Lists.{apart, at-put-below, at-put-above}
+use Rattle.laws.proofs.Lists.{starts-differ, begins-none}
 pub use Rattle.laws.proofs.Once.{Once, once-none, once-more, Last, only, later, last-in, Linked, stop, goes, linked-same}
 use Rattle.facts.proofs.Steps.{Steps, steps-le, steps-same}
 
@@ -95,14 +97,14 @@ body-like {n} {g} {h} {k} {j} {f} big like b =
 pub clean-like : {n : ℕ} {g h : List ℕ} {k : ℕ} → Like n g h k → Clean n g k → Clean n h k
 clean-like like c = record { rest = λ x p q. sym (like .word x p q) ∙ c .rest x p q }
 
--- words stored inside page k leave the other pages as they are
-pub put-elsewhere : (n : ℕ) (h : List ℕ) (k a : ℕ) (ws : List ℕ) (l x : ℕ) → a + length ws ≤ length h → k * 2 ^ n ≤ a → a + length ws ≤ k * 2 ^ n + 2 ^ n
-    → l ≢ k → l * 2 ^ n ≤ x → x < l * 2 ^ n + 2 ^ n → at (put h a ws) x ≡ at h x
-put-elsewhere n h k a ws l x fits lo hi ne p q = go (apart (2 ^ n) l k ne)
-  where
-    go : (l * 2 ^ n + 2 ^ n ≤ k * 2 ^ n) ⊎ (k * 2 ^ n + 2 ^ n ≤ l * 2 ^ n) → at (put h a ws) x ≡ at h x
-    go (inl b) = at-put-below h a ws x fits (omega arith)
-    go (inr b) = at-put-above h a ws x fits (omega arith)
+-- a link set: no other word of any page
+pub like-relinked : (n : ℕ) (h : List ℕ) (z v l : ℕ) → Like n h (set h (z * 2 ^ n) v) l
+like-relinked n h z v l = record { word = λ x p q. sym (getD-set-other h (z * 2 ^ n) x v 0 (begins-none (2 ^ n) l z x p q)) }
+
+-- and no other link
+pub link-relinked : (n : ℕ) (h : List ℕ) (z v l : ℕ) → 0 < 2 ^ n → l ≢ z → link n h l ≡ link n (set h (z * 2 ^ n) v) l
+unfolding link
+link-relinked n h z v l p ne = sym (getD-set-other h (z * 2 ^ n) (l * 2 ^ n) v 0 (starts-differ (2 ^ n) l z p ne))
 
 -- ---- the whole
 pub record Layout (n N R : ℕ) (own : ℕ → Owner) (fin : ℕ → ℕ) (pages : ℕ → List ℕ) (free : List ℕ) (r : Run) : Type 0 where
@@ -124,6 +126,15 @@ pub record Layout (n N R : ℕ) (own : ℕ → Owner) (fin : ℕ → ℕ) (pages
   pub mine-body : (j k : ℕ) → own k ≡ mine j → Body (n) (r .heap) k j (fin k)
   pub mine-top : (j : ℕ) → j < R
       → (k : ℕ) × Last (pages j) k × (endOf (r .table) j ≡ k * 2 ^ n + 2 ^ n) × (topOf (r .table) j ≡ fin k)
+
+module _ {n N R : ℕ} {own : ℕ → Owner} {fin : ℕ → ℕ} {pages : ℕ → List ℕ} {free : List ℕ} {r : Run} (L : Layout n N R own fin pages free r) where
+  -- a page that is somebody's lies in the heap
+  pub page-in : (k : ℕ) → own k ≢ beyond → k * 2 ^ n + 2 ^ n ≤ length (r .heap)
+  page-in k ne = let s = L .size in let p = mul-le-mul-right (2 ^ n) (L .known k ne) in omega arith
+
+  -- what stands in a page of region j's chain
+  pub chain-body : (j k : ℕ) → j < R → List·Memᴰ k (pages j) → Body n (r .heap) k j (fin k)
+  chain-body j k b m = L .mine-body j k (L .mine-own j k b m)
 
 -- a value's words: a header and as many words as it says
 pub record Value (ws : List ℕ) (l : ℕ) : Type 0 where

@@ -11,6 +11,7 @@ pub mod Goods
 pub mod Means
 pub mod Passing
 pub mod Given
+pub mod Inside
 pub mod Observing
 pub mod Framed
 pub mod Judged

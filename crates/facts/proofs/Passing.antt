@@ -13,7 +13,7 @@ use lib.Dec.{eqb}
 use borrow.Author.Tests.{lt-ltb, le-leb, eq-eqb, ne-eqb}
 use Rattle.laws.specs.Lists.{at, all}
 use Rattle.laws.proofs.Facts.{and-of, all-of, at-all, below-of, zeros-of}
-use Rattle.laws.proofs.Once.{Once, last-in, last-one, Linked, stop, goes, linked-ends, once-most, once-each}
+use Rattle.laws.proofs.Once.{Once, last-one, Linked, stop, goes, linked-ends, once-most, once-each}
 use Rattle.rules.specs.declared.Control.{Control}
 use Rattle.rules.specs.declared.Refusal.{Refusal}
 use Rattle.rules.specs.declared.Plain.{Plain}
@@ -24,12 +24,12 @@ use Rattle.rules.specs.Refusals.{Paged, common, withinLimits, commonTest}
 use Rattle.rules.specs.Calls.{audit}
 use Rattle.rules.proofs.Chains.{length-page, at-page}
 use Rattle.rules.proofs.Whole.{linked-chain, chains-once, of-pages}
-use Rattle.facts.proofs.Steps.{steps-le, Holds}
-use Rattle.facts.proofs.Laid.{spare≢beyond, mine≢beyond, Body}
+use Rattle.facts.proofs.Steps.{Holds}
+use Rattle.facts.proofs.Laid.{spare≢beyond, mine≢beyond, chain-body}
 use Rattle.facts.proofs.Filled.{vals-used, filled-of, fields-of}
 use Rattle.facts.proofs.Goods.{page-ends, body-holds, body-ends, of-good, of-const}
 use Rattle.facts.proofs.Cleared.{first-link}
-use Rattle.facts.proofs.Sound.{Within, Chained, in-free, in-region, Sound, Passes}
+use Rattle.facts.proofs.Sound.{top-lies, Within, Chained, in-free, in-region, Sound, Passes}
 use Rattle.facts.proofs.Means.{Rules, sound-of}
 
 pub hold-rules : (s : Store) → Rules s → brokenRule s ≡ 0
@@ -88,7 +88,7 @@ module _ (s : Store) (S : Sound s) where
 
   whose : (j k : ℕ) → j < R → List·Memᴰ k (S .pages j) → origin n (s .heap) k ≡ suc j
   unfolding origin
-  whose j k b m = S .laid .mine-body j k (S .laid .mine-own j k b m) .whose
+  whose j k b m = chain-body (S .laid) j k b m .whose
 
   nobodys : (k : ℕ) → List·Memᴰ k (S .free) → origin n (s .heap) k ≡ 0
   unfolding origin
@@ -183,9 +183,6 @@ module _ (s : Store) (S : Sound s) where
       go zero e = f (last-one (linked-ends (S .laid .mine-links j b .2) m e) (S .laid .mine-top j b .1))
       go (suc l) e = refl
 
-  body : (j k : ℕ) → j < R → List·Memᴰ k (S .pages j) → Body n (s .heap) k j (S .fin k)
-  body j k b m = S .laid .mine-body j k (S .laid .mine-own j k b m)
-
   four : rule4 s ≡ true
   unfolding rule4 endsAt topFits
   four =
@@ -194,18 +191,13 @@ module _ (s : Store) (S : Sound s) where
       (λ j k b m. if-last j k b m _ (λ e. eq-eqb _ _ (S .laid .mine-top j b .2 ∙ ap (λ x. x * 2 ^ n + 2 ^ n) (sym e)))))
       (below-of (topFits n (s .table)) R
       (λ j b.
-      let t = S .laid .mine-top j b in
-      let x = body j (t .0) b (last-in (t .1)) in
-      let lo = steps-le (x .filled) in
-      let hi = x .inside in
-      let e = t .2 in
-      let a = t .3 in
-      and-of (le-leb (endOf (s .table) j + 2) (topOf (s .table) j + 2 ^ n) (omega arith)) (le-leb (topOf (s .table) j) (endOf (s .table) j) (omega arith))))
+      let t = top-lies s S j b in
+      and-of (le-leb (endOf (s .table) j + 2) (topOf (s .table) j + 2 ^ n) (t .0)) (le-leb (topOf (s .table) j) (endOf (s .table) j) (t .1))))
 
   ends-at : (j k : ℕ) → j < R → List·Memᴰ k (S .pages j) → k * 2 ^ n + 2 + usedOf (pageVals n (s .heap) k) ≡ S .fin k
   unfolding pageVals
   ends-at j k b m =
-      let x = body j k b m in
+      let x = chain-body (S .laid) j k b m in
       let there = mine-there j k b m in
       vals-used (s .heap) (k * 2 ^ n + 2 ^ n) (x .filled) (bodyWords n (s .heap) k) (body-holds n (s .heap) paged k there) (body-ends n (s .heap) paged k there) (x .rest)
 
@@ -214,7 +206,7 @@ module _ (s : Store) (S : Sound s) where
   five =
       each-page (pageFilled n (s .heap) (s .table))
       (λ j k b m.
-      let x = body j k b m in
+      let x = chain-body (S .laid) j k b m in
       let there = mine-there j k b m in
       and-of
       (filled-of (s .heap) (k * 2 ^ n + 2 ^ n) (k * 2 ^ n + 2) (bodyWords n (s .heap) k) (body-holds n (s .heap) paged k there) (body-ends n (s .heap) paged k there) (S .fin k) (x .filled) (x .rest))

@@ -11,10 +11,10 @@ use Rattle.rules.specs.Memory.{Store, pageCount, endOf, topOf, statusOf}
 use Rattle.rules.specs.Words.{number, inHeap, inConst, wordOf, isRecord}
 use Rattle.rules.specs.Pages.{begun}
 use Rattle.rules.specs.Audit.{brokenRule}
-use Rattle.rules.specs.Refusals.{Paged, withinLimits, commonTest}
+use Rattle.rules.specs.Refusals.{withinLimits, commonTest}
 use Rattle.rules.proofs.Limits as Limits
 use Rattle.facts.proofs.Steps.{Stands, Steps, steps-le}
-use Rattle.facts.proofs.Laid.{mine-inj, spare≢mine, Owner, spare, mine, last-in, Layout}
+use Rattle.facts.proofs.Laid.{mine-inj, spare≢mine, Owner, spare, mine, last-in, Layout, chain-body}
 
 -- ---- Lengths and n within their limits.
 
@@ -121,7 +121,7 @@ module _ (s : Store) (S : Sound s) where
   pub top-lies : (j : ℕ) → j < s .ctl .regions → (endOf (s .table) j + 2 ≤ topOf (s .table) j + 2 ^ s .ctl .n) × (topOf (s .table) j ≤ endOf (s .table) j)
   top-lies j b =
       let t = S .laid .mine-top j b in
-      let x = S .laid .mine-body j (t .0) (S .laid .mine-own j (t .0) b (last-in (t .1))) in
+      let x = chain-body (S .laid) j (t .0) b (last-in (t .1)) in
       let lo = steps-le (x .filled) in
       let hi = x .inside in
       let e = t .2 in

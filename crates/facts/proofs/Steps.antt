@@ -1,19 +1,19 @@
 -- Stepping by headers, as a relation on addresses, and what it has to do with the list of values.
-use Prim.Native.Nat.{ℕ, zero, suc, _+_, _-_, _*_, _/_, _%_, _^_, _≤_, _<_, zero-le, suc-le-suc}
-use native.Mathlib.Nat.{le-trans, le-refl, add-zero, add-assoc, add-suc, suc-add, zero-add, le-of-suc-le-suc, not-suc-le-zero}
+use Prim.Native.Nat.{ℕ, zero, suc, _+_, _-_, _≤_, _<_, zero-le, suc-le-suc}
+use native.Mathlib.Nat.{le-refl, add-zero, add-assoc, add-suc, suc-add}
 use native.Mathlib.Omega.{arith}
-use mathlib.Core.Path.{_≡_, refl, sym, ap, _∙_, subst}
+use mathlib.Core.Path.{_≡_, refl, sym, ap, _∙_}
 use mathlib.Core.Logic.{_≢_, _⊎_, inl, inr}
 use mathlib.Core.Bool.{Bool, true, false}
 use mathlib.Core.Option.{Option, none, some}
-use mathlib.Core.List.{List, [], _∷_, _++_}
-use lib.ListN.{length, take, drop, getD, length-drop}
+use mathlib.Core.List.{List, [], _∷_}
+use lib.ListN.{length, take, drop, length-drop}
 use lib.Seq.{getD-drop}
-use lib.Dec.{leb, eqb}
-use borrow.Author.Tests.{leb-true, leb-false, eqb-true, eqb-false, le-leb, eq-eqb}
+use lib.Dec.{eqb}
+use borrow.Author.Tests.{eqb-true, eq-eqb}
 use Rattle.rules.proofs.Headers.{fit-some, fit-is}
 use Rattle.rules.proofs.Stepping.{vals-skip}
-use Rattle.rules.specs.Words.{Head, headOf, lengthBy, fit, isRecord, Val, vals, usedOf, standsAt}
+use Rattle.rules.specs.Words.{headOf, lengthBy, fit, isRecord, Val, vals, standsAt}
 use Rattle.laws.specs.Lists.{at}
 
 -- a header of l words stands at a, and the value ends by hi

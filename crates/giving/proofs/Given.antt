@@ -5,15 +5,14 @@ use native.Mathlib.Nat.{le-refl}
 use native.Mathlib.Omega.{arith}
 use native.Mathlib.Numerals.{add-one, sub-one}
 use mathlib.Core.Path.{_≡_, refl, sym, ap, _∙_}
-use mathlib.Core.Logic.{_≢_, _⊎_, inl, inr}
+use mathlib.Core.Logic.{_≢_}
 use mathlib.Core.List.{List}
 use lib.ListN.{length, set, length-set}
-use lib.Seq.{getD-set-other}
-use Rattle.laws.proofs.Lists.{apart}
 use Rattle.rules.specs.declared.Control.{Control}
 use Rattle.rules.specs.Memory.{link, control}
 use Rattle.rules.specs.Pages.{Run, clearPage, giveBack}
 use Rattle.facts.proofs.Cleared.{clear-length, clear-else}
+use Rattle.facts.proofs.Laid.{link-relinked}
 use Rattle.giving.specs.Giving.{Left}
 
 -- ---- what it leaves, by the code's steps
@@ -41,15 +40,6 @@ module _ (k : ℕ) (h : List ℕ) (c : Control) (h′ : List ℕ) (l : ℕ) (cle
 cleared-link : (n : ℕ) (h : List ℕ) (k : ℕ) → k * 2 ^ n + 2 ^ n ≤ length h → 0 < 2 ^ n → (l : ℕ) → l ≢ k → link n (clearPage n h k) l ≡ link n h l
 unfolding link
 cleared-link n h k inside p l ne = clear-else n h k inside l (l * 2 ^ n) ne (le-refl _) (omega arith)
-
--- a link set leaves the others
-set-link : (n : ℕ) (h : List ℕ) (z l v : ℕ) → 0 < 2 ^ n → l ≢ z → link n (set h (z * 2 ^ n) v) l ≡ link n h l
-unfolding link
-set-link n h z l v p ne = getD-set-other h (z * 2 ^ n) (l * 2 ^ n) v 0 (λ e. go (apart (2 ^ n) l z ne) e)
-  where
-    go : (l * 2 ^ n + 2 ^ n ≤ z * 2 ^ n) ⊎ (z * 2 ^ n + 2 ^ n ≤ l * 2 ^ n) → l * 2 ^ n ≡ z * 2 ^ n → ⊥
-    go (inl b) e = omega arith
-    go (inr b) e = omega arith
 
 -- the free list after it
 pub given-last : (n : ℕ) (r : Run) (k : ℕ) → giveBack n k r .last ≡ suc k
@@ -86,4 +76,4 @@ module _ (n : ℕ) (r : Run) (k : ℕ) (inside : k * 2 ^ n + 2 ^ n ≤ length (r
       go zero e = rw (giveBack, e) (cleared-link n (r .heap) k inside p l ne)
       go (suc z) e =
           rw (giveBack, e)
-          (set-link n (clearPage n (r .heap) k) z l (suc k) p (λ q. nl (e ∙ ap suc (sym q))) ∙ cleared-link n (r .heap) k inside p l ne)
+          (sym (link-relinked n (clearPage n (r .heap) k) z (suc k) l p (λ q. nl (e ∙ ap suc (sym q)))) ∙ cleared-link n (r .heap) k inside p l ne)

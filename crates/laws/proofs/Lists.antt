@@ -1,13 +1,13 @@
 -- Parts of a list, writing into a part, and two parts of one size that lie apart. All hold word by word.
 use Prim.Native.Nat.{ℕ, zero, suc, _+_, _-_, _*_, _≤_, _<_}
-use native.Mathlib.Nat.{zero-add, mul-le-mul-right}
+use native.Mathlib.Nat.{le-refl, zero-add, mul-le-mul-right}
 use native.Mathlib.Omega.{arith}
-use native.Mathlib.Decide.{decLe}
+use native.Mathlib.Decide.{decLe, ℕ-discrete}
 use mathlib.Core.Path.{_≡_, sym, ap, _∙_}
 use mathlib.Core.Logic.{_≢_, _⊎_, inl, inr}
 use mathlib.Core.List.{List, [], _∷_, _++_}
-use lib.ListN.{length, take, drop, length-append, length-take, length-drop, drop-of-length-le, List·getD-append}
-use lib.Seq.{ext-getD, slice, take-nil, length-take-le, getD-append-add, getD-take, getD-drop}
+use lib.ListN.{length, set, take, drop, length-append, length-take, length-drop, drop-of-length-le, List·getD-append}
+use lib.Seq.{getD-set-other, ext-getD, slice, take-nil, length-take-le, getD-append-add, getD-take, getD-drop}
 use Rattle.laws.specs.Lists.{at, put}
 
 pub drop-take : (m n : ℕ) (l : List ℕ) → drop m (take (m + n) l) ≡ take n (drop m l)
@@ -83,3 +83,36 @@ apart size k l ne = go (decLe (suc k) l)
     go : Dec (suc k ≤ l) → (k * size + size ≤ l * size) ⊎ (l * size + size ≤ k * size)
     go (yes h) = inl (omega (arith, mul-le-mul-right size h))
     go (no f) = inr (let h : suc l ≤ k = omega arith in omega (arith, mul-le-mul-right size h))
+
+-- no place is in two parts
+pub one-part : (size k l x : ℕ) → k ≢ l → k * size ≤ x → x < k * size + size → l * size ≤ x → x < l * size + size → ⊥
+one-part size k l x ne a b c d = go (apart size k l ne)
+  where
+    go : (k * size + size ≤ l * size) ⊎ (l * size + size ≤ k * size) → ⊥
+    go (inl q) = omega arith
+    go (inr q) = omega arith
+
+-- two parts begin at two places
+pub starts-differ : (size k l : ℕ) → 0 < size → k ≢ l → k * size ≢ l * size
+starts-differ size k l p ne e = one-part size k l (k * size) ne (le-refl _) (omega arith) (omega arith) (omega arith)
+
+-- behind the first place of a part no part begins
+pub begins-none : (size k l x : ℕ) → k * size < x → x < k * size + size → x ≢ l * size
+begins-none size k l x a b e = go (ℕ-discrete k l)
+  where
+    go : Dec (k ≡ l) → ⊥
+    go (yes q) = let w : k * size ≡ l * size = ap (λ t. t * size) q in omega arith
+    go (no ne) = one-part size k l x ne (omega arith) b (omega arith) (omega arith)
+
+-- a word set in part k leaves the other parts as they are
+pub set-elsewhere : (size : ℕ) (h : List ℕ) (k a v l x : ℕ) → k * size ≤ a → a < k * size + size → l ≢ k → l * size ≤ x → x < l * size + size → at (set h a v) x ≡ at h x
+set-elsewhere size h k a v l x lo hi ne p q = getD-set-other h a x v 0 (λ e. one-part size l k x ne p q (omega arith) (omega arith))
+
+-- words put inside part k leave the other parts as they are
+pub put-elsewhere : (size : ℕ) (h : List ℕ) (k a : ℕ) (ws : List ℕ) (l x : ℕ) → a + length ws ≤ length h → k * size ≤ a → a + length ws ≤ k * size + size
+    → l ≢ k → l * size ≤ x → x < l * size + size → at (put h a ws) x ≡ at h x
+put-elsewhere size h k a ws l x fits lo hi ne p q = go (apart size l k ne)
+  where
+    go : (l * size + size ≤ k * size) ⊎ (k * size + size ≤ l * size) → at (put h a ws) x ≡ at h x
+    go (inl b) = at-put-below h a ws x fits (omega arith)
+    go (inr b) = at-put-above h a ws x fits (omega arith)

@@ -26,6 +26,14 @@ once-tail (once-more f o) = o
 pub once-head : {k : ℕ} {ks : List ℕ} → Once (k ∷ ks) → List·Memᴰ k ks → ⊥
 once-head (once-more f o) = f
 
+-- another than the first is behind it
+pub in-tail : {k x : ℕ} {ks : List ℕ} → x ≢ k → List·Memᴰ x (k ∷ ks) → List·Memᴰ x ks
+in-tail {k} {x} {ks} ne m = go (List·Memᴰ·cases-cons m)
+  where
+    go : (x ≡ k) ⊎ List·Memᴰ x ks → List·Memᴰ x ks
+    go (inl e) = absurd (ne e)
+    go (inr t) = t
+
 -- the kit's word for it
 pub once-nodup : {ks : List ℕ} → Once ks → List·Nodup ks
 once-nodup once-none = nodup-nil
@@ -43,6 +51,10 @@ last-in (later t) = List·Memᴰ·tail (last-in t)
 pub data Linked (l : ℕ → ℕ) : ℕ → List ℕ → Type 0 where
   stop : Linked l 0 []
   goes : {k : ℕ} {ks : List ℕ} → Linked l (l k) ks → Linked l (suc k) (k ∷ ks)
+
+-- a single page that links to none
+pub linked-single : {l : ℕ → ℕ} {k : ℕ} → l k ≡ 0 → Linked l (suc k) (k ∷ [])
+linked-single {l} {k} e = let t : Linked l (l k) [] = rw e stop in goes t
 
 pub linked-same : {l m : ℕ → ℕ} {x : ℕ} {ks : List ℕ} → ((k : ℕ) → List·Memᴰ k ks → l k ≡ m k) → Linked l x ks → Linked m x ks
 linked-same e stop = stop

@@ -1,9 +1,9 @@
 -- Words with zeros behind them: `padded m ws` has m words, and each is that of ws, 0 behind them. By recursion on both.
-use Prim.Native.Nat.{ℕ, zero, suc, _+_, _-_, _≤_, _<_}
-use mathlib.Core.Path.{_≡_, refl, sym, ap, _∙_}
-use mathlib.Core.List.{List, [], _∷_, _++_}
+use Prim.Native.Nat.{ℕ, zero, suc, _-_, _<_}
+use mathlib.Core.Path.{_≡_, refl, ap}
+use mathlib.Core.List.{List, [], _∷_}
 use native.Mathlib.Omega.{arith}
-use lib.ListN.{length, getD}
+use lib.ListN.{length}
 use Rattle.laws.specs.Lists.{at, padded}
 
 pub length-padded : (m : ℕ) (ws : List ℕ) → length (padded m ws) ≡ m

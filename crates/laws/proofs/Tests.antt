@@ -10,7 +10,7 @@ use mathlib.Core.Bool.{Bool, true, false, _&&_, and-true}
 use mathlib.Core.List.{List, [], _∷_, List·Memᴰ, List·Memᴰ·cases-cons}
 use lib.ListN.{length, getD, drop, drop-of-length-le}
 use lib.Seq.{slice, slice-cons, drop-cons, take-length}
-use lib.Dec.{leb, ltb, eqb}
+use lib.Dec.{eqb}
 use borrow.Author.Tests.{lt-ltb, le-ltb, le-leb, lt-leb, eq-eqb, ne-eqb}
 use Rattle.laws.specs.Lists.{all, allFrom, allBelow, zeros}
 use Rattle.laws.proofs.Lists.{slice-none}

@@ -1,22 +1,21 @@
 -- What a done answer of writing and of reading an image says: which tests were passed, and what is left. By cases on the tests, in their
 -- order.
-use Prim.Native.Nat.{ℕ, zero, suc, _/_, _^_, _≤_, _<_}
+use Prim.Native.Nat.{ℕ}
 use mathlib.Core.Path.{_≡_, refl, sym, ap, _∙_}
-use mathlib.Core.Bool.{Bool, true, false, _&&_, not}
-use mathlib.Core.List.{List, [], _∷_, _++_}
+use mathlib.Core.Bool.{Bool, true, false}
+use mathlib.Core.List.{List}
 use native.Mathlib.Omega.{arith}
 use borrow.Author.Tests.{eq-eqb}
-use lib.Dec.{ltb, eqb}
+use lib.Dec.{ltb}
 use lib.ListN.{length, take, drop}
 use lib.Seq.{take-at}
-use Rattle.laws.specs.Choice.{_⇒_∣_}
 use Rattle.laws.specs.Lists.{zeros}
 use Rattle.rules.specs.declared.Control.{Control}
 use Rattle.rules.specs.declared.Refusal.{Refusal}
 use Rattle.rules.specs.declared.Valued.{Valued}
 use Rattle.rules.specs.declared.Opened.{Opened}
-use Rattle.rules.specs.Memory.{Store, lent, row, limits}
-use Rattle.rules.specs.Refusals.{Outcome, outcome, Admitted, common, withinLimits, commonTest}
+use Rattle.rules.specs.Memory.{Store, lent, row}
+use Rattle.rules.specs.Refusals.{outcome, Admitted, withinLimits, commonTest}
 use Rattle.rules.specs.Image.{imageText, writeText, writeImage, Frames, frames, malformed, readText, storeOf, sameLengths, readStore, readImage}
 use Rattle.rules.specs.Left.{leftOpened}
 use Rattle.rules.proofs.Limits.{admits}

@@ -1,21 +1,18 @@
 -- Digits, words and frames, there and back: what is written is read as it was, and what is read is what was written. By recursion on the
 -- digits and on the words; a digit is a byte of two ranges, and a number of m digits is its first digit and a number of the others.
-use Prim.Native.Nat.{ℕ, zero, suc, _+_, _-_, _*_, _/_, _%_, _^_, _≤_, _<_}
+use Prim.Native.Nat.{ℕ, zero, suc, _+_, _-_, _*_, _/_, _%_, _^_, _<_}
 use mathlib.Core.Path.{_≡_, refl, sym, ap, _∙_}
-use mathlib.Core.Logic.{_⊎_, inl, inr}
-use mathlib.Core.Bool.{Bool, true, false, _&&_}
+use mathlib.Core.Bool.{Bool, true, false}
 use mathlib.Core.Option.{Option, none, some}
 use mathlib.Core.List.{List, [], _∷_, _++_, append-assoc}
-use native.Mathlib.Nat.{pow-succ', one-le-pow, mod-eq-of-lt, mod-lt, div-eq-of-lt, mul-add-div-right, mul-add-mod-self-left, mul-assoc, mul-comm, mul-left-comm, mul-one, mod-one, add-mul, zero-mul, zero-add, add-zero}
-use native.Mathlib.Numerals.{add-one}
+use native.Mathlib.Nat.{pow-succ', one-le-pow, mod-eq-of-lt, mod-lt, mul-add-div-right, mul-add-mod-self-left, mul-assoc, mul-left-comm, mul-one, mod-one, add-mul, zero-mul}
 use native.Mathlib.Omega.{arith}
 use native.Mathlib.Decide.{decLt}
-use borrow.Author.Tests.{lt-ltb, le-ltb, eq-eqb, eqb-true, eqb-false}
+use borrow.Author.Tests.{lt-ltb, le-ltb, eq-eqb, eqb-true}
 use lib.Arith.{digits-lt, digits-div, mod-mul}
-use lib.Dec.{ltb, eqb}
+use lib.Dec.{eqb}
 use lib.ListN.{length}
 use Rattle.laws.specs.Choice.{_⇒_∣_}
-use Rattle.laws.specs.Lists.{at}
 use Rattle.rules.specs.Memory.{Small}
 use Rattle.rules.specs.Image.{digitOf, hex, hexWords, frame, newline, valueOf, digits, words, endFrame, readWords, readFrame}
 use Rattle.promises.specs.Texts.{Countable}

@@ -1,15 +1,14 @@
 -- The frames of a text: reading gives exactly the well formed frames whose text it is, and the line of the first fault. Each by one step
 -- a frame, and recursion on the frames that are expected.
-use Prim.Native.Nat.{ℕ, zero, suc, _+_, _-_, _*_, _≤_, _<_}
+use Prim.Native.Nat.{ℕ, suc, _+_, _-_}
 use mathlib.Core.Path.{_≡_, refl, sym, ap, _∙_}
-use mathlib.Core.Bool.{Bool, true, false, _&&_}
 use mathlib.Core.Option.{Option, none, some}
 use mathlib.Core.List.{List, [], _∷_, _++_, append-assoc}
 use native.Mathlib.Omega.{arith}
 use lib.ListN.{length}
 use Rattle.rules.specs.Image.{frame, headFits, partFits, Expected, layout, Frames, frames, malformed, withFrame, readFrame, readFrames, readText}
-use Rattle.promises.specs.Texts.{Countable, HeadFits, FrameFits, Fits, WellFormed, framesText, textOf, NoHead, NoFrame, FaultAt, Fault, at-head, behind}
-use Rattle.promises.proofs.ImageDigits.{Framed, frame-read, read-framed}
+use Rattle.promises.specs.Texts.{HeadFits, FrameFits, Fits, WellFormed, framesText, textOf, NoFrame, FaultAt, Fault, at-head, behind}
+use Rattle.promises.proofs.ImageDigits.{frame-read, read-framed}
 
 -- no list of frames is a fault
 not-frames : {A : Type 0} {l : ℕ} {fs : List (List ℕ)} → malformed l ≡ frames fs → A

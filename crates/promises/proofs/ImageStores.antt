@@ -1,27 +1,26 @@
 -- A store and the frames of its image, there and back: the frames that writing makes fit, and give the store again; and the store that
 -- frames give has their text. Trimming and padding undo one another, and so do cutting a heap into pages and joining them.
-use Prim.Native.Nat.{ℕ, zero, suc, _+_, _-_, _*_, _/_, _%_, _^_, _≤_, _<_}
+use Prim.Native.Nat.{ℕ, zero, suc, _+_, _-_, _*_, _/_, _^_, _≤_, _<_}
 use mathlib.Core.Path.{_≡_, refl, sym, ap, _∙_}
-use mathlib.Core.Bool.{Bool, true, false, _&&_, not}
-use mathlib.Core.List.{List, [], _∷_, _++_, append-nil, append-assoc}
-use native.Mathlib.Nat.{zero-mul, add-mul, one-mul, zero-add, add-zero, mul-div-cancel, div-le-self}
+use mathlib.Core.Bool.{Bool, true, false, not}
+use mathlib.Core.List.{List, [], _∷_, _++_, append-assoc}
+use native.Mathlib.Nat.{zero-mul, add-mul, one-mul, mul-div-cancel, div-le-self}
 use native.Mathlib.Numerals.{add-one}
 use native.Mathlib.Omega.{arith}
-use borrow.Author.Tests.{le-leb, leb-true, eqb-true, not-true, not-false, eq-eqb, ne-eqb, eqb-false}
-use lib.Dec.{leb, eqb}
+use borrow.Author.Tests.{le-leb, leb-true, eqb-true, not-true}
+use lib.Dec.{eqb}
 use lib.Pow.{pow-pos}
-use lib.ListN.{length, take, drop, getD, replicate, length-append, length-take, length-drop}
-use lib.Seq.{getD-drop, take-add, drop-drop, take-at, drop-at, take-length, take-all, length-take-le}
-use Rattle.laws.specs.Choice.{_⇒_∣_}
+use lib.ListN.{length, take, drop, replicate, length-append, length-take, length-drop}
+use lib.Seq.{getD-drop, take-add, drop-drop, take-at, drop-at, take-length, length-take-le}
 use Rattle.laws.specs.Lists.{at, padded, zeros}
-use Rattle.laws.proofs.Tests.{both, and-left, and-right}
+use Rattle.laws.proofs.Tests.{both}
 use Rattle.laws.proofs.Padded.{length-padded}
-use Rattle.rules.specs.Memory.{Store, lent, pageCount, pageWords, row, Small, Words32}
-use Rattle.rules.specs.Refusals.{Paged, Admitted}
-use Rattle.rules.specs.Image.{frame, trim, headWords, pageFrames, imageText, trimmed, partFits, headFits, Expected, expected, layout, joined, storeOf, headControl}
+use Rattle.rules.specs.Memory.{Store, pageCount, pageWords, row, Small, Words32}
+use Rattle.rules.specs.Refusals.{Admitted}
+use Rattle.rules.specs.Image.{frame, trim, headWords, pageFrames, imageText, trimmed, partFits, headFits, Expected, expected, layout, joined, storeOf}
 use Rattle.rules.proofs.Limits.{page-size, whole-pages, two-pages}
 use Rattle.rules.proofs.Frames.{trim-take, length-trim, trim-trimmed, padded-trim}
-use Rattle.promises.specs.Texts.{Countable, HeadFits, FrameFits, Fits, WellFormed, framesText, textOf}
+use Rattle.promises.specs.Texts.{FrameFits, Fits, WellFormed, framesText, textOf}
 use Rattle.promises.proofs.ImageDigits.{small-cons}
 
 -- ---- words of 32 bits

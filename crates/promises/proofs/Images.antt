@@ -10,8 +10,8 @@ use Rattle.rules.specs.declared.Refusal.{Refusal}
 use Rattle.rules.specs.declared.Valued.{Valued}
 use Rattle.rules.specs.declared.Opened.{Opened}
 use Rattle.rules.specs.Memory.{Store, Words32}
-use Rattle.rules.specs.Refusals.{Outcome, outcome}
-use Rattle.rules.specs.Image.{imageText, writeImage, readImage, readText, Frames, frames, malformed}
+use Rattle.rules.specs.Refusals.{outcome}
+use Rattle.rules.specs.Image.{imageText, writeImage, readImage, readText, frames, malformed}
 use Rattle.rules.specs.Left.{leftOpened}
 use Rattle.promises.specs.Texts.{WellFormed, textOf, Fault}
 use Rattle.promises.proofs.ImageFrames.{text-reads, reads-text, text-fault, fault-text}

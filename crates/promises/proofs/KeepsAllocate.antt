@@ -1,7 +1,7 @@
 -- Allocating keeps a heap sound: the region has room, in its last page or in a page taken and linked; the value stands behind the others, and
 -- its words were judged before.
 use Prim.Native.Nat.{ℕ, suc, _+_, _-_, _*_, _/_, _%_, _^_, _≤_, _<_}
-use native.Mathlib.Nat.{add-zero, mul-le-mul-right}
+use native.Mathlib.Nat.{add-zero}
 use native.Mathlib.Omega.{arith}
 use native.Mathlib.Decide.{ℕ-discrete}
 use mathlib.Core.Path.{_≡_, refl, sym, ap, _∙_, subst}
@@ -16,7 +16,7 @@ use borrow.Author.Tests.{leb-false, ltb-false, not-false}
 use Rattle.laws.specs.Lists.{at, put}
 use Rattle.laws.proofs.Loops.{choice-keeps}
 use Rattle.laws.proofs.Facts.{all-at}
-use Rattle.laws.proofs.Lists.{apart as pages-apart, at-put-below, at-put-in}
+use Rattle.laws.proofs.Lists.{starts-differ, put-elsewhere, at-put-below, at-put-in}
 use Rattle.laws.proofs.Once.{last-in}
 use Rattle.rules.specs.declared.Kind.{Kind}
 use Rattle.rules.specs.Memory.{Store, lent, pageCount, endOf, topOf}
@@ -27,7 +27,7 @@ use Rattle.rules.specs.Pages.{Run, begun, recordAfter, linkFits, join, room, st
 use Rattle.rules.specs.Calls.{rowFits, headerFor, wordsFit, allocateOn, allocateIn, allocate}
 use Rattle.facts.proofs.Steps.{Stands, Steps, steps-le, steps-same, same-length, apart}
 use Rattle.facts.proofs.Audited.{steps-at}
-use Rattle.facts.proofs.Laid.{spare≢mine, mine≢beyond, upd, upd-same, upd-other, old, spare, mine, Body, put-elsewhere, Layout, Value}
+use Rattle.facts.proofs.Laid.{spare≢mine, mine≢beyond, upd, upd-same, upd-other, old, spare, mine, Body, Layout, Value, chain-body, page-in}
 use Rattle.facts.proofs.Framed.{below-end}
 use Rattle.facts.proofs.Goods.{good-of}
 use Rattle.facts.proofs.Sound.{Good, Sound}
@@ -36,7 +36,8 @@ use Rattle.working.proofs.Stored.{store-laid}
 use Rattle.working.proofs.Placed.{Roomed, room-was, room-made}
 use Rattle.working.proofs.Taken.{taken}
 use Rattle.rules.specs.Left.{leftValued}
-use Rattle.promises.proofs.KeepsGood.{admitted-keeps, good-kept, record-was, field-was, not-old, owned, chained-by}
+use Rattle.working.proofs.Owned.{sound-owned}
+use Rattle.promises.proofs.KeepsGood.{admitted-keeps, good-kept, record-was, field-was, not-old, chained-by}
 use Rattle.promises.proofs.KeepsPush.{some-free}
 
 -- ---- the header of a value
@@ -130,7 +131,7 @@ module _ (s : Store) (S : Sound s) (j : ℕ) (jR : j < s .ctl .regions) (kind : 
   long = L₂ .size ∙ sym (S .laid .size)
 
   z-in : z * P + P ≤ length (r₁ .heap)
-  z-in = let e = rm .laid .size in let p = mul-le-mul-right P (rm .laid .known z (λ q. mine≢beyond own-z q)) in omega arith
+  z-in = page-in (rm .laid) z (λ q. mine≢beyond own-z q)
 
   low : z * P + 2 ≤ top
   low = let b = steps-le (rm .laid .mine-body j z own-z .filled) in let a = top-is in omega arith
@@ -164,7 +165,7 @@ module _ (s : Store) (S : Sound s) (j : ℕ) (jR : j < s .ctl .regions) (kind : 
           let d = rm .fits in
           let u = end-is in
           let h = hi in
-          put-elsewhere n (r₁ .heap) z top value k x fits-in (omega arith) (omega arith) ne (omega arith) (omega arith)
+          put-elsewhere P (r₁ .heap) z top value k x fits-in (omega arith) (omega arith) ne (omega arith) (omega arith)
 
   good′ : (w : ℕ) → Good n R (s .heap) (s .consts) w → Good n R (r₂ .heap) (s .consts) w
   good′ w g = good-kept s S R (r₂ .heap) long keeps w (λ a p e. p .known) g
@@ -191,7 +192,7 @@ module _ (s : Store) (S : Sound s) (j : ℕ) (jR : j < s .ctl .regions) (kind : 
   field-word i b = ap (λ h. at h (top + suc i)) heap-is ∙ at-put-in (r₁ .heap) top value (suc i) fits-in (omega arith)
 
   body₂ : (i k : ℕ) → i < R → List·Memᴰ k (rm .pages₁ i) → Body n (r₂ .heap) k i (fin′ k)
-  body₂ i k b m = L₂ .mine-body i k (L₂ .mine-own i k b m)
+  body₂ i k b m = chain-body L₂ i k b m
 
   fields′ : (i k a l t : ℕ) → i < R → List·Memᴰ k (rm .pages₁ i) → Steps (r₂ .heap) (k * P + P) (k * P + 2) a → Stands (r₂ .heap) (k * P + P) a l
       → isRecord (at (r₂ .heap) a) ≡ true → t < l → Good n R (r₂ .heap) (s .consts) (at (r₂ .heap) (a + suc t))
@@ -233,7 +234,7 @@ module _ (s : Store) (S : Sound s) (j : ℕ) (jR : j < s .ctl .regions) (kind : 
 
       -- a page that was the region's
       old-page : S .own k ≡ mine i → List·Memᴰ k (S .pages i)
-      old-page o = owned s S .mines k i o .1
+      old-page o = sound-owned s S .mines k i o .1
 
       behind : S .own k ≡ mine i → Dec (k ≡ z) → S .fin k ≤ a → Good n R (r₂ .heap) (s .consts) (at (r₂ .heap) (a + suc t))
       behind o (no ne) u =
@@ -255,11 +256,7 @@ module _ (s : Store) (S : Sound s) (j : ℕ) (jR : j < s .ctl .regions) (kind : 
 
       -- a page taken just now is the last
       fresh-last : endOf (r₁ .table) j ≡ k * P + P → k ≢ z → ⊥
-      fresh-last e ne = by (pages-apart P k z ne)
-        where
-          by : (k * P + P ≤ z * P) ⊎ (z * P + P ≤ k * P) → ⊥
-          by (inl u) = let v = end-is in let g = S .laid .big in omega arith
-          by (inr u) = let v = end-is in let g = S .laid .big in omega arith
+      fresh-last e ne = let v = end-is in let g = S .laid .big in starts-differ P k z (omega arith) ne (omega arith)
 
       go : Dec (k ≡ z) → (S .own k ≡ mine i) ⊎ ((S .own k ≡ spare) × (i ≡ j) × (rm .fin₁ k ≡ k * P + 2) × (endOf (r₁ .table) j ≡ k * P + P))
           → Good n R (r₂ .heap) (s .consts) (at (r₂ .heap) (a + suc t))
@@ -296,7 +293,7 @@ module _ (s : Store) (S : Sound s) (j : ℕ) (jR : j < s .ctl .regions) (kind : 
         past = λ x p q. table-is x (omega arith) (omega arith) ∙ S .past x p q;
         idle = λ i b. table-is (4 * i + 3) (omega arith) (omega arith) ∙ S .idle i b;
         laid = rw long (stack-laid n N R (rm .own₁) fin′ (rm .pages₁) (rm .free₁) r₂ L₂ []);
-        chained = rw long (chained-by (rm .owned (owned s S)) none-old);
+        chained = rw long (chained-by (rm .owned (sound-owned s S)) none-old);
         fields = fields′;
         roots = λ i b. good′ _ (S .roots i b);
         consts = S .consts;

@@ -4,7 +4,7 @@ use native.Mathlib.Nat.{le-refl}
 use native.Mathlib.Omega.{arith}
 use native.Mathlib.Decide.{ℕ-discrete}
 use mathlib.Core.Path.{_≡_, sym, ap, _∙_}
-use mathlib.Core.Logic.{_≢_, _⊎_, inl, inr}
+use mathlib.Core.Logic.{_≢_}
 use mathlib.Core.Bool.{true, not}
 use mathlib.Core.Option.{some}
 use mathlib.Core.List.{List, List·Memᴰ}
@@ -14,7 +14,6 @@ use lib.Dec.{leb}
 use borrow.Author.Tests.{leb-false, not-false}
 use Rattle.laws.specs.Lists.{at}
 use Rattle.laws.proofs.Loops.{choice-keeps}
-use Rattle.laws.proofs.Lists.{apart as pages-apart}
 use Rattle.rules.specs.Memory.{Store, lent, pageCount}
 use Rattle.rules.specs.Words.{Word, number, inHeap, inConst, wordOf, headOf, lengthBy, fit, fits, isRecord, goodHeap, goodConst}
 use Rattle.rules.specs.Audit.{goodWord}
@@ -22,7 +21,8 @@ use Rattle.rules.specs.Refusals.{refused}
 use Rattle.rules.specs.Pages.{begun}
 use Rattle.rules.specs.Calls.{assignAt, assignBy, assign, setRoot}
 use Rattle.rules.proofs.Headers.{fit-is, fit-of}
-use Rattle.facts.proofs.Steps.{Stands, Steps, here, steps-le, steps-same, stands-same, steps-inside, apart}
+use Rattle.facts.proofs.Steps.{Stands, Steps, steps-le}
+use Rattle.facts.proofs.Inside.{other-page, no-header, value-still}
 use Rattle.facts.proofs.Laid.{mine, Layout}
 use Rattle.facts.proofs.Framed.{below-end, good-in}
 use Rattle.facts.proofs.Goods.{page-ends, good-of, in-heap}
@@ -90,36 +90,6 @@ length-is w l e =
     let q : some l ≡ some (w / 8) = sym f ∙ fit-of w l t .0 in
     cc
 
--- two heaps that differ in one word inside a value: what is stepped to in the one is stepped to in the other
-module _ (n : ℕ) (g h : List ℕ) (k d len i : ℕ) (sd : Steps g (k * 2 ^ n + 2 ^ n) (k * 2 ^ n + 2) d) (sv : Stands g (k * 2 ^ n + 2 ^ n) d len) (i-in : i < len)
-    (keep : (y : ℕ) → y ≢ d + suc i → at g y ≡ at h y) where
-  far : (m y : ℕ) → m ≢ k → m * 2 ^ n ≤ y → y < m * 2 ^ n + 2 ^ n → y ≢ d + suc i
-  far m y ne a b e = go (pages-apart (2 ^ n) m k ne)
-    where
-      go : (m * 2 ^ n + 2 ^ n ≤ k * 2 ^ n) ⊎ (k * 2 ^ n + 2 ^ n ≤ m * 2 ^ n) → ⊥
-      go (inl t) = let lo = steps-le sd in let hi = sv .ends in omega arith
-      go (inr t) = let lo = steps-le sd in let hi = sv .ends in omega arith
-
-  -- no header stands at the word
-  header-not : (m a l : ℕ) → Steps g (m * 2 ^ n + 2 ^ n) (m * 2 ^ n + 2) a → Stands g (m * 2 ^ n + 2 ^ n) a l → a ≢ d + suc i
-  header-not m a l r st e = go (ℕ-discrete m k)
-    where
-      by : (a ≤ d) ⊎ (d + suc len ≤ a) → ⊥
-      by (inl q) = omega arith
-      by (inr q) = omega arith
-
-      go : Dec (m ≡ k) → ⊥
-      go (yes q) = by (apart sd sv (rw q at r))
-      go (no ne) = let lo = steps-le r in let hi = st .ends in far m a ne (omega arith) (omega arith) e
-
-  value-over : (m a l : ℕ) → Steps g (m * 2 ^ n + 2 ^ n) (m * 2 ^ n + 2) a → Stands g (m * 2 ^ n + 2 ^ n) a l
-      → Steps h (m * 2 ^ n + 2 ^ n) (m * 2 ^ n + 2) a × Stands h (m * 2 ^ n + 2 ^ n) a l
-  value-over m a l r st = (go (ℕ-discrete m k), stands-same (keep a (header-not m a l r st)) st)
-    where
-      go : Dec (m ≡ k) → Steps h (m * 2 ^ n + 2 ^ n) (m * 2 ^ n + 2) a
-      go (yes e) = rw e (steps-inside g h (k * 2 ^ n + 2 ^ n) (k * 2 ^ n + 2) d len (d + suc i) sd sv (omega arith) (omega arith) keep here (rw e at r))
-      go (no ne) = let hi = st .ends in steps-same (λ y u v. keep y (far m y ne (omega arith) (omega arith))) r
-
 -- field i of the record of l words at address d
 module _ (s : Store) (S : Sound s) (d i x : ℕ) (p : InHeap (s .ctl .n) (s .ctl .regions) (s .heap) d) (i-in : i < p .len)
     (good : Good (s .ctl .n) (s .ctl .regions) (s .heap) (s .consts) x) where
@@ -157,13 +127,13 @@ module _ (s : Store) (S : Sound s) (d i x : ℕ) (p : InHeap (s .ctl .n) (s .ctl
 
   abbrev there : (m a l : ℕ) → Steps (s .heap) (m * 2 ^ n + 2 ^ n) (m * 2 ^ n + 2) a → Stands (s .heap) (m * 2 ^ n + 2 ^ n) a l
       → Steps h′ (m * 2 ^ n + 2 ^ n) (m * 2 ^ n + 2) a × Stands h′ (m * 2 ^ n + 2 ^ n) a l
-  there = value-over n (s .heap) h′ k d (p .len) i (p .steps) (p .stands) i-in keep
+  there = value-still n (s .heap) k d (p .len) i (p .steps) (p .stands) i-in h′ keep
 
   back : (m a l : ℕ) → Steps h′ (m * 2 ^ n + 2 ^ n) (m * 2 ^ n + 2) a → Stands h′ (m * 2 ^ n + 2 ^ n) a l
       → Steps (s .heap) (m * 2 ^ n + 2 ^ n) (m * 2 ^ n + 2) a × Stands (s .heap) (m * 2 ^ n + 2 ^ n) a l
   back =
       let t = there k d (p .len) (p .steps) (p .stands) in
-      value-over n h′ (s .heap) k d (p .len) i (t .0) (t .1) i-in (λ y ne. sym (keep y ne))
+      value-still n h′ k d (p .len) i (t .0) (t .1) i-in (s .heap) (λ y ne. sym (keep y ne))
 
   -- an origin is no such word
   origin-kept : (m : ℕ) → at (s .heap) (m * 2 ^ n + 1) ≡ at h′ (m * 2 ^ n + 1)
@@ -171,7 +141,7 @@ module _ (s : Store) (S : Sound s) (d i x : ℕ) (p : InHeap (s .ctl .n) (s .ctl
     where
       go : Dec (m ≡ k) → m * 2 ^ n + 1 ≢ d + suc i
       go (yes e) = let w : m * 2 ^ n ≡ k * 2 ^ n = ap (λ t. t * 2 ^ n) e in let lo = steps-le (p .steps) in omega arith
-      go (no ne) = let b = S .laid .big in far n (s .heap) h′ k d (p .len) i (p .steps) (p .stands) i-in keep m (m * 2 ^ n + 1) ne (omega arith) (omega arith)
+      go (no ne) = let b = S .laid .big in other-page n (s .heap) k d (p .len) i (p .steps) (p .stands) i-in m (m * 2 ^ n + 1) ne (omega arith) (omega arith)
 
   good-still : (w : ℕ) → Good n R (s .heap) (s .consts) w → Good n R h′ (s .consts) w
   good-still w (a-number e) = a-number e
@@ -193,7 +163,7 @@ module _ (s : Store) (S : Sound s) (d i x : ℕ) (p : InHeap (s .ctl .n) (s .ctl
           rw (e, getD-set-same (s .heap) (d + suc i) x 0 (omega arith)) (good-still x good)
       go (no ne) =
           rw (← keep (a + suc t) ne)
-          (good-still _ (S .fields j m a l t b mem (u .0) (u .1) (ap isRecord (keep a (header-not n (s .heap) h′ k d (p .len) i (p .steps) (p .stands) i-in keep m a l (u .0) (u .1))) ∙ rec) q))
+          (good-still _ (S .fields j m a l t b mem (u .0) (u .1) (ap isRecord (keep a (no-header n (s .heap) k d (p .len) i (p .steps) (p .stands) i-in m a l (u .0) (u .1))) ∙ rec) q))
 
   pub field-sound : Sound (lent h′ (s .table) (s .roots) (s .consts) (s .ctl))
   field-sound =

@@ -2,7 +2,7 @@
 -- values. Good pointers name values before that end.
 use Prim.Native.Nat.{ℕ, zero, suc, _+_, _*_, _^_, _≤_, _<_}
 use native.Mathlib.Omega.{arith}
-use mathlib.Core.Path.{_≡_, refl, sym, _∙_}
+use mathlib.Core.Path.{_≡_, refl, sym}
 use mathlib.Core.Logic.{_≢_, _⊎_}
 use mathlib.Core.Bool.{true, not}
 use mathlib.Core.List.{List, List·Memᴰ}
@@ -11,12 +11,12 @@ use borrow.Author.Tests.{not-false}
 use Rattle.laws.specs.Lists.{at}
 use Rattle.laws.proofs.Loops.{choice-keeps}
 use Rattle.rules.specs.declared.Refusal.{Refusal}
-use Rattle.rules.specs.Memory.{Store, pageCount}
+use Rattle.rules.specs.Memory.{Store}
 use Rattle.rules.specs.Words.{inHeap, wordOf}
 use Rattle.rules.specs.Audit.{brokenRule}
 use Rattle.rules.specs.Refusals.{withinLimits, commonTest, admitted, unbroken, audited}
 use Rattle.facts.proofs.Steps.{Stands, Steps, steps-le}
-use Rattle.facts.proofs.Laid.{mine-inj, old≢spare, old≢mine, old≢beyond, spare≢mine, spare≢beyond, mine≢beyond, Owner, old, spare, beyond, mine, Body}
+use Rattle.facts.proofs.Laid.{old≢spare, old≢mine, old≢beyond, Owner, old, spare, beyond, mine, chain-body}
 use Rattle.facts.proofs.Framed.{value-kept, value-was, good-in}
 use Rattle.facts.proofs.Sound.{InHeap, Good, a-number, to-heap, to-const, Chained, in-free, in-region, Sound}
 use Rattle.working.proofs.Owned.{Owned}
@@ -63,9 +63,6 @@ module _ (s : Store) (S : Sound s) where
           let q : j ≡ p .region = omega arith in
           rw q at m
 
-  body : (j k : ℕ) → j < R → List·Memᴰ k (S .pages j) → Body n (s .heap) k j (S .fin k)
-  body j k b m = S .laid .mine-body j k (S .laid .mine-own j k b m)
-
   pub page-big : (k : ℕ) → k * 2 ^ n + 2 ≤ k * 2 ^ n + 2 ^ n
   page-big k = let b = S .laid .big in omega arith
 
@@ -77,37 +74,13 @@ module _ (s : Store) (S : Sound s) where
       go (in-free o m) = old≢spare e o
       go (in-region j b o m) = old≢mine e o
 
-  pub owned : Owned (pageCount n (s .heap)) R (S .own) (S .pages) (S .free)
-  owned = record { whole = whole; spares = spares; mines = mines }
-    where
-      whole : (k : ℕ) → k < pageCount n (s .heap) → S .own k ≢ beyond
-      whole k b e = go (S .chained k b)
-        where
-          go : Chained R (S .own) (S .pages) (S .free) k → ⊥
-          go (in-free o m) = spare≢beyond o e
-          go (in-region j b o m) = mine≢beyond o e
-
-      spares : (k : ℕ) → S .own k ≡ spare → List·Memᴰ k (S .free)
-      spares k e = go (S .chained k (S .laid .known k (spare≢beyond e)))
-        where
-          go : Chained R (S .own) (S .pages) (S .free) k → List·Memᴰ k (S .free)
-          go (in-free o m) = m
-          go (in-region j b o m) = spare≢mine e o
-
-      mines : (k j : ℕ) → S .own k ≡ mine j → (j < R) × List·Memᴰ k (S .pages j)
-      mines k j e = go (S .chained k (S .laid .known k (mine≢beyond e)))
-        where
-          go : Chained R (S .own) (S .pages) (S .free) k → (j < R) × List·Memᴰ k (S .pages j)
-          go (in-free o m) = spare≢mine o e
-          go (in-region i b o m) = let q : i ≡ j = mine-inj (sym o ∙ e) in rw (← q) (b, m)
-
   -- the heap h has the words of the regions below R′, up to the end of the values of each page
   module _ (R′ : ℕ) (h : List ℕ) (len : length h ≡ length (s .heap))
       (keeps : (j k x : ℕ) → j < R → j < R′ → List·Memᴰ k (S .pages j) → k * 2 ^ n < x → x < S .fin k → at (s .heap) x ≡ at h x) where
     in-kept : (a : ℕ) (p : InHeap n R (s .heap) a) → p .region < R′ → InHeap n R′ h a
     in-kept a p b =
         let m = good-page a p in
-        let x = body (p .region) (p .page) (p .known) m in
+        let x = chain-body (S .laid) (p .region) (p .page) (p .known) m in
         let lo = steps-le (x .filled) in
         good-in n R R′ (s .heap) h a p len b
         (keeps (p .region) (p .page) (p .page * 2 ^ n + 1) (p .known) b m (omega arith) (omega arith))
@@ -125,7 +98,7 @@ module _ (s : Store) (S : Sound s) where
     pub record-was : (j k a l : ℕ) → j < R → j < R′ → List·Memᴰ k (S .pages j) → Steps h (k * 2 ^ n + 2 ^ n) (k * 2 ^ n + 2) a → Stands h (k * 2 ^ n + 2 ^ n) a l
         → (S .fin k ≤ a) ⊎ (Steps (s .heap) (k * 2 ^ n + 2 ^ n) (k * 2 ^ n + 2) a × Stands (s .heap) (k * 2 ^ n + 2 ^ n) a l × (a + suc l ≤ S .fin k))
     record-was j k a l b b′ m r st =
-        let x = body j k b m in
+        let x = chain-body (S .laid) j k b m in
         value-was (s .heap) (k * 2 ^ n + 2 ^ n) (k * 2 ^ n + 2) (S .fin k) (x .filled) (x .rest) h (λ y u v. keeps j k y b b′ m (omega arith) v) r st
 
     -- its fields are what they were

@@ -22,17 +22,17 @@ use Rattle.rules.specs.Pages.{Run, begun, recordAfter, giveBackAll}
 use Rattle.rules.specs.Calls.{pointsInto, letGo, popOn, popTop, pop}
 use Rattle.rules.proofs.Chains.{page-of}
 use Rattle.facts.proofs.Steps.{Stands, Steps, steps-le}
-use Rattle.facts.proofs.Laid.{old≢beyond, mine-inj, old≢mine, old≢spare, spare≢mine, mine≢beyond, spare≢beyond, Owner, old, spare, beyond, mine, Layout}
+use Rattle.facts.proofs.Laid.{old≢beyond, mine-inj, old≢mine, old≢spare, spare≢mine, mine≢beyond, spare≢beyond, Owner, old, spare, beyond, mine, Layout, chain-body}
 use Rattle.facts.proofs.Given.{spared, spared-in, spared-out, GivenAll, given-all}
 use Rattle.facts.proofs.Filled.{fields-in}
 use Rattle.facts.proofs.Framed.{below-end}
 use Rattle.facts.proofs.Goods.{body-holds, body-ends}
 use Rattle.facts.proofs.Passing.{pages-are}
 use Rattle.facts.proofs.Sound.{InHeap, Good, Sound}
-use Rattle.working.proofs.Owned.{Owned}
+use Rattle.working.proofs.Owned.{sound-owned, Owned}
 use Rattle.working.proofs.Fresh.{row-width, row-else, row-end, row-first, row-top, row-status}
 use Rattle.rules.specs.Left.{leftPlain}
-use Rattle.promises.proofs.KeepsGood.{audited-keeps, good-kept, record-was, field-was, not-old, owned, chained-by}
+use Rattle.promises.proofs.KeepsGood.{audited-keeps, good-kept, record-was, field-was, not-old, chained-by}
 
 -- ---- the region's pages as from-space
 
@@ -101,7 +101,7 @@ module _ (s : Store) (S : Sound s) (j : ℕ) (top : s .ctl .regions ≡ suc j) (
   below-R i b = omega arith
 
   W : Owned N R (S .own) (S .pages) (S .free)
-  W = owned s S
+  W = sound-owned s S
 
   -- without the top region
   L° : Layout n N j own° (S .fin) (S .pages) (S .free) (begun s)
@@ -183,7 +183,7 @@ module _ (s : Store) (S : Sound s) (j : ℕ) (top : s .ctl .regions ≡ suc j) (
 
   pub keeps : (i k x : ℕ) → i < R → i < j → List·Memᴰ k (S .pages i) → k * P < x → x < S .fin k → at (s .heap) x ≡ at (r′ .heap) x
   keeps i k x b c m p q =
-      let hi = S .laid .mine-body i k (S .laid .mine-own i k b m) .inside in
+      let hi = chain-body (S .laid) i k b m .inside in
       G .like k (not-its i k c m) .word x p (omega arith)
 
   -- a good word that does not point into region j stays good
@@ -219,7 +219,7 @@ module _ (s : Store) (S : Sound s) (j : ℕ) (top : s .ctl .regions ≡ suc j) (
       go : (S .fin k ≤ a) ⊎ (Steps (s .heap) (k * P + P) (k * P + 2) a × Stands (s .heap) (k * P + P) a l × (a + suc l ≤ S .fin k))
           → Good n j (r′ .heap) (s .consts) (at (r′ .heap) (a + suc t))
       go (inl e) =
-          let x = G .laid .mine-body i k (G .laid .mine-own i k b m) in
+          let x = chain-body (G .laid) i k b m in
           let u = below-end (r′ .heap) (k * P + P) (k * P + 2) (S .fin k) (x .filled) (x .rest) r st in
           absurd (omega arith)
       go (inr v) =

@@ -20,7 +20,7 @@ use Rattle.rules.specs.Refusals.{refused}
 use Rattle.rules.specs.Calls.{lookIn, headerIn, fieldsIn, isNumber, Walked, ends, walkSays, walk, pointsInto, letGo, popOn, popTop, pop}
 use Rattle.rules.specs.Seen.{homeIn, seen, path, readAt}
 use Rattle.facts.proofs.Steps.{Stands, Steps, steps-le}
-use Rattle.facts.proofs.Laid.{Body}
+use Rattle.facts.proofs.Laid.{Body, chain-body}
 use Rattle.facts.proofs.Framed.{below-end, value-kept}
 use Rattle.facts.proofs.Goods.{page-ends, const-in}
 use Rattle.facts.proofs.Looked.{pointer-is, words-of, look-at, home-at}
@@ -72,7 +72,7 @@ module _ (s : Store) (S : Sound s) (j : ℕ) (top : s .ctl .regions ≡ suc j) (
     mem = good-page s S a p
 
     body : Body n (s .heap) k (p .region) (S .fin k)
-    body = S .laid .mine-body (p .region) k (S .laid .mine-own (p .region) k (p .known) mem)
+    body = chain-body (S .laid) (p .region) k (p .known) mem
 
     ends-in : a + suc (p .len) ≤ S .fin k
     ends-in = below-end (s .heap) (k * 2 ^ n + 2 ^ n) (k * 2 ^ n + 2) (S .fin k) (body .filled) (body .rest) (p .steps) (p .stands)

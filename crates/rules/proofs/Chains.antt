@@ -1,18 +1,16 @@
 -- Pages as parts of the heap, and the turn laws of chains: a chain at a link is the page and the chain at its link.
 use Prim.Native.Nat.{ℕ, zero, suc, _+_, _-_, _*_, _/_, _^_, _≤_, _<_}
 use mathlib.Core.Path.{_≡_, refl, sym, ap, _∙_}
-use mathlib.Core.Bool.{Bool, true, false, _&&_}
 use mathlib.Core.List.{List, [], _∷_}
-use mathlib.Core.Logic.{_≢_, _⊎_, inl, inr}
+use mathlib.Core.Logic.{_≢_}
 use native.Mathlib.Omega.{arith}
-use native.Mathlib.Numerals.{sub-one, add-one}
+use native.Mathlib.Numerals.{sub-one}
 use borrow.Author.Tests.{lt-ltb, le-ltb}
 use lib.Arith.{digits-div}
-use lib.Dec.{ltb}
 use lib.ListN.{length, take, drop, getD, length-drop}
 use lib.Seq.{slice, drop-drop, length-take-le, getD-take, getD-drop, ext-getD}
 use Rattle.laws.specs.Lists.{at, put}
-use Rattle.laws.proofs.Lists.{drop-take, apart, length-put, at-put-below, at-put-above}
+use Rattle.laws.proofs.Lists.{drop-take, put-elsewhere, length-put}
 use Rattle.rules.specs.Memory.{pageWords, link, chain, chainEnd}
 use Rattle.rules.specs.Words.{vals, valsIn, pageVals}
 
@@ -40,19 +38,11 @@ same-page n g h l inside e agree =
     at-page n g l i b′ ∙ agree (l * 2 ^ n + i) (omega arith) (omega arith) ∙ sym (at-page n h l i b′))
 
 -- a run of words inside page k leaves every other page's words
-pub at-other-page : (n : ℕ) (h : List ℕ) (k o : ℕ) (ws : List ℕ) (l x : ℕ) → k * 2 ^ n + 2 ^ n ≤ length h → o + length ws ≤ 2 ^ n → l ≢ k
-    → l * 2 ^ n ≤ x → x < l * 2 ^ n + 2 ^ n → at (put h (k * 2 ^ n + o) ws) x ≡ at h x
-at-other-page n h k o ws l x inside fits ne lo hi = go (apart (2 ^ n) l k ne)
-  where
-    go : (l * 2 ^ n + 2 ^ n ≤ k * 2 ^ n) ⊎ (k * 2 ^ n + 2 ^ n ≤ l * 2 ^ n) → at (put h (k * 2 ^ n + o) ws) x ≡ at h x
-    go (inl b) = at-put-below h (k * 2 ^ n + o) ws x (omega arith) (omega arith)
-    go (inr b) = at-put-above h (k * 2 ^ n + o) ws x (omega arith) (omega arith)
-
 pub other-page : (n : ℕ) (h : List ℕ) (k o : ℕ) (ws : List ℕ) (l : ℕ) → k * 2 ^ n + 2 ^ n ≤ length h → o + length ws ≤ 2 ^ n → l ≢ k
     → l * 2 ^ n + 2 ^ n ≤ length h → pageWords n (put h (k * 2 ^ n + o) ws) l ≡ pageWords n h l
 other-page n h k o ws l inside fits ne inside′ =
     let e : length (put h (k * 2 ^ n + o) ws) ≡ length h = length-put h (k * 2 ^ n + o) ws (omega arith) in
-    same-page n _ h l (omega arith) e (λ x lo hi. at-other-page n h k o ws l x inside fits ne lo hi)
+    same-page n _ h l (omega arith) e (λ x lo hi. put-elsewhere (2 ^ n) h k (k * 2 ^ n + o) ws l x (omega arith) (omega arith) (omega arith) ne lo hi)
 
 -- the words of a page from its word i on
 pub page-from : (i n : ℕ) (h : List ℕ) (k : ℕ) → drop i (pageWords n h k) ≡ slice (k * 2 ^ n + i) (k * 2 ^ n + 2 ^ n) h

@@ -1,13 +1,13 @@
 -- Listing the pages of a cleared heap in rising order, one link at a time: what is linked so far, with the fresh pages from page k on, is
 -- the whole fresh heap, and the words from page k on are still all 0.
 use Prim.Native.Nat.{ℕ, zero, suc, _+_, _-_, _*_, _^_, _≤_, _<_}
-use mathlib.Core.Path.{_≡_, refl, sym, ap, _∙_}
-use mathlib.Core.List.{List, [], _∷_, _++_, append-assoc}
+use mathlib.Core.Path.{_≡_, sym, ap, _∙_}
+use mathlib.Core.List.{List, _∷_, _++_, append-assoc}
 use native.Mathlib.Omega.{arith}
 use native.Mathlib.Nat.{add-zero, zero-mul, suc-mul}
 use native.Mathlib.Numerals.{add-one}
 use lib.Pow.{suc-ones}
-use lib.ListN.{length, take, drop, replicate, set, length-set, length-replicate, replicate-append-replicate, take-append-drop}
+use lib.ListN.{length, take, drop, replicate, set, length-replicate, replicate-append-replicate, take-append-drop}
 use lib.Seq.{take-add, drop-drop, take-set-le, drop-set-add, take-at, drop-at}
 use Rattle.rules.specs.Calls.{freshPages}
 

@@ -1,12 +1,12 @@
 -- What the limits and the common test say as facts, and that a page of a heap within them lies inside it.
-use Prim.Native.Nat.{ℕ, suc, _+_, _-_, _*_, _/_, _%_, _^_, _≤_, _<_}
-use mathlib.Core.Path.{_≡_, refl, _∙_}
-use mathlib.Core.Bool.{Bool, true, false, _&&_, Bool·beq}
+use Prim.Native.Nat.{ℕ, _+_, _-_, _*_, _/_, _^_, _≤_, _<_}
+use mathlib.Core.Path.{_≡_, refl}
+use mathlib.Core.Bool.{Bool, true, false, Bool·beq}
 use borrow.Author.Tests.{leb-true, eqb-true, eqb-false, eq-eqb}
-use lib.Dec.{leb, eqb}
+use lib.Dec.{eqb}
 use Rattle.laws.proofs.Tests.{both}
 use native.Mathlib.Omega.{arith}
-use native.Mathlib.Nat.{le-trans, le-div-iff-mul-le, mul-le-mul-left, mul-le-mul-right, add-mul, one-mul, div-add-mod', div-lt-iff-lt-mul, div-le-self}
+use native.Mathlib.Nat.{le-trans, le-div-iff-mul-le, mul-le-mul-left, mul-le-mul-right, div-add-mod', div-lt-iff-lt-mul, div-le-self}
 use lib.Pow.{pow-pos, pow-mono, shr-le}
 use Rattle.rules.specs.declared.Control.{Control}
 use Rattle.rules.specs.Memory.{limits}

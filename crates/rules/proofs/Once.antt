@@ -1,7 +1,7 @@
 -- Rule 3 as one walk over the pages: region by region its chain opens at a page, bears its origin and ends, so does the free list, and the
 -- lengths add up to N. That is the counting form of rule 3 with the tests of each region together.
 use Prim.Native.Nat.{ℕ, _+_, _<_}
-use mathlib.Core.Path.{_≡_, sym, ap, _∙_}
+use mathlib.Core.Path.{_≡_, _∙_}
 use mathlib.Core.Bool.{Bool, true, _&&_}
 use mathlib.Core.List.{List}
 use lib.ListN.{length, length-append}

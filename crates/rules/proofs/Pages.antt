@@ -7,12 +7,10 @@ use mathlib.Core.List.{List, [], _++_}
 use native.Mathlib.Omega.{arith}
 use native.Mathlib.Numerals.{sub-one}
 use borrow.Author.Tests.{le-leb, lt-leb, eq-eqb, ne-eqb}
-use lib.Dec.{leb}
 use lib.ListN.{length, length-take, take, drop, replicate, set, length-drop, length-set, length-replicate}
 use lib.Seq.{length-take-le, getD-set-same}
 use Rattle.laws.specs.Lists.{put}
 use Rattle.laws.proofs.Parts.{part-put}
-use Rattle.rules.specs.declared.Control.{Control}
 use Rattle.rules.specs.declared.Refusal.{Refusal}
 use Rattle.rules.specs.declared.Valued.{Valued}
 use Rattle.rules.specs.Memory.{Store, control, pageLink, pageEnd, bodyAddress, pageWords, link, row, endOf, topOf, setEnd, setTop}

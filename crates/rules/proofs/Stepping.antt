@@ -1,6 +1,6 @@
 -- The turn laws of stepping: what one turn of a loop by addresses is to the list of values. At an address where a value fits, the list is
 -- that value and the values after it; at the end, or where none fits, it is empty.
-use Prim.Native.Nat.{ℕ, zero, suc, _+_, _-_, _*_, _/_, _%_, _^_, _≤_, _<_}
+use Prim.Native.Nat.{ℕ, zero, suc, _+_, _-_, _/_, _≤_, _<_}
 use mathlib.Core.Path.{_≡_, refl, sym, ap, _∙_}
 use mathlib.Core.Bool.{Bool, true, false, _&&_}
 use mathlib.Core.List.{List, [], _∷_}
@@ -14,7 +14,7 @@ use lib.Seq.{slice, slice-cons, length-slice, drop-drop, take-take}
 use Rattle.laws.specs.Lists.{all}
 use Rattle.laws.proofs.Lists.{drop-take, slice-none}
 use Rattle.laws.proofs.Tests.{all-turn}
-use Rattle.rules.specs.Words.{isRecord, fits, Val, vals, valsIn, standsAt, fieldsPass}
+use Rattle.rules.specs.Words.{isRecord, fits, vals, valsIn, standsAt, fieldsPass}
 use Rattle.rules.proofs.Headers.{fit-of, fit-none}
 
 pub vals-skip : (a k : ℕ) (ws : List ℕ) → vals a k ws ≡ vals (a + k) 0 (drop k ws)

@@ -1,12 +1,12 @@
 -- Document 01, "The audit, rules 2 to 9": each rule as a test, and the first that is broken.
-use Prim.Native.Nat.{ℕ, zero, suc, _+_, _*_, _/_, _%_, _^_}
+use Prim.Native.Nat.{ℕ, zero, suc, _+_, _%_, _^_}
 use mathlib.Core.Bool.{Bool, true, false, _&&_}
 use mathlib.Core.List.{List, [], _∷_, _++_}
 use lib.ListN.{length, drop}
 use lib.Dec.{leb, ltb, eqb}
-use Rattle.laws.specs.Lists.{all, allFrom, allBelow, zeros, times, lastOr}
+use Rattle.laws.specs.Lists.{all, allBelow, zeros, times, lastOr}
 use Rattle.rules.specs.Memory.{Store, pageCount, addressPage, pageLink, regionOrigin, pageWords, bodyWords, bodyAddress, pageEnd, link, origin, row, endOf, firstOf, topOf, statusOf, chainEnd, firstLink, regionPages, freePages, pagesFrom}
-use Rattle.rules.specs.Words.{Word, number, inHeap, inConst, wordOf, Val, vals, pageVals, constVals, usedOf, fieldsPass, goodConst, goodIn}
+use Rattle.rules.specs.Words.{number, inHeap, inConst, wordOf, vals, pageVals, constVals, usedOf, fieldsPass, goodConst, goodIn}
 
 -- A rule about regions is a test of each page of each region's chain; `q j k` is the test of page k of region j.
 abbrev pub eachPage : (ℕ → ℕ → Bool) → ℕ → List ℕ → List ℕ → ℕ → Bool

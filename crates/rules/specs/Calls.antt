@@ -3,7 +3,7 @@ use Prim.Native.Nat.{ℕ, zero, suc, _+_, _-_, _*_, _/_, _%_, _^_}
 use mathlib.Core.Bool.{Bool, true, false, _&&_, not}
 use mathlib.Core.Option.{Option, none, some}
 use mathlib.Core.List.{List, [], _∷_, _++_}
-use lib.ListN.{length, take, drop, set, replicate}
+use lib.ListN.{length, set, replicate}
 use lib.IntN.{ℤ, pos, negsuc}
 use lib.Dec.{leb, ltb, eqb}
 use Rattle.laws.specs.Choice.{_⇒_∣_}
@@ -18,9 +18,9 @@ use Rattle.rules.specs.declared.Opened.{Opened}
 use Rattle.rules.specs.declared.Worded.{Worded}
 use Rattle.rules.specs.declared.Numbered.{Numbered}
 use Rattle.rules.specs.Memory.{Store, control, limits, pageCount, addressPage, regionOrigin, pageWords, bodyAddress, pageAddress, pageEnd, pageLink, origin, endOf, topOf, setRow, regionPages}
-use Rattle.rules.specs.Words.{Word, number, inHeap, inConst, wordOf, addressPointer, isRecord, goodHeap, goodConst, goodIn, look}
-use Rattle.rules.specs.Audit.{brokenRule, topFits, recordsPass, goodWord, usedBy}
-use Rattle.rules.specs.Refusals.{Outcome, outcome, unchanged, refused, refusedValue, withinLimits, commonTest, admitted, audited}
+use Rattle.rules.specs.Words.{Word, number, inHeap, inConst, wordOf, addressPointer, isRecord, goodHeap, goodConst, look}
+use Rattle.rules.specs.Audit.{topFits, recordsPass, goodWord, usedBy}
+use Rattle.rules.specs.Refusals.{Outcome, outcome, refused, refusedValue, admitted, audited}
 use Rattle.rules.specs.Pages.{Run, begun, recordAfter, linkFits, takePage, giveBackAll, place}
 
 -- the value that a word points to, header and words; empty where it is no good pointer

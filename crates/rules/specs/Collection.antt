@@ -1,6 +1,6 @@
 -- Document 01, "The collection": its four steps, word by word (document 000, section 2.3).
-use Prim.Native.Nat.{ℕ, zero, suc, _+_, _-_, _*_, _/_, _%_, _^_}
-use mathlib.Core.Bool.{Bool, true, false, _&&_, _||_}
+use Prim.Native.Nat.{ℕ, zero, suc, _+_, _-_, _*_, _%_, _^_}
+use mathlib.Core.Bool.{true, false, _||_}
 use mathlib.Core.Option.{Option, none, some}
 use mathlib.Core.List.{List, [], _∷_}
 use lib.ListN.{length, take, drop, set}
@@ -9,9 +9,9 @@ use Rattle.laws.specs.Lists.{at}
 use Rattle.rules.specs.declared.Refusal.{Refusal}
 use Rattle.rules.specs.declared.Plain.{Plain}
 use Rattle.rules.specs.Memory.{Store, pageAddress, addressPage, linkPage, originRegion, bodyAddress, pageEnd, link, origin, topOf, statusOf, setStatus, setRow, pagesFrom}
-use Rattle.rules.specs.Words.{Word, number, inHeap, inConst, wordOf, addressPointer, Head, rec, raw, moved, wrong, headOf, wordsBy}
+use Rattle.rules.specs.Words.{number, inHeap, inConst, wordOf, addressPointer, rec, raw, moved, wrong, headOf, wordsBy}
 use Rattle.rules.specs.Refusals.{Outcome, outcome, refused, audited}
-use Rattle.rules.specs.Pages.{Scan, Run, begun, recordAfter, withHeap, withTable, withStack, takePage, giveBackAll, place}
+use Rattle.rules.specs.Pages.{Run, begun, recordAfter, withHeap, withTable, withStack, takePage, giveBackAll, place}
 
 -- how the work ends; out of fuel it never is on a heap that passes the audit
 pub data Ended : Type 0 where

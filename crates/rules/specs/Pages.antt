@@ -1,5 +1,5 @@
 -- Document 01, "What each call does": taking and returning pages, and the allocation rule. The calls and the collection share them.
-use Prim.Native.Nat.{ℕ, zero, suc, _+_, _-_, _*_, _/_, _%_, _^_}
+use Prim.Native.Nat.{ℕ, zero, suc, _+_, _-_, _^_}
 use mathlib.Core.Bool.{Bool, true, false, _&&_, Bool·beq}
 use mathlib.Core.Option.{Option, none, some}
 use mathlib.Core.List.{List, [], _∷_}
@@ -7,7 +7,7 @@ use lib.ListN.{length, set, replicate}
 use lib.Dec.{leb, eqb}
 use Rattle.laws.specs.Lists.{at, put}
 use Rattle.rules.specs.declared.Control.{Control}
-use Rattle.rules.specs.Memory.{Store, control, pageCount, pageAddress, addressPage, pageLink, regionOrigin, bodyAddress, pageEnd, link, setLink, setOrigin, row, endOf, topOf, setEnd, setTop}
+use Rattle.rules.specs.Memory.{Store, control, pageCount, pageAddress, pageLink, regionOrigin, bodyAddress, pageEnd, link, setLink, setOrigin, endOf, topOf, setEnd, setTop}
 
 -- a region waiting to be scanned: the address of its first unscanned copy
 pub record Scan : Type 0 where

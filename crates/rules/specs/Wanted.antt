@@ -1,7 +1,6 @@
 -- Document 01's working of a collection with as many pages as it wants: where no page is free it takes the one behind the heap's last. In
 -- all else it is the same, step by step; the pages that it takes are the pages that the working wants.
-use Prim.Native.Nat.{ℕ, zero, suc, _+_, _-_, _*_, _^_, _≤_}
-use mathlib.Core.Path.{_≡_}
+use Prim.Native.Nat.{ℕ, zero, suc, _+_, _-_, _*_, _^_}
 use mathlib.Core.Bool.{true, false}
 use mathlib.Core.Option.{Option, none, some}
 use mathlib.Core.List.{List, [], _∷_, _++_}
@@ -11,7 +10,7 @@ use Rattle.laws.specs.Lists.{at}
 use Rattle.rules.specs.Memory.{Store, pageCount, pageAddress, pageEnd, bodyAddress, regionOrigin, endOf, topOf, setStatus, setRow}
 use Rattle.rules.specs.Words.{number, inHeap, inConst, wordOf, addressPointer, rec, raw, moved, wrong, headOf}
 use Rattle.rules.specs.Pages.{Run, begun, withHeap, withTable, withStack, takePage, join, store}
-use Rattle.rules.specs.Collection.{wake, regionAt, nextScan, fromSpace}
+use Rattle.rules.specs.Collection.{wake, regionAt, nextScan}
 
 -- Below, n is the page exponent.
 module _ (n : ℕ) where

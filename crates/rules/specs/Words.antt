@@ -1,14 +1,14 @@
 -- Document 01, "Words and values": words, headers, values that stand back to back, good pointers, whole numbers.
-use Prim.Native.Nat.{ℕ, zero, suc, _+_, _-_, _*_, _/_, _%_, _^_}
+use Prim.Native.Nat.{ℕ, zero, suc, _+_, _-_, _*_, _/_, _%_}
 use mathlib.Core.Bool.{Bool, true, false, _&&_}
 use mathlib.Core.Option.{Option, none, some}
 use mathlib.Core.List.{List, [], _∷_}
 use lib.ListN.{length, take, drop}
 use lib.Seq.{slice}
-use lib.Dec.{leb, ltb, eqb}
+use lib.Dec.{leb, eqb}
 use Rattle.laws.specs.Choice.{_⇒_∣_}
 use Rattle.laws.specs.Lists.{at, all}
-use Rattle.rules.specs.Memory.{pageCount, addressPage, bodyWords, bodyAddress, origin}
+use Rattle.rules.specs.Memory.{addressPage, bodyWords, bodyAddress, origin}
 
 -- ---- Words.
 

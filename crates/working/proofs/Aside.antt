@@ -3,7 +3,7 @@ use Prim.Native.Nat.{ℕ, zero, suc, _+_, _*_, _^_, _≤_, _<_}
 use native.Mathlib.Nat.{le-refl}
 use native.Mathlib.Omega.{arith}
 use mathlib.Core.Path.{_≡_, refl, sym, ap, _∙_}
-use mathlib.Core.Logic.{_≢_, _⊎_, inl, inr}
+use mathlib.Core.Logic.{_≢_}
 use mathlib.Core.List.{List, _∷_}
 use lib.ListN.{set, length-set}
 use lib.Seq.{getD-set-other}
@@ -11,7 +11,7 @@ use Rattle.rules.specs.Memory.{link, statusOf, setStatus}
 use Rattle.laws.specs.Lists.{at}
 use Rattle.rules.specs.Pages.{Scan, Run, withHeap, withTable, withStack}
 use Rattle.rules.specs.Collection.{wake}
-use Rattle.laws.proofs.Lists.{apart as pages-apart}
+use Rattle.laws.proofs.Lists.{set-elsewhere}
 use Rattle.facts.proofs.Laid.{old≢spare, old≢mine, linked-same, Owner, old, Like, body-like, clean-like, Layout}
 
 module _ (n N R : ℕ) (own : ℕ → Owner) (fin : ℕ → ℕ) (pages : ℕ → List ℕ) (free : List ℕ) (r : Run) (L : Layout n N R own fin pages free r) where
@@ -70,11 +70,7 @@ module _ (n N R : ℕ) (own : ℕ → Owner) (fin : ℕ → ℕ) (pages : ℕ �
   -- a word of an old page is no part of the layout
   module _ (f a v : ℕ) (o : own f ≡ old) (lo : f * 2 ^ n ≤ a) (hi : a < f * 2 ^ n + 2 ^ n) where
     keep : (k x : ℕ) → own k ≢ old → k * 2 ^ n ≤ x → x < k * 2 ^ n + 2 ^ n → at (set (r .heap) a v) x ≡ at (r .heap) x
-    keep k x ne p q = getD-set-other (r .heap) a x v 0 (λ e. go (pages-apart (2 ^ n) k f (λ t. ne (ap own t ∙ o))) e)
-      where
-        go : (k * 2 ^ n + 2 ^ n ≤ f * 2 ^ n) ⊎ (f * 2 ^ n + 2 ^ n ≤ k * 2 ^ n) → x ≡ a → ⊥
-        go (inl t) e = omega arith
-        go (inr t) e = omega arith
+    keep k x ne p q = set-elsewhere (2 ^ n) (r .heap) f a v k x lo hi (λ t. ne (ap own t ∙ o)) p q
 
     like : (k : ℕ) → own k ≢ old → Like n (r .heap) (set (r .heap) a v) k
     like k ne = record { word = λ x p q. sym (keep k x ne (omega arith) q) }

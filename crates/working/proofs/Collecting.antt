@@ -32,6 +32,7 @@ use Rattle.working.proofs.Running.{Ran, Refusing, runs}
 use Rattle.working.proofs.Ending.{left-store, left-sound, left-filled}
 use Rattle.working.proofs.Views.{left-copied, home-before}
 use Rattle.working.proofs.Counting.{used-filled, used-bound}
+use Rattle.facts.proofs.Laid.{chain-body}
 
 -- each pointer of the log is moved once
 pub once-pointers : (log : List Moved) → Once (olds log) → Once (olds (pointers log))
@@ -97,7 +98,7 @@ module _ (s : Store) (S : Sound s) (roots : List ℕ) (r : Run) (A : Ran s S roo
       go a b e q (yes d) =
           let D = A .end .inv .logged .copies q in
           let f = A .end .inv .from-space (D .from) .0 (D .from-old) in
-          let x = S .laid .mine-body (f .0) (D .from) (S .laid .mine-own (f .0) (D .from) (f .1) (f .2)) .whose in
+          let x = chain-body (S .laid) (f .0) (D .from) (f .1) (f .2) .whose in
           let y = D .from-whose in
           let z : f .0 ≡ j = omega arith in
           inl (D .from, a, D .len, e, rw z at (f .2), D .from-steps, D .from-stands)

@@ -156,7 +156,7 @@ module _ (s : Store) (S : Sound s) (g : Ghost) (r : Run) (I : Inv s S g r) (x : 
   unfolding store
   same-width = W .width ∙ length-set (r₁ .table) (4 * j + 2) (b + length ws) ∙ K .width
 
-  same-status : statusOf (store n j ws r₁ .table) j ≡ statusOf (r .table) j
+  pub same-status : statusOf (store n j ws r₁ .table) j ≡ statusOf (r .table) j
   same-status = stored-row (4 * j + 3) (omega arith) (omega arith)
 
   same-stack : store n j ws r₁ .stack ≡ r .stack

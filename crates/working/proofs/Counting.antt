@@ -1,7 +1,6 @@
 -- Used words. On a sound heap a region's used words are what its pages hold; after a collection that is the words of the values that a root
 -- reaches, each once, and so no more than before.
 use Prim.Native.Nat.{ℕ, suc, _+_, _*_, _^_, _≤_, _<_}
-use native.Mathlib.Nat.{mul-le-mul-right}
 use native.Mathlib.Omega.{arith}
 use native.Mathlib.Decide.{ℕ-discrete}
 use mathlib.Core.Path.{_≡_, refl, ap}
@@ -19,7 +18,7 @@ use Rattle.rules.specs.Words.{usedOf, pageVals}
 use Rattle.rules.specs.Audit.{usedOn, usedBy}
 use Rattle.rules.specs.Seen.{seen, wordsAt}
 use Rattle.facts.proofs.Steps.{Stands, Steps, here, over, steps-le, steps-then, apart}
-use Rattle.facts.proofs.Laid.{mine}
+use Rattle.facts.proofs.Laid.{mine, chain-body, page-in}
 use Rattle.facts.proofs.Looked.{page-holds, page-ends, look-at, home-at}
 use Rattle.facts.proofs.Filled.{vals-used}
 use Rattle.facts.proofs.Framed.{below-end}
@@ -39,7 +38,7 @@ module _ (s : Store) (S : Sound s) where
   big = let b = S .laid .big in omega arith
 
   inside : (k j : ℕ) → S .own k ≡ mine j → k * 2 ^ n + 2 ^ n ≤ length (s .heap)
-  inside k j o = let a = S .laid .size in let b = mul-le-mul-right (2 ^ n) (S .laid .known k (λ q. mine≢beyond o q)) in omega arith
+  inside k j o = page-in (S .laid) k (λ q. mine≢beyond o q)
 
   -- a page
   page-used : (j k : ℕ) → S .own k ≡ mine j → usedOf (pageVals n (s .heap) k) ≡ filledTo n (S .fin) k
@@ -131,7 +130,7 @@ module _ (s : Store) (S : Sound s) where
       where
         below : (k a l : ℕ) → List·Memᴰ k (S .pages j) → Steps (s .heap) (k * 2 ^ n + 2 ^ n) (k * 2 ^ n + 2) a → Stands (s .heap) (k * 2 ^ n + 2 ^ n) a l → a < S .fin k
         below k a l m t st =
-            let B = S .laid .mine-body j k (S .laid .mine-own j k jR m) in
+            let B = chain-body (S .laid) j k jR m in
             let e = below-end (s .heap) (k * 2 ^ n + 2 ^ n) (k * 2 ^ n + 2) (S .fin k) (B .filled) (B .rest) t st in
             omega arith
 

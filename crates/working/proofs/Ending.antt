@@ -17,7 +17,7 @@ use Rattle.rules.specs.Pages.{Run, begun, recordAfter, giveBackAll}
 use Rattle.rules.specs.Collection.{fromSpace}
 use Rattle.rules.proofs.Whole.{pages-of, of-pages, pages-once}
 use Rattle.facts.proofs.Steps.{Stands, Steps, steps-le, steps-same, stands-same}
-use Rattle.facts.proofs.Laid.{Owner, old, spare, beyond, mine, Like, Layout}
+use Rattle.facts.proofs.Laid.{Owner, old, spare, beyond, mine, Like, Layout, chain-body}
 use Rattle.facts.proofs.Copied.{to, Rel, num, stay, went}
 use Rattle.rules.proofs.Pointers.{pointer, is-number, record-head}
 use Rattle.facts.proofs.Sound.{Within, InHeap, Good, a-number, to-heap, to-const, Chained, in-free, in-region, Sound}
@@ -64,7 +64,7 @@ module _ (s : Store) (S : Sound s) (roots : List ℕ) (r : Run) (A : Ran s S roo
   unfolding origin
   ks-once =
       pages-once n (s .heap) (s .table) R (λ j b. rw (pages-are s S j b) (S .laid .mine-once j b))
-      (λ j k b m. S .laid .mine-body j k (S .laid .mine-own j k b (rw (pages-are s S j b) at m)) .whose)
+      (λ j k b m. chain-body (S .laid) j k b (rw (pages-are s S j b) at m) .whose)
       R 0 (omega arith)
 
   in-ks : (k : ℕ) → List·Memᴰ k ks → g .own k ≡ old

@@ -1,7 +1,7 @@
 -- One evacuation of any good word keeps the invariant, or wants a page that is not there: a number or a constant pointer stays, a forwarded
 -- value gives its forward, any other value is copied.
 use Prim.Native.Nat.{ℕ, suc, _+_, _*_, _^_, _<_, zero-le}
-use native.Mathlib.Nat.{add-zero, mul-le-mul-right}
+use native.Mathlib.Nat.{add-zero}
 use native.Mathlib.Omega.{arith}
 use mathlib.Core.Path.{_≡_, refl, sym, ap, _∙_, subst}
 use mathlib.Core.Bool.{false}
@@ -21,7 +21,7 @@ use Rattle.rules.specs.Collection.{moveOn, moveTo, regionAt, evacuateAt, evacua
 use Rattle.rules.proofs.Chains.{page-of}
 use Rattle.rules.specs.Seen.{seen, Reached}
 use Rattle.facts.proofs.Steps.{steps-le}
-use Rattle.facts.proofs.Laid.{old}
+use Rattle.facts.proofs.Laid.{old, page-in}
 use Rattle.facts.proofs.Copied.{to, Rel, num, stay, went}
 use Rattle.rules.proofs.Pointers.{pointer, pointer-is, forward-head}
 use Rattle.facts.proofs.Sound.{InHeap, Good, a-number, to-heap, to-const, Chained, in-free, in-region, Sound}
@@ -119,7 +119,7 @@ module _ (s : Store) (S : Sound s) (g : Ghost) (r : Run) (I : Inv s S g r) where
       len : length (take (suc l) (drop a (r .heap))) ≡ suc l
       len =
           let p = I .laid .size in
-          let q = mul-le-mul-right (2 ^ n) (I .laid .known f (λ q. old≢beyond (old-page a x) q)) in
+          let q = page-in (I .laid) f (λ q. old≢beyond (old-page a x) q) in
           let z = length-drop a (r .heap) in
           let w = x .stands .ends in
           length-take-le (suc l) (drop a (r .heap)) (omega arith)

@@ -4,15 +4,15 @@ use native.Mathlib.Nat.{le-refl}
 use native.Mathlib.Omega.{arith}
 use native.Mathlib.Decide.{ℕ-discrete}
 use mathlib.Core.Path.{_≡_, sym, ap, _∙_}
-use mathlib.Core.Logic.{_≢_, _⊎_, inl, inr}
+use mathlib.Core.Logic.{_≢_}
 use mathlib.Core.List.{List}
 use lib.ListN.{set, length-set}
 use lib.Seq.{getD-set-other}
 use Rattle.laws.specs.Lists.{at}
 use Rattle.rules.specs.Memory.{link}
 use Rattle.rules.specs.Pages.{Run, withHeap}
-use Rattle.laws.proofs.Lists.{apart as pages-apart}
-use Rattle.facts.proofs.Steps.{Stands, Steps, here, steps-le, steps-inside}
+use Rattle.facts.proofs.Steps.{Stands, Steps, steps-le}
+use Rattle.facts.proofs.Inside.{other-page, steps-still}
 use Rattle.facts.proofs.Laid.{mine-inj, spare≢mine, linked-same, Owner, spare, mine, Body, Like, body-like, clean-like, Layout}
 
 module _ (n N R : ℕ) (own : ℕ → Owner) (fin : ℕ → ℕ) (pages : ℕ → List ℕ) (free : List ℕ) (r : Run) (L : Layout n N R own fin pages free r)
@@ -30,12 +30,8 @@ module _ (n N R : ℕ) (own : ℕ → Owner) (fin : ℕ → ℕ) (pages : ℕ �
   body : Body n (r .heap) k j (fin k)
   body = L .mine-body j k own-k
 
-  far : (m y : ℕ) → m ≢ k → m * 2 ^ n ≤ y → y < m * 2 ^ n + 2 ^ n → y ≢ d + suc i
-  far m y ne p q e = go (pages-apart (2 ^ n) m k ne)
-    where
-      go : (m * 2 ^ n + 2 ^ n ≤ k * 2 ^ n) ⊎ (k * 2 ^ n + 2 ^ n ≤ m * 2 ^ n) → ⊥
-      go (inl t) = let a = lo in let b = st .ends in omega arith
-      go (inr t) = let a = lo in let b = st .ends in omega arith
+  abbrev far : (m y : ℕ) → m ≢ k → m * 2 ^ n ≤ y → y < m * 2 ^ n + 2 ^ n → y ≢ d + suc i
+  far = other-page n (r .heap) k d l i at-d st i-in
 
   links : (m : ℕ) → link n (r .heap) m ≡ link n h′ m
   unfolding link
@@ -53,7 +49,7 @@ module _ (n N R : ℕ) (own : ℕ → Owner) (fin : ℕ → ℕ) (pages : ℕ �
       let a = lo in
       record {
         whose = sym (keep (k * 2 ^ n + 1) (omega arith)) ∙ body .whose;
-        filled = steps-inside (r .heap) h′ _ _ d l (d + suc i) at-d st (omega arith) (omega arith) keep here (body .filled);
+        filled = steps-still n (r .heap) k d l i at-d st i-in h′ keep k (fin k) (body .filled) (body .inside);
         inside = body .inside;
         rest = λ y p q. sym (keep y (omega arith)) ∙ body .rest y p q;
       }

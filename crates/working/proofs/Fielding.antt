@@ -1,21 +1,19 @@
 -- One field of a copy set: the invariant after it. No header changes, so every row stays; only how many of the copy's fields are scanned does.
-use Prim.Native.Nat.{ℕ, suc, _+_, _*_, _^_, _≤_, _<_}
-use native.Mathlib.Nat.{mul-le-mul-right}
+use Prim.Native.Nat.{ℕ, suc, _+_, _*_, _^_, _<_}
 use native.Mathlib.Omega.{arith}
-use native.Mathlib.Decide.{ℕ-discrete}
 use mathlib.Core.Path.{_≡_, sym, ap, _∙_}
-use mathlib.Core.Logic.{_≢_, _⊎_, inl, inr}
+use mathlib.Core.Logic.{_≢_}
 use mathlib.Core.Option.{some}
 use mathlib.Core.List.{List·Memᴰ}
 use lib.ListN.{length, set}
 use lib.Seq.{getD-set-other}
 use Rattle.laws.specs.Lists.{at}
-use Rattle.laws.proofs.Lists.{apart as pages-apart}
 use Rattle.rules.specs.Memory.{Store, pageCount}
 use Rattle.rules.specs.Words.{rec, raw, headOf}
 use Rattle.rules.specs.Pages.{Run, withHeap}
-use Rattle.facts.proofs.Steps.{Stands, Steps, steps-le, apart}
-use Rattle.facts.proofs.Laid.{upd, upd-other}
+use Rattle.facts.proofs.Steps.{Stands, Steps}
+use Rattle.facts.proofs.Inside.{no-header}
+use Rattle.facts.proofs.Laid.{upd, upd-other, page-in}
 use Rattle.facts.proofs.Copied.{to, Rel}
 use Rattle.facts.proofs.Sound.{Sound}
 use Rattle.working.proofs.Owned.{mine≢beyond}
@@ -65,7 +63,7 @@ module _ (s : Store) (S : Sound s) (g : Ghost) (r : Run) (I : Inv s S g r) (c d 
   x-in : x < length (r .heap)
   x-in =
       let a = C .into-stands .ends in
-      let b = mul-le-mul-right (2 ^ n) (I .laid .known (C .into) (λ q. mine≢beyond (C .into-mine) q)) in
+      let b = page-in (I .laid) (C .into) (λ q. mine≢beyond (C .into-mine) q) in
       let e = I .laid .size in
       omega arith
 
@@ -73,23 +71,8 @@ module _ (s : Store) (S : Sound s) (g : Ghost) (r : Run) (I : Inv s S g r) (c d 
   keep y ne = sym (getD-set-other (r .heap) x y v 0 ne)
 
   -- no value of any page has its header there
-  no-header : (k y l : ℕ) → Steps (r .heap) (k * 2 ^ n + 2 ^ n) (k * 2 ^ n + 2) y → Stands (r .heap) (k * 2 ^ n + 2 ^ n) y l → y ≢ x
-  no-header k y l t st e = go (ℕ-discrete k (C .into))
-    where
-      lo : C .into * 2 ^ n + 2 ≤ d
-      lo = steps-le (C .into-steps)
-
-      by : (y ≤ d) ⊎ (d + suc (C .len) ≤ y) → ⊥
-      by (inl q) = omega arith
-      by (inr q) = omega arith
-
-      far : (k * 2 ^ n + 2 ^ n ≤ C .into * 2 ^ n) ⊎ (C .into * 2 ^ n + 2 ^ n ≤ k * 2 ^ n) → ⊥
-      far (inl q) = let a = lo in let b = st .ends in omega arith
-      far (inr q) = let a = steps-le t in let b = C .into-stands .ends in omega arith
-
-      go : Dec (k ≡ C .into) → ⊥
-      go (yes q) = by (apart (C .into-steps) (C .into-stands) (rw q at t))
-      go (no ne) = far (pages-apart (2 ^ n) k (C .into) ne)
+  abbrev not-there : (k y l : ℕ) → Steps (r .heap) (k * 2 ^ n + 2 ^ n) (k * 2 ^ n + 2) y → Stands (r .heap) (k * 2 ^ n + 2 ^ n) y l → y ≢ x
+  not-there = no-header n (r .heap) (C .into) d (C .len) i (C .into-steps) (C .into-stands) i-in
 
   P : Pending n R g r
   P = I .pending
@@ -100,15 +83,15 @@ module _ (s : Store) (S : Sound s) (g : Ghost) (r : Run) (I : Inv s S g r) (c d 
   pending : Pending n R (counted g d (suc i)) r′
   pending =
       record {
-        rows = λ j jR. row-headers (λ y q. let F = row-in (P .rows j jR) q in keep y (no-header (F .page) y (F .len) (F .steps) (F .stands))) (P .rows j jR);
+        rows = λ j jR. row-headers (λ y q. let F = row-in (P .rows j jR) q in keep y (not-there (F .page) y (F .len) (F .steps) (F .stands))) (P .rows j jR);
         untouched = λ j b jR q. upd-other (g .count) d (suc i) b (λ e. gone j jR (rw e at q)) ∙ P .untouched j b jR q;
         scanned = λ {b = b} q away ne l e.
             let D = I .logged .copies q in
             rw (upd-other (g .count) d (suc i) b (λ t. ne (mid ∙ ap some (sym t))))
-            (P .scanned q away ne l (ap headOf (keep b (no-header (D .into) b (D .len) (D .into-steps) (D .into-stands))) ∙ e));
+            (P .scanned q away ne l (ap headOf (keep b (not-there (D .into) b (D .len) (D .into-steps) (D .into-stands))) ∙ e));
         raws = λ {b = b} q l e.
             let D = I .logged .copies q in
-            let e′ : headOf (at (r .heap) b) ≡ raw l = ap headOf (keep b (no-header (D .into) b (D .len) (D .into-steps) (D .into-stands))) ∙ e in
+            let e′ : headOf (at (r .heap) b) ≡ raw l = ap headOf (keep b (not-there (D .into) b (D .len) (D .into-steps) (D .into-stands))) ∙ e in
             upd-other (g .count) d (suc i) b
             (λ t. let z : rec kind ≡ raw l = sym head ∙ ap (λ y. headOf (at (r .heap) y)) (sym t) ∙ e′ in let z′ : _≡_ {A = ℕ} 0 1 = cc in omega arith)
             ∙ P .raws q l e′;

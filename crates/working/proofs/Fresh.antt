@@ -12,7 +12,7 @@ pub use Rattle.rules.proofs.Rows.{row-width, row-else, row-end, row-first, row-
 use Rattle.rules.specs.Pages.{Run, begun}
 use Rattle.facts.proofs.Laid.{Owner, old, spare, beyond, mine, Layout}
 use Rattle.facts.proofs.Sound.{Chained, in-free, in-region, Sound}
-use Rattle.working.proofs.Owned.{old≢spare, old≢mine, old≢beyond, spare≢mine, spare≢beyond, mine≢beyond, Owned}
+use Rattle.working.proofs.Owned.{old≢spare, old≢mine, old≢beyond, spare≢mine, mine≢beyond, Owned, sound-owned}
 use Rattle.working.proofs.Taken.{taken}
 
 -- ---- the pages of before
@@ -35,11 +35,11 @@ aged-mine spare e = spare≢mine refl e
 aged-mine beyond e = mine≢beyond e refl
 aged-mine (mine j) e = old≢mine refl e
 
-aged-beyond : (o : Owner) → aged o ≢ beyond → o ≢ beyond
-aged-beyond old n e = n e
-aged-beyond spare n e = n e
-aged-beyond beyond n e = n e
-aged-beyond (mine j) n e = mine≢beyond refl e
+aged-beyond : (o : Owner) → aged o ≡ beyond → o ≡ beyond
+aged-beyond old e = e
+aged-beyond spare e = e
+aged-beyond beyond e = e
+aged-beyond (mine j) e = old≢beyond refl e
 
 -- ---- the state
 
@@ -81,20 +81,6 @@ module _ (s : Store) (S : Sound s) where
   old-known : (k : ℕ) → aged (S .own k) ≡ old → k < N
   old-known k e = S .laid .known k (λ q. old≢beyond e (ap aged q))
 
-  whole : (k : ℕ) → k < N → aged (S .own k) ≢ beyond
-  whole k b e = go (S .chained k b)
-    where
-      go : Chained R (S .own) (S .pages) (S .free) k → ⊥
-      go (in-free o m) = spare≢beyond (ap aged o) e
-      go (in-region j jR o m) = old≢beyond (ap aged o) e
-
-  spares : (k : ℕ) → aged (S .own k) ≡ spare → List·Memᴰ k (S .free)
-  spares k e = go (S .chained k (S .laid .known k (λ q. spare≢beyond (aged-spare _ e) q)))
-    where
-      go : Chained R (S .own) (S .pages) (S .free) k → List·Memᴰ k (S .free)
-      go (in-free o m) = m
-      go (in-region j jR o m) = spare≢mine (aged-spare (S .own k) e) o
-
   -- before the first
   pub fresh-start : Fresh s S 0 (begun s)
   fresh-start =
@@ -108,7 +94,7 @@ module _ (s : Store) (S : Sound s) where
               size = S .laid .size;
               big = S .laid .big;
               rows = zero-le;
-              known = λ k ne. S .laid .known k (aged-beyond (S .own k) ne);
+              known = λ k ne. S .laid .known k (λ e. ne (ap aged e));
               free-own = λ k m. ap aged (S .laid .free-own k m);
               free-once = S .laid .free-once;
               free-links = S .laid .free-links;
@@ -122,7 +108,9 @@ module _ (s : Store) (S : Sound s) where
               mine-top = λ i b. absurd (omega arith);
             };
         from-space = λ k. (λ e. chained-old k (old-known k e) e, λ t. ap aged (S .laid .mine-own (t .0) k (t .1) (t .2)));
-        owned = record { whole = whole; spares = spares; mines = λ k j o. aged-mine (S .own k) o };
+        owned =
+            let W = sound-owned s S in
+            record { whole = λ k b e. W .whole k b (aged-beyond (S .own k) e); spares = λ k e. W .spares k (aged-spare (S .own k) e); mines = λ k j o. aged-mine (S .own k) o };
         none-yet = λ i b. refl;
         single = λ i b. absurd (omega arith);
         words = λ k x o p q. refl;

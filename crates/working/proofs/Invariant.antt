@@ -91,6 +91,37 @@ pub record Inv (s : Store) (S : Sound s) (g : Ghost) (r : Run) : Type 0 where
   pub width : length (r .table) ≡ 256
   pub past-rows : (x : ℕ) → 4 * s .ctl .regions ≤ x → at (r .table) x ≡ at (s .table) x
 
+-- the same copies; what is scanned, what waits and what is being scanned are told anew
+abbrev pub waiting : Ghost → (ℕ → List ℕ) → (ℕ → List ℕ) → Option ℕ → Option ℕ → Ghost
+waiting g past todo cur half =
+    record {
+      own = g .own;
+      fin = g .fin;
+      pages = g .pages;
+      free = g .free;
+      log = g .log;
+      count = g .count;
+      past = past;
+      todo = todo;
+      cur = cur;
+      half = half;
+    }
+
+pub waiting-inv : {s : Store} {S : Sound s} {g : Ghost} {r : Run} {past todo : ℕ → List ℕ} {cur half : Option ℕ} → Inv s S g r
+    → Pending (s .ctl .n) (s .ctl .regions) (waiting g past todo cur half) r → Inv s S (waiting g past todo cur half) r
+waiting-inv I P =
+    record {
+      laid = I .laid;
+      logged = I .logged;
+      pending = P;
+      from-space = I .from-space;
+      owned = I .owned;
+      tallied = I .tallied;
+      taken = I .taken;
+      width = I .width;
+      past-rows = I .past-rows;
+    }
+
 -- ---- one state and a later one
 
 -- nothing is forgotten, and each copy made costs at most what it adds to the log

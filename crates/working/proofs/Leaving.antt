@@ -14,24 +14,20 @@ use Rattle.rules.specs.Memory.{Store, pageCount, statusOf, setStatus}
 use Rattle.rules.specs.Pages.{Scan, Run, withTable, withStack}
 use Rattle.facts.proofs.Sound.{Sound}
 use Rattle.working.proofs.Aside.{status-laid}
-use Rattle.working.proofs.Invariant.{Ghost, regionsOf, Waits, Pending, Inv}
+use Rattle.working.proofs.Invariant.{waiting, Ghost, regionsOf, Waits, Pending, Inv}
 use Rattle.working.proofs.Waking.{in-regions}
 
 -- another region is scanned, or none
 abbrev pub scanning : Ghost → Option ℕ → Ghost
-scanning g c =
-    record {
-      own = g .own;
-      fin = g .fin;
-      pages = g .pages;
-      free = g .free;
-      log = g .log;
-      count = g .count;
-      past = g .past;
-      todo = g .todo;
-      cur = c;
-      half = g .half;
-    }
+scanning g c = waiting g (g .past) (g .todo) c (g .half)
+
+-- a region on the stack waits still when the top is taken, or is the one taken
+pub top-or-rest : (t : Scan) (ts : List Scan) (i : ℕ) → List·Memᴰ i (regionsOf (t ∷ ts)) → List·Memᴰ i (regionsOf ts) ⊎ (some (t .region) ≡ some i)
+top-or-rest t ts i m = go (List·Memᴰ·cases-cons m)
+  where
+    go : (i ≡ t .region) ⊎ List·Memᴰ i (regionsOf ts) → List·Memᴰ i (regionsOf ts) ⊎ (some (t .region) ≡ some i)
+    go (inl q) = inr (ap some (sym q))
+    go (inr m) = inl m
 
 -- region j left
 abbrev pub left : ℕ → List Scan → Run → Run
@@ -121,11 +117,7 @@ module _ (s : Store) (S : Sound s) (g : Ghost) (r : Run) (I : Inv s S g r) (j : 
       left-inv (some (t .region)) ts (λ u m. rw e (List·Memᴰ·tail m)) (once-tail (rw e at (P .once)))
       (λ u m q. once-head (rw e at (P .once)) (rw (let z : t .region ≡ u .region = cc in z) (in-regions m)))
       (λ i q. let z : t .region ≡ i = cc in rw (← z) (top .known, top .awake, not-own t (rw e (List·Memᴰ·head refl))))
-      (λ i m. go i (List·Memᴰ·cases-cons (rw e at m)))
+      (λ i m. top-or-rest t ts i (rw e at m))
     where
       top : Waits R g (r .table) t
       top = P .stacked t (rw e (List·Memᴰ·head refl))
-
-      go : (i : ℕ) → (i ≡ t .region) ⊎ List·Memᴰ i (regionsOf ts) → List·Memᴰ i (regionsOf ts) ⊎ (some (t .region) ≡ some i)
-      go i (inl q) = inr (ap some (sym q))
-      go i (inr m) = inl m

@@ -1,6 +1,7 @@
 pub mod Owned
 pub mod Stored
 pub mod Taken
+pub mod OneMore
 pub mod Roomy
 pub mod Placed
 pub mod Log

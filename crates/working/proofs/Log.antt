@@ -11,7 +11,7 @@ use mathlib.Core.List.{List, [], _∷_, List·Memᴰ, List·Memᴰ·head, List·
 use Rattle.rules.specs.Memory.{Store}
 use Rattle.laws.specs.Lists.{at}
 use Rattle.rules.specs.Seen.{seen, Reached}
-use Rattle.laws.proofs.Lists.{apart as pages-apart}
+use Rattle.laws.proofs.Lists.{one-part}
 use Rattle.facts.proofs.Steps.{Stands, Steps, steps-le, steps-same, stands-same, apart}
 use Rattle.laws.proofs.Once.{Once, once-more}
 use Rattle.facts.proofs.Laid.{upd, upd-same, upd-other, Owner, old, mine}
@@ -146,13 +146,9 @@ module _ (n : ℕ) (s : Store) (kept : ℕ → Type 0) (own own′ : ℕ → Own
       here-too e (inl t) = let x = C .into-below in let y : fin (C .into) ≡ fin p = ap fin e in let z = t .1 in omega arith
       here-too e (inr t) = t .1 (C .region) (ap own (sym e) ∙ C .into-mine)
 
-      apart-by : (C .into * 2 ^ n + 2 ^ n ≤ p * 2 ^ n) ⊎ (p * 2 ^ n + 2 ^ n ≤ C .into * 2 ^ n) → ⊥
-      apart-by (inl t) = let w = lo in let x = hi in let y = lo′ in let z = hi′ in omega arith
-      apart-by (inr t) = let w = lo in let x = hi in let y = lo′ in let z = hi′ in omega arith
-
       go : Dec (C .into ≡ p) → ⊥
       go (yes e) = here-too e (E .b-fresh)
-      go (no ne) = apart-by (pages-apart (2 ^ n) (C .into) p ne)
+      go (no ne) = let w = lo in let x = hi in let y = lo′ in let z = hi′ in one-part (2 ^ n) (C .into) p d ne (omega arith) (omega arith) (omega arith) (omega arith)
 
   new-copy : Copy n s kept own′ fin′ h′ (to a b ∷ log) (upd done b 0) a b
   new-copy =

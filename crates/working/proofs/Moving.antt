@@ -1,7 +1,7 @@
 -- A value moved: its words, still as they were, stand at the end of its region, and its old header is the forward. No other word of an old
 -- page changes, and no word of a region's values does.
 use Prim.Native.Nat.{ℕ, suc, _+_, _*_, _^_, _≤_, _<_, zero-le}
-use native.Mathlib.Nat.{add-zero, mul-le-mul-right}
+use native.Mathlib.Nat.{add-zero}
 use native.Mathlib.Omega.{arith}
 use native.Mathlib.Decide.{ℕ-discrete}
 use mathlib.Core.Path.{_≡_, refl, sym, ap, _∙_, subst}
@@ -13,9 +13,9 @@ use Rattle.rules.specs.Words.{headOf, lengthBy}
 use Rattle.rules.specs.Memory.{Store, endOf, topOf}
 use Rattle.laws.specs.Lists.{at, put}
 use Rattle.rules.specs.Pages.{Run}
-use Rattle.laws.proofs.Lists.{apart as pages-apart, length-put, at-put-below, at-put-in, at-put-above}
+use Rattle.laws.proofs.Lists.{one-part, starts-differ, put-elsewhere, length-put, at-put-below, at-put-in}
 use Rattle.facts.proofs.Steps.{Stands, Steps, steps-le, steps-same, apart}
-use Rattle.facts.proofs.Laid.{old≢spare, old≢mine, old≢beyond, spare≢mine, mine≢beyond, upd, upd-same, upd-other, last-in, Owner, old, spare, mine, Body, Layout, Value}
+use Rattle.facts.proofs.Laid.{old≢spare, old≢mine, old≢beyond, spare≢mine, mine≢beyond, upd, upd-same, upd-other, last-in, Owner, old, spare, mine, Body, Layout, Value, page-in}
 use Rattle.facts.proofs.Copied.{Moved, to}
 use Rattle.working.proofs.Log.{Log, Evacuated}
 use Rattle.working.proofs.Placed.{Roomed}
@@ -30,11 +30,7 @@ module _ (n : ℕ) (s : Store) (kept : ℕ → Type 0) (own : ℕ → Owner) (fi
     where
       go : {k : ℕ} (e : ℕ) → Dec (k ≡ f) → Steps (s .heap) (k * 2 ^ n + 2 ^ n) (k * 2 ^ n + 2) x → x + suc e ≤ k * 2 ^ n + 2 ^ n → Steps (s .heap) (f * 2 ^ n + 2 ^ n) (f * 2 ^ n + 2) x
       go c (yes e) t u = rw e at t
-      go {k} c (no ne) t u = absurd (by (pages-apart (2 ^ n) k f ne))
-        where
-          by : (k * 2 ^ n + 2 ^ n ≤ f * 2 ^ n) ⊎ (f * 2 ^ n + 2 ^ n ≤ k * 2 ^ n) → ⊥
-          by (inl z) = let w = steps-le t in omega arith
-          by (inr z) = let w = steps-le t in omega arith
+      go {k} c (no ne) t u = let w = steps-le t in absurd (one-part (2 ^ n) k f x ne (omega arith) (omega arith) p q)
 
   pub still : (i : ℕ) → i ≤ l → at h (a + i) ≡ at (s .heap) (a + i)
   still i b =
@@ -68,10 +64,7 @@ module _ (n N R : ℕ) (s : Store) (kept : ℕ → Type 0) (own : ℕ → Owner)
   a-hi = st .ends
 
   f-in : f * 2 ^ n + 2 ^ n ≤ length (r .heap)
-  f-in =
-      let z = L .size in
-      let p = mul-le-mul-right (2 ^ n) (L .known f (λ q. old≢beyond o q)) in
-      omega arith
+  f-in = page-in L f (λ q. old≢beyond o q)
 
   pub len : length ws ≡ suc l
   len = let x = f-in in let y = a-hi in let z = length-drop a (r .heap) in length-take-le (suc l) (drop a (r .heap)) (omega arith)
@@ -110,10 +103,7 @@ module _ (n N R : ℕ) (s : Store) (kept : ℕ → Type 0) (own : ℕ → Owner)
   b-hi = let x = fits in let y = len in let z = e-is in omega arith
 
   p-in : p * 2 ^ n + 2 ^ n ≤ length (r₁ .heap)
-  p-in =
-      let z = M .laid .size in
-      let q = mul-le-mul-right (2 ^ n) (M .laid .known p (λ q. mine≢beyond own-p q)) in
-      omega arith
+  p-in = page-in (M .laid) p (λ q. mine≢beyond own-p q)
 
   b-in : b + length ws ≤ length (r₁ .heap)
   b-in = let x = p-in in let y = b-hi in let z = len in omega arith
@@ -123,21 +113,13 @@ module _ (n N R : ℕ) (s : Store) (kept : ℕ → Type 0) (own : ℕ → Owner)
 
   -- page f is no page of the region
   far : (k x : ℕ) → k ≢ f → k * 2 ^ n ≤ x → x < k * 2 ^ n + 2 ^ n → x ≢ a
-  far k x ne q t e = go (pages-apart (2 ^ n) k f ne)
-    where
-      go : (k * 2 ^ n + 2 ^ n ≤ f * 2 ^ n) ⊎ (f * 2 ^ n + 2 ^ n ≤ k * 2 ^ n) → ⊥
-      go (inl u) = let x = a-lo in let y = a-hi in omega arith
-      go (inr u) = let x = a-lo in let y = a-hi in omega arith
+  far k x ne q t e = let y = a-lo in let z = a-hi in one-part (2 ^ n) k f x ne q t (omega arith) (omega arith)
 
   f≢p : f ≢ p
   f≢p e = old≢mine (M .old-kept f .0 o) (ap (M .own₁) e ∙ own-p)
 
   elsewhere : (k x : ℕ) → k ≢ p → k * 2 ^ n ≤ x → x < k * 2 ^ n + 2 ^ n → at (put (r₁ .heap) b ws) x ≡ at (r₁ .heap) x
-  elsewhere k x ne q t = go (pages-apart (2 ^ n) k p ne)
-    where
-      go : (k * 2 ^ n + 2 ^ n ≤ p * 2 ^ n) ⊎ (p * 2 ^ n + 2 ^ n ≤ k * 2 ^ n) → at (put (r₁ .heap) b ws) x ≡ at (r₁ .heap) x
-      go (inl u) = let x′ = b-lo in at-put-below (r₁ .heap) b ws x b-in (omega arith)
-      go (inr u) = let x′ = b-hi in let y = len in at-put-above (r₁ .heap) b ws x b-in (omega arith)
+  elsewhere k x ne q t = let y = b-lo in let z = b-hi in let w = len in put-elsewhere (2 ^ n) (r₁ .heap) p b ws k x b-in (omega arith) (omega arith) ne q t
 
   unset : (x : ℕ) → x ≢ a → at h′ x ≡ at (put (r₁ .heap) b ws) x
   unset x ne = getD-set-other (put (r₁ .heap) b ws) a x (4 * b) 0 ne
@@ -152,11 +134,7 @@ module _ (n N R : ℕ) (s : Store) (kept : ℕ → Type 0) (own : ℕ → Owner)
   fin′ = upd (M .fin₁) p (M .fin₁ p + length ws)
 
   one-last : (k : ℕ) → endOf (r₁ .table) j ≡ k * 2 ^ n + 2 ^ n → k ≢ p → ⊥
-  one-last k e ne = go (pages-apart (2 ^ n) k p ne)
-    where
-      go : (k * 2 ^ n + 2 ^ n ≤ p * 2 ^ n) ⊎ (p * 2 ^ n + 2 ^ n ≤ k * 2 ^ n) → ⊥
-      go (inl u) = let x = e-is in let y = L .big in omega arith
-      go (inr u) = let x = e-is in let y = L .big in omega arith
+  one-last k e ne = let x = e-is in let y = L .big in starts-differ (2 ^ n) k p (omega arith) ne (omega arith)
 
   froms : (k i : ℕ) → M .own₁ k ≡ mine i → k ≢ p → (own k ≡ mine i) × (fin′ k ≡ fin k)
   froms k i q ne = go (M .mine-from k i q)

@@ -17,10 +17,10 @@ use Rattle.laws.specs.Lists.{at}
 use Rattle.rules.specs.Memory.{link, topOf}
 use Rattle.rules.specs.Pages.{Run}
 use Rattle.rules.specs.Collection.{nextFrom, nextScan}
-use Rattle.laws.proofs.Lists.{apart as pages-apart}
+use Rattle.laws.proofs.Lists.{one-part}
 use Rattle.facts.proofs.Steps.{Stands, steps-le}
 use Rattle.laws.proofs.Once.{once-tail, once-head}
-use Rattle.facts.proofs.Laid.{Once, Last, only, later, last-in, Linked, Owner, mine, Body, Layout}
+use Rattle.facts.proofs.Laid.{Once, Last, only, later, last-in, Linked, Owner, mine, Body, Layout, chain-body}
 use Rattle.rules.proofs.Pointers.{words-of}
 use Rattle.facts.proofs.Framed.{no-zero}
 use Rattle.rules.proofs.Chains.{page-of}
@@ -50,18 +50,18 @@ module _ (n N R : ℕ) (own : ℕ → Owner) (fin : ℕ → ℕ) (pages : ℕ �
   top-is = L .mine-top j jR .3
 
   z-body : Body n (r .heap) z j (fin z)
-  z-body = L .mine-body j z (L .mine-own j z jR (last-in (L .mine-top j jR .1)))
+  z-body = chain-body L j z jR (last-in (L .mine-top j jR .1))
 
   t-is : s + wordsBy (headOf (at (r .heap) s)) ≡ s + suc l
   t-is = ap (λ x. s + x) (words-of (headOf (at (r .heap) s)) l (st .head))
 
   -- the end of what stands in one page is not the end of another
   not-top : (t : ℕ) → k * 2 ^ n + 2 ≤ t → t ≤ k * 2 ^ n + 2 ^ n → k ≢ z → t ≢ topOf (r .table) j
-  not-top t p q ne e = go (pages-apart (2 ^ n) k z ne)
-    where
-      go : (k * 2 ^ n + 2 ^ n ≤ z * 2 ^ n) ⊎ (z * 2 ^ n + 2 ^ n ≤ k * 2 ^ n) → ⊥
-      go (inl u) = let x = top-is in let y = steps-le (z-body .filled) in omega arith
-      go (inr u) = let x = top-is in let y = z-body .inside in omega arith
+  not-top t p q ne e =
+      let x = top-is in
+      let y = steps-le (z-body .filled) in
+      let w = z-body .inside in
+      one-part (2 ^ n) k z (t - 1) ne (omega arith) (omega arith) (omega arith) (omega arith)
 
   -- the next value stands right behind
   pub next-here : (m : ℕ) → Stands (r .heap) (k * 2 ^ n + 2 ^ n) (s + suc l) m → s + suc l < fin k → nextScan n j s r ≡ s + suc l

@@ -4,10 +4,13 @@ use Prim.Native.Nat.{ℕ, zero, suc, _+_, _<_}
 use native.Mathlib.Omega.{arith}
 use native.Mathlib.Decide.{ℕ-discrete}
 use mathlib.Core.Path.{_≡_, refl, sym, ap, _∙_}
-use mathlib.Core.Logic.{_≢_, _⊎_, inl, inr}
-use mathlib.Core.List.{List, [], _∷_, _++_, List·Memᴰ, List·Memᴰ·head, List·Memᴰ·cases-cons, Memᴰ·append-left, Memᴰ·append-right}
+use mathlib.Core.Logic.{_≢_}
+use mathlib.Core.List.{List, [], _∷_, _++_, List·Memᴰ, List·Memᴰ·head, Memᴰ·append-left, Memᴰ·append-right}
 use lib.ListN.{length, length-append}
 pub use Rattle.facts.proofs.Laid.{mine-inj, old≢spare, old≢mine, old≢beyond, spare≢mine, spare≢beyond, mine≢beyond}
+use Rattle.laws.proofs.Once.{in-tail}
+use Rattle.rules.specs.Memory.{Store, pageCount}
+use Rattle.facts.proofs.Sound.{Chained, in-free, in-region, Sound}
 use Rattle.facts.proofs.Laid.{upd, upd-same, upd-other, Owner, spare, beyond, mine}
 
 pub record Owned (N R : ℕ) (own : ℕ → Owner) (pages : ℕ → List ℕ) (free : List ℕ) : Type 0 where
@@ -74,13 +77,9 @@ taken-owned N R own pages k ks j jR own-k W = record { whole = whole; spares = s
     spares : (l : ℕ) → upd own k (mine j) l ≡ spare → List·Memᴰ l ks
     spares l e = go (ℕ-discrete l k)
       where
-        by : l ≢ k → (l ≡ k) ⊎ List·Memᴰ l ks → List·Memᴰ l ks
-        by ne (inl q) = absurd (ne q)
-        by ne (inr m) = m
-
         go : Dec (l ≡ k) → List·Memᴰ l ks
         go (yes q) = spare≢mine e (upd-same own k (mine j) l q)
-        go (no ne) = by ne (List·Memᴰ·cases-cons (W .spares l (sym (upd-other own k (mine j) l ne) ∙ e)))
+        go (no ne) = in-tail ne (W .spares l (sym (upd-other own k (mine j) l ne) ∙ e))
 
     mines : (l i : ℕ) → upd own k (mine j) l ≡ mine i → (i < R) × List·Memᴰ l (upd pages j (pages j ++ k ∷ []) i)
     mines l i e = go (ℕ-discrete l k)
@@ -94,3 +93,37 @@ taken-owned N R own pages k ks j jR own-k W = record { whole = whole; spares = s
             let ij : i ≡ j = mine-inj (sym e ∙ upd-same own k (mine j) l q) in
             (rw ij jR, rw (upd-same pages j (pages j ++ k ∷ []) i ij) (Memᴰ·append-right (pages j) (List·Memᴰ·head q)))
         go (no ne) = by (W .mines l i (sym (upd-other own k (mine j) l ne) ∙ e)) (ℕ-discrete i j)
+
+-- ---- before a collection
+
+-- in a sound heap each page is free or in one region's chain
+module _ (s : Store) (S : Sound s) where
+  abbrev n : ℕ
+  n = s .ctl .n
+
+  abbrev R : ℕ
+  R = s .ctl .regions
+
+  pub sound-owned : Owned (pageCount n (s .heap)) R (S .own) (S .pages) (S .free)
+  sound-owned = record { whole = whole; spares = spares; mines = mines }
+    where
+      whole : (k : ℕ) → k < pageCount n (s .heap) → S .own k ≢ beyond
+      whole k b e = go (S .chained k b)
+        where
+          go : Chained R (S .own) (S .pages) (S .free) k → ⊥
+          go (in-free o m) = spare≢beyond o e
+          go (in-region j b o m) = mine≢beyond o e
+
+      spares : (k : ℕ) → S .own k ≡ spare → List·Memᴰ k (S .free)
+      spares k e = go (S .chained k (S .laid .known k (spare≢beyond e)))
+        where
+          go : Chained R (S .own) (S .pages) (S .free) k → List·Memᴰ k (S .free)
+          go (in-free o m) = m
+          go (in-region j b o m) = spare≢mine e o
+
+      mines : (k j : ℕ) → S .own k ≡ mine j → (j < R) × List·Memᴰ k (S .pages j)
+      mines k j e = go (S .chained k (S .laid .known k (mine≢beyond e)))
+        where
+          go : Chained R (S .own) (S .pages) (S .free) k → (j < R) × List·Memᴰ k (S .pages j)
+          go (in-free o m) = spare≢mine o e
+          go (in-region i b o m) = let q : i ≡ j = mine-inj (sym o ∙ e) in rw (← q) (b, m)

@@ -1,6 +1,5 @@
 -- An empty page of region j becomes its last: the only words that change are the link of the page that was last, and the region's e and a.
 use Prim.Native.Nat.{ℕ, suc, _+_, _-_, _*_, _^_, _≤_, _<_}
-use native.Mathlib.Nat.{mul-le-mul-right}
 use native.Mathlib.Omega.{arith}
 use native.Mathlib.Decide.{ℕ-discrete}
 use mathlib.Core.Path.{_≡_, sym, ap, _∙_}
@@ -11,8 +10,7 @@ use lib.Seq.{getD-set-same, getD-set-other}
 use Rattle.rules.specs.Memory.{link, endOf, firstOf, topOf}
 use Rattle.laws.specs.Lists.{at}
 use Rattle.rules.specs.Pages.{Run, join}
-use Rattle.laws.proofs.Lists.{apart}
-use Rattle.facts.proofs.Laid.{mine-inj, spare≢mine, mine≢beyond, upd, upd-same, upd-other, Once, Last, last-in, Linked, linked-same, Owner, spare, mine, Like, body-like, clean-like, Layout}
+use Rattle.facts.proofs.Laid.{mine-inj, spare≢mine, mine≢beyond, upd, upd-same, upd-other, Once, Last, last-in, Linked, linked-same, Owner, spare, mine, Like, body-like, clean-like, like-relinked, link-relinked, Layout, page-in}
 use Rattle.working.proofs.Taken.{linked-snoc, last-snoc, in-snoc, once-snoc}
 
 -- page k, which belongs to region j and holds nothing yet, becomes the region's last page
@@ -35,33 +33,17 @@ module _ (n N R : ℕ) (own : ℕ → Owner) (fin : ℕ → ℕ) (pages : ℕ �
   x-is = let e = L .mine-top j jR .2 in omega arith
 
   z-in : z * P + P ≤ length (r .heap)
-  z-in = let s = L .size in let p = mul-le-mul-right P (L .known z (λ q. mine≢beyond own-z q)) in omega arith
+  z-in = page-in L z (λ q. mine≢beyond own-z q)
 
   abbrev pub h′ : List ℕ
   h′ = set (r .heap) x (suc k)
 
-  keep : (y : ℕ) → y ≢ z * P → at h′ y ≡ at (r .heap) y
-  keep y ne = getD-set-other (r .heap) x y (suc k) 0 (λ q. ne (q ∙ x-is))
-
   -- the only word that changes is a link
   pub like : (l : ℕ) → Like n (r .heap) h′ l
-  like l = record { word = λ y p q. sym (keep y (λ e. go (ℕ-discrete l z) y p q e)) }
-    where
-      by : (l * P + P ≤ z * P) ⊎ (z * P + P ≤ l * P) → (y : ℕ) → l * P < y → y < l * P + P → y ≡ z * P → ⊥
-      by (inl t) y p q e = omega arith
-      by (inr t) y p q e = let b = L .big in omega arith
-
-      go : Dec (l ≡ z) → (y : ℕ) → l * P < y → y < l * P + P → y ≡ z * P → ⊥
-      go (yes e′) y p q e = let w : l * P ≡ z * P = ap (λ t. t * P) e′ in omega arith
-      go (no ne) y p q e = by (apart P l z ne) y p q e
+  like l = rw x-is (like-relinked n (r .heap) z (suc k) l)
 
   pub links : (l : ℕ) → l ≢ z → link n (r .heap) l ≡ link n h′ l
-  unfolding link
-  links l ne = sym (keep (l * P) (λ e. go (apart P l z ne) e))
-    where
-      go : (l * P + P ≤ z * P) ⊎ (z * P + P ≤ l * P) → l * P ≡ z * P → ⊥
-      go (inl t) e = let b = L .big in omega arith
-      go (inr t) e = let b = L .big in omega arith
+  links l ne = let b = L .big in rw x-is (link-relinked n (r .heap) z (suc k) l (omega arith) ne)
 
   z-link : link n h′ z ≡ suc k
   unfolding link

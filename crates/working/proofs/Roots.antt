@@ -4,7 +4,7 @@ use native.Mathlib.Omega.{arith}
 use mathlib.Core.Path.{_≡_, refl, sym, ap, _∙_}
 use mathlib.Core.Logic.{_⊎_, inl, inr}
 use mathlib.Core.Option.{none, some}
-use mathlib.Core.List.{List, [], _∷_, List·Memᴰ, List·Memᴰ·head, List·Memᴰ·tail, List·Memᴰ·cases-cons}
+use mathlib.Core.List.{List, [], _∷_, List·Memᴰ, List·Memᴰ·head, List·Memᴰ·tail}
 use lib.ListN.{length}
 use Rattle.laws.specs.Lists.{at}
 use Rattle.laws.proofs.Once.{once-tail, once-head}
@@ -25,7 +25,7 @@ use Rattle.working.proofs.Invariant.{lacking-on, Ghost, Kept, regionsOf
 use Rattle.working.proofs.Waking.{in-regions}
 use Rattle.working.proofs.Evacuating.{in-pointers, of-pointers}
 use Rattle.working.proofs.Evacuation.{evacuates}
-use Rattle.working.proofs.Leaving.{scanning}
+use Rattle.working.proofs.Leaving.{top-or-rest, scanning}
 use Rattle.working.proofs.Work.{Finished, works}
 
 -- a longer log relates what a shorter one does
@@ -47,6 +47,25 @@ pub record AllBecame (s : Store) (S : Sound s) (g : Ghost) (r : Run) (ws vs : Li
   pub count : length ws ≡ length vs
   pub rels : (i : ℕ) → i < length ws → Rel (Kept s) (pointers (ghost .log)) (at ws i) (at vs i)
 
+unfoldable pub all-none : (s : Store) (S : Sound s) (g : Ghost) (r : Run) → Inv s S g r → AllBecame s S g r [] [] r
+all-none s S g r I = record { ghost = g; inv = I; later = later-refl (s .ctl .regions) g r; count = refl; rels = λ i b. absurd (omega arith) }
+
+-- one word, and then the others
+unfoldable pub all-more : {s : Store} {S : Sound s} {g : Ghost} {r r₁ r₂ : Run} {w v : ℕ} {ws vs : List ℕ} (B : Became s S g r w v r₁) → AllBecame s S (B .ghost) r₁ ws vs r₂
+    → AllBecame s S g r (w ∷ ws) (v ∷ vs) r₂
+all-more {s} {w = w} {v} {ws} {vs} B A =
+    record {
+      ghost = A .ghost;
+      inv = A .inv;
+      later = later-trans (B .later) (A .later);
+      count = ap suc (A .count);
+      rels = each;
+    }
+  where
+    each : (i : ℕ) → i < suc (length ws) → Rel (Kept s) (pointers (A .ghost .log)) (at (w ∷ ws) i) (at (v ∷ vs) i)
+    each zero b = rel-grows (B .ghost .log) (A .ghost .log) (A .later .log) (B .rel)
+    each (suc i) b = A .rels i (omega arith)
+
 module _ (s : Store) (S : Sound s) where
   abbrev n : ℕ
   n = s .ctl .n
@@ -58,7 +77,7 @@ module _ (s : Store) (S : Sound s) where
       → ((i : ℕ) → i < length ws → Reached (seen s) (s .roots) (at ws i))
       → ((evacuateAll n ws r ≡ none) × Lacking s S (rootsFor n ws r)) ⊎ ((vs : List ℕ) × (r′ : Run) × (evacuateAll n ws r ≡ some (vs, r′)) × AllBecame s S g r ws vs r′)
   unfolding evacuateAll rootsFor
-  evacuates-all [] g r I good reached = inr ([], r, refl, record { ghost = g; inv = I; later = later-refl R g r; count = refl; rels = λ i b. absurd (omega arith) })
+  evacuates-all [] g r I good reached = inr ([], r, refl, all-none s S g r I)
   evacuates-all (w ∷ ws) g r I good reached =
       go (λ g′ r′ I′. evacuates-all ws g′ r′ I′ (λ i b. good (suc i) (suc-le-suc b)) (λ i b. reached (suc i) (suc-le-suc b)))
       (evacuates s S g r I w (good 0 (suc-le-suc zero-le)) (reached 0 (suc-le-suc zero-le)))
@@ -70,24 +89,7 @@ module _ (s : Store) (S : Sound s) where
       then v r₁ e B (inl u) =
           let t : evacuateFor n w r ≡ (v, r₁) = follows-some (v, r₁) (evacuate-follows n w r) e in
           inl (rw (e, evacuateAll, u .0), lacking-on (λ y. rw t y) (u .1))
-      then v r₁ e B (inr u) =
-          let A = u .3 in
-          inr (
-            v ∷ u .0,
-            u .1,
-            rw (e, evacuateAll, u .2),
-            record {
-              ghost = A .ghost;
-              inv = A .inv;
-              later = later-trans (B .later) (A .later);
-              count = ap suc (A .count);
-              rels = λ i b. each i b A;
-            },
-          )
-        where
-          each : (i : ℕ) → i < suc (length ws) → (A : AllBecame s S (B .ghost) r₁ ws (u .0) (u .1)) → Rel (Kept s) (pointers (A .ghost .log)) (at (w ∷ ws) i) (at (v ∷ u .0) i)
-          each zero b A = rel-grows (B .ghost .log) (A .ghost .log) (A .later .log) (B .rel)
-          each (suc i) b A = A .rels i (omega arith)
+      then v r₁ e B (inr u) = inr (v ∷ u .0, u .1, rw (e, evacuateAll, u .2), all-more B (u .3))
 
       go : ((g′ : Ghost) (r′ : Run) → Inv s S g′ r′ → Result ws g′ r′)
           → ((evacuate n w r ≡ none) × Lacking s S (evacuateFor n w r .1)) ⊎ ((v : ℕ) × (r₁ : Run) × (evacuate n w r ≡ some (v, r₁)) × Became s S g r w v r₁) → Result (w ∷ ws) g r
@@ -125,12 +127,8 @@ module _ (s : Store) (S : Sound s) where
           busy = λ i iR ne. go i (P .busy i iR ne);
         }
       where
-        by : (i : ℕ) → (i ≡ t .region) ⊎ List·Memᴰ i (regionsOf ts) → List·Memᴰ i (regionsOf ts) ⊎ (some (t .region) ≡ some i)
-        by i (inl q) = inr (ap some (sym q))
-        by i (inr m) = inl m
-
         go : (i : ℕ) → List·Memᴰ i (regionsOf (r .stack)) ⊎ (g .cur ≡ some i) → List·Memᴰ i (regionsOf ts) ⊎ (some (t .region) ≡ some i)
-        go i (inl m) = by i (List·Memᴰ·cases-cons (rw e at m))
+        go i (inl m) = top-or-rest t ts i (rw e at m)
         go i (inr q) = let z : none ≡ some i = sym none-cur ∙ q in let z′ : _≡_ {A = ℕ} 0 1 = cc in absurd (omega arith)
 
     pub entered-inv : Inv s S (scanning g (some (t .region))) (withStack r ts)
@@ -147,6 +145,38 @@ module _ (s : Store) (S : Sound s) where
           past-rows = I .past-rows;
         }
 
+    -- the scan of the top's region begins at what waits in it
+    abbrev pub begin : ℕ
+    begin = headOr (topOf (r .table) (t .region)) (g .todo (t .region))
+
+    pub begins-at : t .address ≡ begin
+    begins-at = rw (top .begins)
+
+    pub begins-work : workStack n r ≡ work n (2 * length (r .heap)) (t .region) begin (withStack r ts)
+    unfolding workStack
+    begins-work = rw (e, workStack) (ap (λ x. work n (2 * length (r .heap)) (t .region) x (withStack r ts)) begins-at)
+
+    -- and has turns enough
+    pub entered-enough : total (g .todo) R + length (r .stack) ≤ 2 * length (g .log) → Enough s (scanning g (some (t .region))) (withStack r ts) (2 * length (r .heap))
+    entered-enough cost =
+        let a = I .laid .size in
+        let b = S .laid .size in
+        let c : length (r .stack) ≡ suc (length ts) = ap length e in
+        record { steps = omega arith }
+
+    -- what it finishes is finished from here
+    unfoldable pub entered-finished : {r′ : Run} → Finished s S (scanning g (some (t .region))) r′ → Finished s S g r′
+    entered-finished F = record { ghost = F .ghost; inv = F .inv; no-cur = F .no-cur; none-open = F .none-open; stack = F .stack; log = F .log }
+
+  -- nothing waits
+  module _ (g : Ghost) (r : Run) (I : Inv s S g r) (none-cur : g .cur ≡ none) (none-open : g .half ≡ none) (e : r .stack ≡ []) where
+    pub ends-work : workStack n r ≡ finished r
+    unfolding workStack
+    ends-work = rw (e, workStack) (ap (λ st. finished (withStack r st)) e)
+
+    unfoldable pub ends-finished : Finished s S g r
+    ends-finished = record { ghost = g; inv = I; no-cur = none-cur; none-open = none-open; stack = e; log = λ x m. m }
+
   -- the whole scan, from a state in which no region is being scanned and what waits costs no more than the log pays
   pub works-stack : (g : Ghost) (r : Run) → Inv s S g r → g .cur ≡ none → g .half ≡ none → total (g .todo) R + length (r .stack) ≤ 2 * length (g .log)
       → ((workStack n r ≡ lacksPage) × Lacking s S (stackFor n r)) ⊎ ((r′ : Run) × (workStack n r ≡ finished r′) × Finished s S g r′)
@@ -154,32 +184,24 @@ module _ (s : Store) (S : Sound s) where
   works-stack g r I none-cur none-open cost = go (r .stack) refl
     where
       go : (st : List Scan) → r .stack ≡ st → ((workStack n r ≡ lacksPage) × Lacking s S (stackFor n r)) ⊎ ((r′ : Run) × (workStack n r ≡ finished r′) × Finished s S g r′)
-      go [] e = inr (r, rw (e, workStack) (ap (λ st. finished (withStack r st)) e), record { ghost = g; inv = I; no-cur = none-cur; none-open = none-open; stack = e; log = λ x m. m })
-      go (t ∷ ts) e = by (works s S f (scanning g (some (t .region))) (withStack r ts) (t .region) (entered-inv g r I none-cur t ts e) refl none-open enough)
+      go [] e = inr (r, ends-work g r I none-cur none-open e, ends-finished g r I none-cur none-open e)
+      go (t ∷ ts) e =
+          by (works s S f (scanning g (some (t .region))) (withStack r ts) (t .region) (entered-inv g r I none-cur t ts e) refl none-open (entered-enough g r I none-cur t ts e cost))
         where
           f : ℕ
           f = 2 * length (r .heap)
 
-          enough : Enough s (scanning g (some (t .region))) (withStack r ts) f
-          enough =
-              let a = I .laid .size in
-              let b = S .laid .size in
-              let c : length (r .stack) ≡ suc (length ts) = ap length e in
-              record { steps = omega arith }
-
           a : ℕ
-          a = headOr (topOf (r .table) (t .region)) (g .todo (t .region))
+          a = begin g r I none-cur t ts e
 
           is : workStack n r ≡ work n f (t .region) a (withStack r ts)
-          is = let W = I .pending .stacked t (rw e (List·Memᴰ·head refl)) in rw (e, workStack) (ap (λ x. work n f (t .region) x (withStack r ts)) (rw (W .begins)))
+          is = begins-work g r I none-cur t ts e
 
           is-for : stackFor n r ≡ workFor n f (t .region) a (withStack r ts)
-          is-for = let W = I .pending .stacked t (rw e (List·Memᴰ·head refl)) in rw (e, stackFor) (ap (λ x. workFor n f (t .region) x (withStack r ts)) (rw (W .begins)))
+          is-for = rw (e, stackFor) (ap (λ x. workFor n f (t .region) x (withStack r ts)) (begins-at g r I none-cur t ts e))
 
           by : ((work n f (t .region) a (withStack r ts) ≡ lacksPage) × Lacking s S (workFor n f (t .region) a (withStack r ts)))
               ⊎ ((r′ : Run) × (work n f (t .region) a (withStack r ts) ≡ finished r′) × Finished s S (scanning g (some (t .region))) r′)
               → ((workStack n r ≡ lacksPage) × Lacking s S (stackFor n r)) ⊎ ((r′ : Run) × (workStack n r ≡ finished r′) × Finished s S g r′)
           by (inl u) = inl (is ∙ u .0, lacking-on (λ y. rw is-for y) (u .1))
-          by (inr u) =
-              let F = u .2 in
-              inr (u .0, is ∙ u .1, record { ghost = F .ghost; inv = F .inv; no-cur = F .no-cur; none-open = F .none-open; stack = F .stack; log = F .log })
+          by (inr u) = inr (u .0, is ∙ u .1, entered-finished g r I none-cur t ts e (u .2))

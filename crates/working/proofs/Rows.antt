@@ -7,7 +7,7 @@ use mathlib.Core.Path.{_≡_, refl, sym, ap, subst}
 use mathlib.Core.Logic.{_≢_, _⊎_, inl, inr}
 use mathlib.Core.List.{List, [], _∷_, _++_, append-assoc, List·Memᴰ, List·Memᴰ·head, List·Memᴰ·tail, List·Memᴰ·append-cases, Memᴰ·append-left, Memᴰ·append-right, List·Memᴰ·eq-of-singleton}
 use Rattle.laws.specs.Lists.{at}
-use Rattle.laws.proofs.Lists.{apart as pages-apart}
+use Rattle.laws.proofs.Lists.{one-part}
 use Rattle.laws.proofs.Once.{once-none, once-append}
 use Rattle.facts.proofs.Steps.{Stands, Steps, here, over, steps-le, stands-same}
 use Rattle.facts.proofs.Laid.{Once, once-more, Last, only, later, last-in}
@@ -107,11 +107,12 @@ vals-once {h} {hi} (vals-more {a} {l = l} {vs = vs} st t) = once-more (λ (m : L
 
 -- values of different pages differ
 pub pages-differ : {n : ℕ} {h : List ℕ} {fin : ℕ → ℕ} {ks ms : List ℕ} {b c : ℕ} (x : InRow n h fin ks b) (y : InRow n h fin ms c) → x .page ≢ y .page → b ≢ c
-pages-differ {n} {b = b} {c} x y ne e = go (pages-apart (2 ^ n) (x .page) (y .page) ne)
-  where
-    go : (x .page * 2 ^ n + 2 ^ n ≤ y .page * 2 ^ n) ⊎ (y .page * 2 ^ n + 2 ^ n ≤ x .page * 2 ^ n) → ⊥
-    go (inl t) = let p = steps-le (x .steps) in let q = steps-le (y .steps) in let u = x .stands .ends in omega arith
-    go (inr t) = let p = steps-le (x .steps) in let q = steps-le (y .steps) in let u = y .stands .ends in omega arith
+pages-differ {n} {b = b} {c} x y ne e =
+    let p = steps-le (x .steps) in
+    let q = steps-le (y .steps) in
+    let u = x .stands .ends in
+    let v = y .stands .ends in
+    one-part (2 ^ n) (x .page) (y .page) b ne (omega arith) (omega arith) (omega arith) (omega arith)
 
 -- no value stands twice in a row
 pub row-once : {n : ℕ} {h : List ℕ} {fin : ℕ → ℕ} {ks vs : List ℕ} → Row n h fin ks vs → Once ks → Once vs

@@ -41,17 +41,12 @@ unfolding total
 none-total zero = refl
 none-total (suc m) = let e = none-total m in omega arith
 
--- ---- the first state
+-- ---- nothing is copied yet
 
-module _ (s : Store) (S : Sound s) (r : Run) (F : Fresh s S (s .ctl .regions) r) where
-  abbrev n : ℕ
-  n = s .ctl .n
-
-  abbrev R : ℕ
-  R = s .ctl .regions
-
-  abbrev pub first : Ghost
-  first =
+-- the regions below j have their fresh page
+module _ {s : Store} {S : Sound s} {j : ℕ} {r : Run} (F : Fresh s S j r) where
+  abbrev pub unmoved : Ghost
+  unmoved =
       record {
         own = F .own;
         fin = F .fin;
@@ -65,24 +60,36 @@ module _ (s : Store) (S : Sound s) (r : Run) (F : Fresh s S (s .ctl .regions) r)
         half = none;
       }
 
-  fin-is : (k j : ℕ) → F .own k ≡ mine j → F .fin k ≡ k * 2 ^ n + 2
-  fin-is k j o =
-      let m = F .owned .mines k j o in
-      let t = F .single j (m .0) in
+  fin-is : (k i : ℕ) → F .own k ≡ mine i → F .fin k ≡ k * 2 ^ s .ctl .n + 2
+  fin-is k i o =
+      let m = F .owned .mines k i o in
+      let t = F .single i (m .0) in
       let e : k ≡ t .0 = List·Memᴰ·eq-of-singleton (rw (t .1) at (m .1)) in
-      ap (F .fin) e ∙ t .2 ∙ ap (λ x. x * 2 ^ n + 2) (sym e)
+      ap (F .fin) e ∙ t .2 ∙ ap (λ x. x * 2 ^ s .ctl .n + 2) (sym e)
 
-  logged : Log n s (Kept s) (F .own) (F .fin) (r .heap) [] (λ b. 0)
-  logged =
+  pub unmoved-log : Log (s .ctl .n) s (Kept s) (F .own) (F .fin) (r .heap) [] (λ b. 0)
+  unmoved-log =
       record {
         copies = λ m. elim m [ ];
         unmoved = λ k x o p q no-entry. F .words k x o p q;
         one-new = λ m m′. elim m [ ];
         one-old = λ m m′. elim m [ ];
         live = λ m. elim m [ ];
-        every = λ k j b o t u. let e = fin-is k j o in let lo = steps-le t in absurd (omega arith);
+        every = λ k i b o t u. let e = fin-is k i o in let lo = steps-le t in absurd (omega arith);
         once = once-none;
       }
+
+-- ---- the first state
+
+module _ (s : Store) (S : Sound s) (r : Run) (F : Fresh s S (s .ctl .regions) r) where
+  abbrev n : ℕ
+  n = s .ctl .n
+
+  abbrev R : ℕ
+  R = s .ctl .regions
+
+  abbrev pub first : Ghost
+  first = unmoved F
 
   rows : (j : ℕ) → j < R → Row n (r .heap) (F .fin) (F .pages j) []
   rows j jR =
@@ -114,7 +121,7 @@ module _ (s : Store) (S : Sound s) (r : Run) (F : Fresh s S (s .ctl .regions) r)
   first-inv =
       record {
         laid = F .laid;
-        logged = logged;
+        logged = unmoved-log F;
         pending = pending;
         from-space = F .from-space;
         owned = F .owned;

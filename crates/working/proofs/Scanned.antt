@@ -10,8 +10,8 @@ use lib.ListN.{length, set}
 use lib.Seq.{getD-set-same, getD-set-other}
 use Rattle.rules.specs.Memory.{Store}
 use Rattle.laws.specs.Lists.{at}
-use Rattle.laws.proofs.Lists.{apart as pages-apart}
-use Rattle.facts.proofs.Steps.{Stands, Steps, here, steps-le, steps-same, stands-same, apart, steps-inside}
+use Rattle.facts.proofs.Steps.{Stands, Steps, steps-le, stands-same, apart}
+use Rattle.facts.proofs.Inside.{other-page, steps-still}
 use Rattle.facts.proofs.Laid.{old≢mine, upd, upd-same, upd-other, Owner, old, mine}
 use Rattle.facts.proofs.Copied.{Moved, to, Rel}
 use Rattle.working.proofs.Log.{pointers, Copy, Log}
@@ -35,24 +35,15 @@ module _ (n : ℕ) (s : Store) (kept : ℕ → Type 0) (own : ℕ → Owner) (fi
   hi = C .into-stands .ends
 
   -- the word lies in its own page
-  other-page : (k y : ℕ) → k ≢ C .into → k * 2 ^ n ≤ y → y < k * 2 ^ n + 2 ^ n → y ≢ d + suc i
-  other-page k y ne p q e = go (pages-apart (2 ^ n) k (C .into) ne)
-    where
-      go : (k * 2 ^ n + 2 ^ n ≤ C .into * 2 ^ n) ⊎ (C .into * 2 ^ n + 2 ^ n ≤ k * 2 ^ n) → ⊥
-      go (inl t) = let a = lo in let b = hi in omega arith
-      go (inr t) = let a = lo in let b = hi in omega arith
+  abbrev apart-from : (k y : ℕ) → k ≢ C .into → k * 2 ^ n ≤ y → y < k * 2 ^ n + 2 ^ n → y ≢ d + suc i
+  apart-from = other-page n h (C .into) d (C .len) i (C .into-steps) (C .into-stands) i-in
 
   old-page : (k y : ℕ) → own k ≡ old → k * 2 ^ n ≤ y → y < k * 2 ^ n + 2 ^ n → y ≢ d + suc i
-  old-page k y o = other-page k y (λ e. old≢mine o (ap own e ∙ C .into-mine))
+  old-page k y o = apart-from k y (λ e. old≢mine o (ap own e ∙ C .into-mine))
 
   -- stepping through any page goes as before
-  steps-any : (k e : ℕ) → Steps h (k * 2 ^ n + 2 ^ n) (k * 2 ^ n + 2) e → e ≤ k * 2 ^ n + 2 ^ n
-      → Steps h′ (k * 2 ^ n + 2 ^ n) (k * 2 ^ n + 2) e
-  steps-any k e t b = go (ℕ-discrete k (C .into))
-    where
-      go : Dec (k ≡ C .into) → Steps h′ (k * 2 ^ n + 2 ^ n) (k * 2 ^ n + 2) e
-      go (yes q) = rw q (steps-inside h h′ _ _ d (C .len) (d + suc i) (C .into-steps) (C .into-stands) (omega arith) (omega arith) agree here (rw q at t))
-      go (no ne) = steps-same (λ y p u. agree y (other-page k y ne (omega arith) (omega arith))) t
+  abbrev steps-any : (k e : ℕ) → Steps h (k * 2 ^ n + 2 ^ n) (k * 2 ^ n + 2) e → e ≤ k * 2 ^ n + 2 ^ n → Steps h′ (k * 2 ^ n + 2 ^ n) (k * 2 ^ n + 2) e
+  steps-any = steps-still n h (C .into) d (C .len) i (C .into-steps) (C .into-stands) i-in h′ agree
 
   -- another copy's words stay
   elsewhere : {c′ d′ : ℕ} (D : Copy n s kept own fin h log done c′ d′) → d′ ≢ d → (y : ℕ) → d′ ≤ y → y < d′ + suc (D .len) → y ≢ d + suc i
@@ -74,7 +65,7 @@ module _ (n : ℕ) (s : Store) (kept : ℕ → Type 0) (own : ℕ → Owner) (fi
           let S : Steps h (C .into * 2 ^ n + 2 ^ n) (C .into * 2 ^ n + 2) d′ = rw e at (D .into-steps) in
           let T : Stands h (C .into * 2 ^ n + 2 ^ n) d′ (D .len) = rw e at (D .into-stands) in
           both (apart (C .into-steps) (C .into-stands) S) (apart S T (C .into-steps))
-      go (no f) = let a = lo′ in let b = hi′ in other-page (D .into) y f (omega arith) (omega arith)
+      go (no f) = let a = lo′ in let b = hi′ in apart-from (D .into) y f (omega arith) (omega arith)
 
   other-copy : {c′ d′ : ℕ} (D : Copy n s kept own fin h log done c′ d′) → d′ ≢ d → Copy n s kept own fin h′ log (upd done d (suc i)) c′ d′
   other-copy {c′} {d′} D ne =
@@ -136,17 +127,9 @@ module _ (n : ℕ) (s : Store) (kept : ℕ → Type 0) (own : ℕ → Owner) (fi
   copies-by m′ (no ne) = other-copy (L .copies m′) ne
 
   -- and back
-  steps-back : (k e : ℕ) → Steps h′ (k * 2 ^ n + 2 ^ n) (k * 2 ^ n + 2) e → e ≤ k * 2 ^ n + 2 ^ n
-      → Steps h (k * 2 ^ n + 2 ^ n) (k * 2 ^ n + 2) e
+  steps-back : (k e : ℕ) → Steps h′ (k * 2 ^ n + 2 ^ n) (k * 2 ^ n + 2) e → e ≤ k * 2 ^ n + 2 ^ n → Steps h (k * 2 ^ n + 2 ^ n) (k * 2 ^ n + 2) e
   unfolding own-copy
-  steps-back k e t b = go (ℕ-discrete k (C .into))
-    where
-      go : Dec (k ≡ C .into) → Steps h (k * 2 ^ n + 2 ^ n) (k * 2 ^ n + 2) e
-      go (yes q) =
-          rw q
-          (steps-inside h′ h _ _ d (C .len) (d + suc i) (own-copy .into-steps) (own-copy .into-stands) (omega arith) (omega arith)
-          (λ y ne. sym (agree y ne)) here (rw q at t))
-      go (no ne) = steps-same (λ y p u. sym (agree y (other-page k y ne (omega arith) (omega arith)))) t
+  steps-back = steps-still n h′ (C .into) d (C .len) i (own-copy .into-steps) (own-copy .into-stands) i-in h (λ y ne. sym (agree y ne))
 
   -- the log after the field
   pub scanned-log : ((k j : ℕ) → own k ≡ mine j → fin k ≤ k * 2 ^ n + 2 ^ n) → Log n s kept own fin h′ log (upd done d (suc i))

@@ -1,7 +1,6 @@
 -- A copy scanned, whole: its fields one after the other, each evacuated and set. Its region's copies to be scanned lose it, and get those
 -- copied meanwhile at their end.
 use Prim.Native.Nat.{ℕ, zero, suc, _+_, _*_, _^_, _≤_, _<_}
-use native.Mathlib.Nat.{mul-le-mul-right}
 use native.Mathlib.Omega.{arith}
 use mathlib.Core.Path.{_≡_, refl, ap, _∙_, subst}
 use mathlib.Core.Logic.{_⊎_, inl, inr}
@@ -17,7 +16,7 @@ use Rattle.rules.specs.Pages.{Run, withHeap}
 use Rattle.rules.specs.Collection.{evacuate, scanFields}
 use Rattle.rules.specs.Calls.{lookIn, headerIn, fieldsIn}
 use Rattle.rules.specs.Seen.{seen, Reached, field}
-use Rattle.facts.proofs.Laid.{upd-same}
+use Rattle.facts.proofs.Laid.{upd-same, page-in}
 use Rattle.facts.proofs.Copied.{to}
 use Rattle.facts.proofs.Looked.{look-at}
 use Rattle.facts.proofs.Sound.{Good, Sound}
@@ -44,10 +43,7 @@ module _ (s : Store) (S : Sound s) (g : Ghost) (r : Run) (I : Inv s S g r) (c d 
   C = I .logged .copies m
 
   old-in : C .from * 2 ^ n + 2 ^ n ≤ length (s .heap)
-  old-in =
-      let a = S .laid .size in
-      let b = mul-le-mul-right (2 ^ n) (I .laid .known (C .from) (λ q. old≢beyond (C .from-old) q)) in
-      omega arith
+  old-in = let a = S .laid .size in let b = I .laid .size in let c = page-in (I .laid) (C .from) (λ q. old≢beyond (C .from-old) q) in omega arith
 
   pub region-known : C .region < R
   region-known = I .owned .mines (C .into) (C .region) (C .into-mine) .0

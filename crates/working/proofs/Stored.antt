@@ -1,7 +1,7 @@
 -- A value stored at a region's a: the heap stays laid out, because only words behind the last page's values change, and the value ends before
 -- that page does.
 use Prim.Native.Nat.{ℕ, suc, _+_, _*_, _^_, _≤_, _<_}
-use native.Mathlib.Nat.{le-refl, add-zero, mul-le-mul-right}
+use native.Mathlib.Nat.{le-refl, add-zero}
 use native.Mathlib.Omega.{arith}
 use native.Mathlib.Decide.{ℕ-discrete}
 use mathlib.Core.Path.{_≡_, refl, sym, ap, _∙_}
@@ -13,9 +13,9 @@ use Rattle.rules.specs.Words.{headOf, lengthBy}
 use Rattle.rules.specs.Memory.{link, endOf, firstOf, topOf}
 use Rattle.laws.specs.Lists.{at, put}
 use Rattle.rules.specs.Pages.{Run, store}
-use Rattle.laws.proofs.Lists.{length-put, at-put-below, at-put-in, at-put-above}
+use Rattle.laws.proofs.Lists.{put-elsewhere, length-put, at-put-below, at-put-in, at-put-above}
 use Rattle.facts.proofs.Steps.{Stands, here, over, steps-le, steps-then, steps-same}
-use Rattle.facts.proofs.Laid.{mine-inj, spare≢mine, spare≢beyond, mine≢beyond, upd, upd-same, upd-other, Last, last-in, Linked, linked-same, Owner, beyond, mine, Body, Like, body-like, clean-like, put-elsewhere, Layout, Value}
+use Rattle.facts.proofs.Laid.{mine-inj, spare≢mine, spare≢beyond, mine≢beyond, upd, upd-same, upd-other, Last, last-in, Linked, linked-same, Owner, beyond, mine, Body, Like, body-like, clean-like, Layout, Value, page-in}
 
 module _ (n N R : ℕ) (own : ℕ → Owner) (fin : ℕ → ℕ) (pages : ℕ → List ℕ) (free : List ℕ) (r : Run) (L : Layout n N R own fin pages free r)
     (j l : ℕ) (ws : List ℕ) (jR : j < R) (val : Value ws l) (fits : topOf (r .table) j + length ws ≤ endOf (r .table) j) where
@@ -38,14 +38,11 @@ module _ (n N R : ℕ) (own : ℕ → Owner) (fin : ℕ → ℕ) (pages : ℕ �
   low : lastPage * 2 ^ n + 2 ≤ topOf (r .table) j
   low = let b = steps-le (body .filled) in let a = a-is in omega arith
 
-  pub page-in : (k : ℕ) → own k ≢ beyond → k * 2 ^ n + 2 ^ n ≤ length (r .heap)
-  page-in k ne = let s = L .size in let p = mul-le-mul-right (2 ^ n) (L .known k ne) in omega arith
-
   k-known : own lastPage ≢ beyond
   k-known q = mine≢beyond own-k q
 
   top-in : topOf (r .table) j + length ws ≤ length (r .heap)
-  top-in = let p = page-in lastPage k-known in let e = e-is in omega arith
+  top-in = let p = page-in L lastPage k-known in let e = e-is in omega arith
 
   heap′ : List ℕ
   heap′ = put (r .heap) (topOf (r .table) j) ws
@@ -55,7 +52,7 @@ module _ (n N R : ℕ) (own : ℕ → Owner) (fin : ℕ → ℕ) (pages : ℕ �
   like k ne =
       let e = e-is in
       let lo = low in
-      record { word = λ x p q. sym (put-elsewhere n (r .heap) lastPage (topOf (r .table) j) ws k x top-in (omega arith) (omega arith) ne (omega arith) q) }
+      record { word = λ x p q. sym (put-elsewhere (2 ^ n) (r .heap) lastPage (topOf (r .table) j) ws k x top-in (omega arith) (omega arith) ne (omega arith) q) }
 
   -- no link changes
   links : (k : ℕ) → own k ≢ beyond → link n (r .heap) k ≡ link n heap′ k
@@ -71,7 +68,7 @@ module _ (n N R : ℕ) (own : ℕ → Owner) (fin : ℕ → ℕ) (pages : ℕ �
           let b = L .big in
           let lo = low in
           let e = e-is in
-          sym (put-elsewhere n (r .heap) lastPage (topOf (r .table) j) ws k (k * 2 ^ n) top-in (omega arith) (omega arith) f (le-refl _) (omega arith))
+          sym (put-elsewhere (2 ^ n) (r .heap) lastPage (topOf (r .table) j) ws k (k * 2 ^ n) top-in (omega arith) (omega arith) f (le-refl _) (omega arith))
 
   -- the value stands where it was stored
   stands : Stands heap′ (lastPage * 2 ^ n + 2 ^ n) (fin lastPage) l

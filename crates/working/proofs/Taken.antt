@@ -1,11 +1,11 @@
 -- A page taken from the front of the free list: the rest of the list and every other page stay, and the page, clean but for link and
 -- origin, is an empty page of region j.
 use Prim.Native.Nat.{ℕ, suc, _+_, _-_, _*_, _^_, _≤_, _<_}
-use native.Mathlib.Nat.{le-refl, mul-le-mul-right}
+use native.Mathlib.Nat.{le-refl}
 use native.Mathlib.Omega.{arith}
 use native.Mathlib.Decide.{ℕ-discrete}
 use mathlib.Core.Path.{_≡_, refl, sym, ap, _∙_}
-use mathlib.Core.Logic.{_≢_, _⊎_, inl, inr}
+use mathlib.Core.Logic.{_≢_}
 use mathlib.Core.Option.{none, some}
 use mathlib.Core.List.{List, [], _∷_, List·Memᴰ, List·Memᴰ·head, List·Memᴰ·tail}
 use lib.ListN.{length, set, length-set}
@@ -15,10 +15,10 @@ use Rattle.rules.specs.Memory.{link, setLink, setOrigin}
 use Rattle.laws.specs.Lists.{at, lastOr}
 use Rattle.rules.specs.Audit.{lastLink}
 use Rattle.rules.specs.Pages.{Run, takePage, withFree, lastIf}
-use Rattle.laws.proofs.Lists.{apart}
+use Rattle.laws.proofs.Lists.{set-elsewhere}
 use Rattle.facts.proofs.Steps.{here}
 use Rattle.laws.proofs.Once.{once-tail, once-head}
-use Rattle.facts.proofs.Laid.{mine-inj, spare≢mine, spare≢beyond, upd, upd-same, upd-other, last-in, linked-same, Owner, spare, beyond, mine, Body, Clean, Like, body-like, clean-like, Layout}
+use Rattle.facts.proofs.Laid.{mine-inj, spare≢mine, spare≢beyond, upd, upd-same, upd-other, last-in, linked-same, Owner, spare, beyond, mine, Body, Clean, Like, body-like, clean-like, Layout, page-in}
 
 -- the run after page k is taken
 unfoldable pub taken : ℕ → ℕ → ℕ → Run → Run
@@ -40,11 +40,8 @@ module _ (n N R : ℕ) (own : ℕ → Owner) (fin : ℕ → ℕ) (pages : ℕ �
   abbrev pub P : ℕ
   P = 2 ^ n
 
-  in-heap : (l : ℕ) → own l ≢ beyond → l * P + P ≤ length (r .heap)
-  in-heap l ne = let s = L .size in let p = mul-le-mul-right P (L .known l ne) in omega arith
-
   k-in : k * P + P ≤ length (r .heap)
-  k-in = in-heap k (λ q. spare≢beyond own-k q)
+  k-in = page-in L k (λ q. spare≢beyond own-k q)
 
   abbrev pub h′ : List ℕ
   h′ = set (set (r .heap) (k * P) 0) (k * P + 1) (suc j)
@@ -58,11 +55,10 @@ module _ (n N R : ℕ) (own : ℕ → Owner) (fin : ℕ → ℕ) (pages : ℕ �
 
   -- other pages keep all their words, their links too
   pub others : (l x : ℕ) → l ≢ k → l * P ≤ x → x < l * P + P → at h′ x ≡ at (r .heap) x
-  others l x ne p q = go (apart P l k ne)
-    where
-      go : (l * P + P ≤ k * P) ⊎ (k * P + P ≤ l * P) → at h′ x ≡ at (r .heap) x
-      go (inl t) = keep x (omega arith) (omega arith)
-      go (inr t) = let b = L .big in keep x (omega arith) (omega arith)
+  others l x ne p q =
+      let b = L .big in
+      set-elsewhere P (set (r .heap) (k * P) 0) k (k * P + 1) (suc j) l x (omega arith) (omega arith) ne p q
+      ∙ set-elsewhere P (r .heap) k (k * P) 0 l x (le-refl _) (omega arith) ne p q
 
   like : (l : ℕ) → l ≢ k → Like n (r .heap) h′ l
   like l ne = record { word = λ x p q. sym (others l x ne (omega arith) q) }

@@ -6,10 +6,10 @@ use native.Mathlib.Decide.{ℕ-discrete}
 use mathlib.Core.Path.{_≡_, refl, sym, ap, _∙_, subst}
 use mathlib.Core.Logic.{_≢_, _⊎_, inl, inr}
 use mathlib.Core.Option.{none, some}
-use mathlib.Core.List.{List, [], _∷_, _++_, append-assoc, List·Memᴰ, List·Memᴰ·head, List·Memᴰ·tail, List·Memᴰ·cases-cons, Memᴰ·append-right}
+use mathlib.Core.List.{List, [], _∷_, _++_, append-assoc, List·Memᴰ, List·Memᴰ·head, List·Memᴰ·tail, Memᴰ·append-right}
 use lib.ListN.{length}
 use Rattle.laws.specs.Lists.{at}
-use Rattle.laws.proofs.Once.{Once, once-more, once-tail}
+use Rattle.laws.proofs.Once.{Once, once-more, once-tail, in-tail}
 use Rattle.rules.specs.Memory.{Store, statusOf}
 use Rattle.rules.specs.Words.{Head, rec, raw, moved, wrong, headOf, lengthBy}
 use Rattle.rules.specs.Pages.{Scan, Run}
@@ -21,40 +21,16 @@ use Rattle.working.proofs.Owned.{mine-inj, total, total-tail}
 use Rattle.working.proofs.Next.{Row}
 use Rattle.working.proofs.Rows.{InRow, row-in, row-once, pages-differ}
 use Rattle.rules.specs.Wanted.{fieldsFor, valueFor}
-use Rattle.working.proofs.Invariant.{lacking-on, Ghost, Waits, Pending, Inv, Later, later-refl, Lacking}
+use Rattle.working.proofs.Invariant.{waiting, waiting-inv, lacking-on, Ghost, Waits, Pending, Inv, Later, later-refl, Lacking}
 use Rattle.working.proofs.Scanning.{Ready, scans-fields}
 
 -- the copy at b, the first that waits in region j, is being scanned; ts wait behind it
 abbrev pub opened : Ghost → ℕ → ℕ → List ℕ → Ghost
-opened g j b ts =
-    record {
-      own = g .own;
-      fin = g .fin;
-      pages = g .pages;
-      free = g .free;
-      log = g .log;
-      count = g .count;
-      past = upd (g .past) j (g .past j ++ b ∷ []);
-      todo = upd (g .todo) j ts;
-      cur = g .cur;
-      half = some b;
-    }
+opened g j b ts = waiting g (upd (g .past) j (g .past j ++ b ∷ [])) (upd (g .todo) j ts) (g .cur) (some b)
 
 -- no copy is being scanned
 abbrev pub closed : Ghost → Ghost
-closed g =
-    record {
-      own = g .own;
-      fin = g .fin;
-      pages = g .pages;
-      free = g .free;
-      log = g .log;
-      count = g .count;
-      past = g .past;
-      todo = g .todo;
-      cur = g .cur;
-      half = none;
-    }
+closed g = waiting g (g .past) (g .todo) (g .cur) none
 
 once-mid : {b : ℕ} {ts : List ℕ} (xs : List ℕ) → Once (xs ++ b ∷ ts) → List·Memᴰ b ts → ⊥
 once-mid [] (once-more f o) m = f m
@@ -95,11 +71,7 @@ module _ (s : Store) (S : Sound s) (g : Ghost) (r : Run) (I : Inv s S g r) (j b 
           pages-differ b-row F (λ e. ne (mine-inj (sym own′ ∙ ap (g .own) (sym e) ∙ own))) refl
 
   still : (i c : ℕ) → c ≢ b → Dec (i ≡ j) → List·Memᴰ c (g .todo i) → List·Memᴰ c (opened g j b ts .todo i)
-  still i c ne (yes e) m = rw (upd-same (g .todo) j ts i e) (go (List·Memᴰ·cases-cons (rw (ap (g .todo) e ∙ todo) at m)))
-    where
-      go : (c ≡ b) ⊎ List·Memᴰ c ts → List·Memᴰ c ts
-      go (inl q) = absurd (ne q)
-      go (inr q) = q
+  still i c ne (yes e) m = rw (upd-same (g .todo) j ts i e) (in-tail ne (rw (ap (g .todo) e ∙ todo) at m))
   still i c ne (no nj) m = rw (upd-other (g .todo) j ts i nj) m
 
   before : (i c : ℕ) → Dec (i ≡ j) → List·Memᴰ c (opened g j b ts .todo i) → List·Memᴰ c (g .todo i)
@@ -134,18 +106,7 @@ module _ (s : Store) (S : Sound s) (g : Ghost) (r : Run) (I : Inv s S g r) (j b 
       }
 
   pub opened-inv : Inv s S (opened g j b ts) r
-  opened-inv =
-      record {
-        laid = I .laid;
-        logged = I .logged;
-        pending = opened-pending;
-        from-space = I .from-space;
-        owned = I .owned;
-        tallied = I .tallied;
-        taken = I .taken;
-        width = I .width;
-        past-rows = I .past-rows;
-      }
+  opened-inv = waiting-inv I opened-pending
 
   -- it is a copy
   pub b-entry : (c : ℕ) × List·Memᴰ (to c b) (g .log)
@@ -182,18 +143,7 @@ module _ (s : Store) (S : Sound s) (g : Ghost) (r : Run) (I : Inv s S g r) (d : 
       go c (no ne) l e rest = rest (λ q. ne (let z : some d ≡ some c = sym mid ∙ q in cc))
 
   pub closed-inv : Inv s S (closed g) r
-  closed-inv =
-      record {
-        laid = I .laid;
-        logged = I .logged;
-        pending = closed-pending;
-        from-space = I .from-space;
-        owned = I .owned;
-        tallied = I .tallied;
-        taken = I .taken;
-        width = I .width;
-        past-rows = I .past-rows;
-      }
+  closed-inv = waiting-inv I closed-pending
 
 -- ---- a turn
 
@@ -235,41 +185,45 @@ module _ (s : Store) (S : Sound s) (g : Ghost) (r : Run) (I : Inv s S g r) (j b 
         cost = omega arith;
       }
 
+  -- a record: its fields are scanned from the first
+  module _ (l : ℕ) (e : headOf (at (r .heap) b) ≡ rec l) where
+    unfoldable pub ready : Ready s S (opened g j b ts) r c b l r 0
+    ready =
+        record {
+          ghost = opened g j b ts;
+          inv = start;
+          later = later-refl _ _ _;
+          entry = m;
+          next = b-fresh s S g r I j b ts cur todo none-open;
+          mid = refl;
+          gone = b-gone s S g r I j b ts cur todo none-open;
+        }
+
+    pub scan-is : scanValue (s .ctl .n) b r ≡ scanFields (s .ctl .n) l (b + suc 0) r
+    unfolding scanValue
+    scan-is = let q : suc b ≡ b + suc 0 = omega arith in rw (e, scanValue) (ap (λ x. scanFields (s .ctl .n) l x r) q)
+
+    -- after the last of them none is left
+    pub full : (r′ : Run) (Q : Ready s S (opened g j b ts) r c b l r′ l) (k : ℕ) → headOf (at (r′ .heap) b) ≡ rec k → k ≤ Q .ghost .count b
+    full r′ Q k q =
+        let t : rec k ≡ rec l = sym q ∙ ap headOf (Q .inv .logged .copies (Q .entry) .head ∙ sym header) ∙ e in
+        let u : k ≡ l = cc in
+        let w = Q .next in
+        omega arith
+
   by-head : (y : Head) → headOf (at (r .heap) b) ≡ y → ((scanValue (s .ctl .n) b r ≡ none) × Lacking s S (valueFor (s .ctl .n) b r)) ⊎ ((r′ : Run) × (scanValue (s .ctl .n) b r ≡ some r′) × Turned s S g r j b r′)
   unfolding scanValue valueFor
   by-head (raw l) e =
       inr (r, rw (e, scanValue), turned start (later-refl _ _ _) (λ k q. let z : raw l ≡ rec k = sym e ∙ q in let z′ : _≡_ {A = ℕ} 0 1 = cc in absurd (omega arith)))
-  by-head (rec l) e = go (scans-fields s S (opened g j b ts) r c b l (ap headOf (sym header) ∙ e) l r 0 (omega arith) ready)
+  by-head (rec l) e = go (scans-fields s S (opened g j b ts) r c b l (ap headOf (sym header) ∙ e) l r 0 (omega arith) (ready l e))
     where
-      ready : Ready s S (opened g j b ts) r c b l r 0
-      ready =
-          record {
-            ghost = opened g j b ts;
-            inv = start;
-            later = later-refl _ _ _;
-            entry = m;
-            next = b-fresh s S g r I j b ts cur todo none-open;
-            mid = refl;
-            gone = b-gone s S g r I j b ts cur todo none-open;
-          }
-
-      is : scanValue (s .ctl .n) b r ≡ scanFields (s .ctl .n) l (b + suc 0) r
-      is = let q : suc b ≡ b + suc 0 = omega arith in rw (e, scanValue) (ap (λ x. scanFields (s .ctl .n) l x r) q)
-
       is-for : valueFor (s .ctl .n) b r ≡ fieldsFor (s .ctl .n) l (b + suc 0) r
       is-for = let q : suc b ≡ b + suc 0 = omega arith in rw (e, valueFor) (ap (λ x. fieldsFor (s .ctl .n) l x r) q)
 
-      full : (r′ : Run) (Q : Ready s S (opened g j b ts) r c b l r′ l) (k : ℕ) → headOf (at (r′ .heap) b) ≡ rec k → k ≤ Q .ghost .count b
-      full r′ Q k q =
-          let t : rec k ≡ rec l = sym q ∙ ap headOf (Q .inv .logged .copies (Q .entry) .head ∙ sym header) ∙ e in
-          let u : k ≡ l = cc in
-          let w = Q .next in
-          omega arith
-
       go : ((scanFields (s .ctl .n) l (b + suc 0) r ≡ none) × Lacking s S (fieldsFor (s .ctl .n) l (b + suc 0) r)) ⊎ ((r′ : Run) × (scanFields (s .ctl .n) l (b + suc 0) r ≡ some r′) × Ready s S (opened g j b ts) r c b l r′ l)
           → ((scanValue (s .ctl .n) b r ≡ none) × Lacking s S (valueFor (s .ctl .n) b r)) ⊎ ((r′ : Run) × (scanValue (s .ctl .n) b r ≡ some r′) × Turned s S g r j b r′)
-      go (inl u) = inl (is ∙ u .0, lacking-on (λ y. rw is-for y) (u .1))
-      go (inr u) = inr (u .0, is ∙ u .1, turned (u .2 .inv) (u .2 .later) (full (u .0) (u .2)))
+      go (inl u) = inl (scan-is l e ∙ u .0, lacking-on (λ y. rw is-for y) (u .1))
+      go (inr u) = inr (u .0, scan-is l e ∙ u .1, turned (u .2 .inv) (u .2 .later) (full l e (u .0) (u .2)))
   by-head (moved k) e = no-head (sym (ap lengthBy e) ∙ I .logged .copies m .into-stands .head)
     where
       no-head : {A : Type 0} {l : ℕ} → none ≡ some l → A

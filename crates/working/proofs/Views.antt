@@ -1,7 +1,6 @@
 -- The views before and after: the collection leaves a copy. A constant is what it was; a moved value has its old header and length, its raw
 -- words are the old ones, and each field of a record stands for the old field.
 use Prim.Native.Nat.{ℕ, zero, suc, _+_, _*_, _^_, _≤_, _<_, zero-le}
-use native.Mathlib.Nat.{mul-le-mul-right}
 use native.Mathlib.Omega.{arith}
 use mathlib.Core.Path.{_≡_, refl, sym, ap, _∙_, subst}
 use mathlib.Core.Logic.{_≢_}
@@ -27,6 +26,7 @@ use Rattle.working.proofs.Evacuating.{of-pointers}
 use Rattle.working.proofs.Scanning.{seen-old}
 use Rattle.working.proofs.Running.{Ran}
 use Rattle.working.proofs.Ending.{back, left-store, copy-word, copy-steps, copy-stands, copy-known, copy-inside, copy-whose, copy-scanned}
+use Rattle.facts.proofs.Laid.{page-in}
 
 -- a value's words in a list
 module _ (h : List ℕ) (a l : ℕ) (inside : a + suc l ≤ length h) where
@@ -114,7 +114,8 @@ module _ (s : Store) (S : Sound s) (roots : List ℕ) (r : Run) (A : Ran s S roo
     old-inside : D .from * 2 ^ n + 2 ^ n ≤ length (s .heap)
     old-inside =
         let x = S .laid .size in
-        let y = mul-le-mul-right (2 ^ n) (A .end .inv .laid .known (D .from) (λ q. old≢beyond (D .from-old) q)) in
+        let y = A .end .inv .laid .size in
+        let z = page-in (A .end .inv .laid) (D .from) (λ q. old≢beyond (D .from-old) q) in
         omega arith
 
     value-before : lookIn s (4 * a) ≡ take (suc (D .len)) (drop a (s .heap))

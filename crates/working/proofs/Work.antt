@@ -1,7 +1,6 @@
 -- The scan stack worked to its end. Each turn scans one copy or leaves one region, and each copy made costs two turns, so the fuel, two for
 -- each word of the heap, never runs out: no more values can be copied than the heap has words.
-use Prim.Native.Nat.{ℕ, zero, suc, _+_, _*_, _^_, _≤_, _<_}
-use native.Mathlib.Nat.{mul-le-mul-right}
+use Prim.Native.Nat.{ℕ, zero, suc, _+_, _-_, _^_, _≤_, _<_}
 use native.Mathlib.Omega.{arith}
 use native.Mathlib.Decide.{ℕ-discrete}
 use mathlib.Core.Path.{_≡_, refl, sym, ap, _∙_, subst}
@@ -12,13 +11,13 @@ use mathlib.Core.List.{List, [], _∷_, _++_, List·Memᴰ, List·Memᴰ·head, 
 use lib.ListN.{length}
 use lib.Dec.{eqb}
 use borrow.Author.Tests.{eq-eqb, ne-eqb}
-use Rattle.laws.proofs.Lists.{apart as pages-apart}
+use Rattle.laws.proofs.Lists.{one-part}
 use Rattle.laws.proofs.Once.{last-in, once-most}
 use Rattle.rules.specs.Memory.{Store, pageCount, topOf, statusOf, setStatus}
 use Rattle.rules.specs.Pages.{Scan, Run, withTable, withStack}
 use Rattle.rules.specs.Collection.{finished, lacksPage, scanValue, nextScan, work}
 use Rattle.facts.proofs.Steps.{steps-le}
-use Rattle.facts.proofs.Laid.{Body}
+use Rattle.facts.proofs.Laid.{Body, chain-body, page-in}
 use Rattle.facts.proofs.Copied.{Moved}
 use Rattle.facts.proofs.Sound.{Sound}
 use Rattle.working.proofs.Owned.{old≢beyond}
@@ -76,8 +75,9 @@ module _ (s : Store) (S : Sound s) where
           let t = in-olds (g .log) m in
           let C = I .logged .copies (t .1) in
           let ends = C .from-stands .ends in
-          let size = S .laid .size in
-          let page = mul-le-mul-right (2 ^ n) (I .laid .known (C .from) (λ q. old≢beyond (C .from-old) q)) in
+          let before = S .laid .size in
+          let size = I .laid .size in
+          let page = page-in (I .laid) (C .from) (λ q. old≢beyond (C .from-old) q) in
           omega arith
 
   -- ---- one region
@@ -97,15 +97,17 @@ module _ (s : Store) (S : Sound s) where
         top = I .laid .mine-top j jR .3
 
         B : Body n (r .heap) z j (g .fin z)
-        B = I .laid .mine-body j z (I .laid .mine-own j z jR (last-in (I .laid .mine-top j jR .1)))
-
-        far : (F .page * 2 ^ n + 2 ^ n ≤ z * 2 ^ n) ⊎ (z * 2 ^ n + 2 ^ n ≤ F .page * 2 ^ n) → ⊥
-        far (inl q) = let t = top in let u = steps-le (B .filled) in let w = F .stands .ends in omega arith
-        far (inr q) = let t = top in let u = B .inside in let w = steps-le (F .steps) in omega arith
+        B = chain-body (I .laid) j z jR (last-in (I .laid .mine-top j jR .1))
 
         go : Dec (F .page ≡ z) → ⊥
         go (yes q) = let t = top in let u = F .below in let w : g .fin (F .page) ≡ g .fin z = ap (g .fin) q in omega arith
-        go (no ne) = far (pages-apart (2 ^ n) (F .page) z ne)
+        go (no ne) =
+            let t = top in
+            let lo = steps-le (F .steps) in
+            let hi = F .stands .ends in
+            let lo′ = steps-le (B .filled) in
+            let hi′ = B .inside in
+            one-part (2 ^ n) (F .page) z (b - 1) ne (omega arith) (omega arith) (omega arith) (omega arith)
 
     mid : (xs : List ℕ) {b : ℕ} {ys : List ℕ} → After ((xs ++ b ∷ []) ++ ys) b ys
     mid [] = after-here
