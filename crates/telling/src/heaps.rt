@@ -58,7 +58,7 @@ fn pushed(
     now
 }
 
-fn place(i: u32) -> usize {
+pub fn place(i: u32) -> usize {
     i as usize
 }
 
@@ -77,8 +77,20 @@ fn kind_of(letter: u8) -> Kind {
     Kind::Record
 }
 
+// The numbers of a step behind its first.
+pub fn behind(row: &[u32; 16], k: usize) -> &[u32] {
+    let all = &row[..];
+    if k < 1 {
+        return &all[0..0];
+    }
+    if all.len() < k {
+        return &all[0..0];
+    }
+    &all[1..k]
+}
+
 // A value more: k numbers, its region and its words.
-fn stored(
+pub fn stored(
     heap: &mut [u32],
     table: &mut [u32],
     roots: &[u32],
@@ -87,31 +99,23 @@ fn stored(
     letter: u8,
     row: &[u32; 16],
     k: usize,
-) -> Control {
-    if k < 1 {
-        return c;
-    }
-    let all = &row[..];
-    if all.len() < k {
-        return c;
-    }
-    let words = &all[1..k];
+) -> Valued {
     let j = Region(place(row[0]));
     let kind = kind_of(letter);
-    valued_record(allocate(heap, table, roots, consts, c, j, kind, words))
+    allocate(heap, table, roots, consts, c, j, kind, behind(row, k))
 }
 
 // A field of the record that a word points to becomes a word.
-fn assigned(
+pub fn assigned(
     heap: &mut [u32],
     table: &[u32],
     roots: &[u32],
     consts: &[u32],
     c: Control,
     row: &[u32; 16],
-) -> Control {
+) -> Plain {
     let field = place(row[1]);
-    record_of(assign(heap, table, roots, consts, c, row[0], field, row[2]))
+    assign(heap, table, roots, consts, c, row[0], field, row[2])
 }
 
 // One word of a part changed behind the calls.
@@ -144,16 +148,16 @@ fn spoiled(heap: &mut [u32], table: &mut [u32], roots: &mut [u32], letter: u8, r
 }
 
 // A root becomes a word.
-fn rooted(
+pub fn rooted(
     heap: &[u32],
     table: &[u32],
     roots: &mut [u32],
     consts: &[u32],
     c: Control,
     row: &[u32; 16],
-) -> Control {
+) -> Plain {
     let root = place(row[0]);
-    record_of(set_root(heap, table, roots, consts, c, root, row[1]))
+    set_root(heap, table, roots, consts, c, root, row[1])
 }
 
 // A step of k numbers, by the letter that its name begins with.
@@ -169,9 +173,9 @@ fn done(
 ) -> Control {
     match letter {
         b'p' => pushed(heap, table, roots, consts, c, row[0]),
-        b'r' | b'w' => stored(heap, table, roots, consts, c, letter, row, k),
-        b'a' => assigned(heap, table, roots, consts, c, row),
-        b'n' => rooted(heap, table, roots, consts, c, row),
+        b'r' | b'w' => valued_record(stored(heap, table, roots, consts, c, letter, row, k)),
+        b'a' => record_of(assigned(heap, table, roots, consts, c, row)),
+        b'n' => record_of(rooted(heap, table, roots, consts, c, row)),
         b'c' => controlled(c, row),
         _ => {
             spoiled(heap, table, roots, letter, row);
@@ -210,7 +214,7 @@ fn taken(row: &mut [u32; 16], k: usize, byte: u8) -> usize {
 }
 
 // The numbers of a step, and how many.
-fn numbers(step: &[u8], row: &mut [u32; 16]) -> usize {
+pub fn numbers(step: &[u8], row: &mut [u32; 16]) -> usize {
     let mut k: usize = 0;
     let mut i = 0;
     while i < step.len() {
@@ -220,7 +224,7 @@ fn numbers(step: &[u8], row: &mut [u32; 16]) -> usize {
     k
 }
 
-fn first(text: &[u8]) -> u8 {
+pub fn first(text: &[u8]) -> u8 {
     if text.len() == 0 {
         return b' ';
     }

@@ -1,0 +1,70 @@
+// A question on a heap that a recipe makes. A question is a name and numbers:
+//   open 4             setting up, with n
+//   push               
+//   record 0 1 5       allocation of a record: the region, its words
+//   words 0 4 8        the same of a raw value
+//   assign 20 1 5      a word to a field: the pointer, the field, the word
+//   end                pop: the newest region ends
+//   name 0 8           a root becomes a word
+//   fetch 8            the value that a word points to
+//   view 0             a page
+//   go 0 1 0           walk: the root, the fields
+//   due                whether a collection is due
+//   used 0             the used words of a region
+//   collected 0        the same after a collection
+use crate::changing;
+use crate::looking;
+use rules::Control;
+use telling::heaps;
+use telling::say;
+
+// The record of the heap that a recipe makes. Parts that are to be set up have no recipe.
+fn given(
+    heap: &mut [u32],
+    table: &mut [u32],
+    roots: &mut [u32],
+    consts: &[u32],
+    recipe: &[u8],
+    letter: u8,
+) -> Control {
+    if letter == b'o' {
+        return say::no_record();
+    }
+    heaps::made(heap, table, roots, consts, recipe)
+}
+
+// The question by its letter: k numbers.
+fn asked(
+    heap: &mut [u32],
+    table: &mut [u32],
+    roots: &mut [u32],
+    consts: &[u32],
+    c: Control,
+    letter: u8,
+    row: &[u32; 16],
+    k: usize,
+) {
+    match letter {
+        b'f' | b'v' | b'g' | b'd' | b'u' => {
+            looking::looks(heap, table, roots, consts, c, letter, row, k)
+        }
+        b'n' => changing::roots_to(heap, table, roots, consts, c, row),
+        b'c' => changing::uses_less(heap, table, roots, consts, c, row),
+        _ => changing::changes(heap, table, roots, consts, c, letter, row, k),
+    }
+}
+
+pub fn asks(
+    heap: &mut [u32],
+    table: &mut [u32],
+    roots: &mut [u32],
+    consts: &[u32],
+    recipe: &[u8],
+    question: &[u8],
+) {
+    let mut row = [0u32; 16];
+    let k = heaps::numbers(question, &mut row);
+    let letter = heaps::first(question);
+    let c = given(heap, table, roots, consts, recipe, letter);
+    asked(heap, table, roots, consts, c, letter, &row, k);
+}

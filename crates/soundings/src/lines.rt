@@ -1,0 +1,82 @@
+// A line of the soundings: what is printed in front of the answer, the lengths of the heap, the table, the roots and the constants, the recipe of
+// the heap, and the question; bars stand between them.
+ghost use Prim.Native.Nat.{_≤_};
+use crate::asking;
+use telling::heaps;
+use telling::say;
+
+// What stands before the first bar.
+fn before_bar(text: &[u8]) -> &[u8] {
+    let e = heaps::end_of(text, 0, b'|');
+    if text.len() < e {
+        return text;
+    }
+    &text[0..e]
+}
+
+// What stands behind the first bar.
+fn behind_bar(text: &[u8]) -> &[u8] {
+    let e = heaps::end_of(text, 0, b'|');
+    if text.len() <= e {
+        return &text[0..0];
+    }
+    let start = e + 1;
+    &text[start..]
+}
+
+// A length, at most n.
+fn within(k: u32, n: usize) -> usize
+    ensures { λ r. ⌜ r ≤ n ⌝ }
+{
+    let asked = heaps::place(k);
+    if asked < n { asked } else { n }
+}
+
+// The question on parts of these lengths.
+fn sized(
+    heap: &mut [u32],
+    table: &mut [u32],
+    roots: &mut [u32],
+    consts: &[u32],
+    row: &[u32; 16],
+    rest: &[u8],
+) {
+    let words = within(row[0], heap.len());
+    let rows = within(row[1], table.len());
+    let named = within(row[2], roots.len());
+    let constants = within(row[3], consts.len());
+    asking::asks(
+        &mut heap[0..words],
+        &mut table[0..rows],
+        &mut roots[0..named],
+        &consts[0..constants],
+        before_bar(rest),
+        behind_bar(rest),
+    );
+}
+
+// The question on parts of the lengths that a line names, from these.
+fn on(heap: &mut [u32], table: &mut [u32], roots: &mut [u32], line: &[u8]) {
+    let consts = [9u32, 7];
+    let mut row = [0u32; 16];
+    heaps::numbers(before_bar(line), &mut row);
+    sized(heap, table, roots, &consts, &row, behind_bar(line));
+}
+
+// A line, on parts whose words are all 7.
+fn sounding(line: &[u8]) {
+    let mut heap = [7u32; 2048];
+    let mut table = [7u32; 257];
+    let mut roots = [7u32; 1025];
+    say::text(before_bar(line));
+    on(&mut heap, &mut table, &mut roots, behind_bar(line));
+}
+
+pub fn all(lines: &[u8]) {
+    let mut at = 0;
+    while at < lines.len() {
+        let e = heaps::end_of(lines, at, b'\n');
+        sounding(&lines[at..e]);
+        at = e + 1;
+    }
+}
