@@ -32,9 +32,8 @@ pub fn record_of(p: Plain) -> Control {
     }
 }
 
-// A new heap with pages of 16 words.
-fn fresh(heap: &mut [u32], table: &mut [u32], roots: &mut [u32], consts: &[u32]) -> Control {
-    match set_up(heap, table, roots, consts, 4) {
+fn opened_record(o: Opened) -> Control {
+    match o {
         Opened::Done(c) => c,
         Opened::Refused(_) => say::no_record(),
     }
@@ -278,8 +277,17 @@ fn follow(
     now
 }
 
-// What a recipe begins with. The heap of document 01's image: "Sh" at 2, its record at 5, which is root 0. Raw values of 7, 7, 10 and 4 words,
-// headers counted, with roots that name the 10, 7, 7 and 4. Else a new heap.
+// The steps that stand for the first of a recipe, by its letter.
+fn beginning<'a>(letter: u8, label: &'a [u8], four: &'a [u8]) -> &'a [u8] {
+    match letter {
+        b'l' => label,
+        b'f' => four,
+        _ => &label[0..0],
+    }
+}
+
+// What a recipe begins with, in pages of 16 words. The heap of document 01's image: "Sh" at 2, its record at 5, which is root 0. Raw values of
+// 7, 7, 10 and 4 words, headers counted, with roots that name the 10, 7, 7 and 4. Else a new heap.
 fn begun(
     heap: &mut [u32],
     table: &mut [u32],
@@ -287,26 +295,13 @@ fn begun(
     consts: &[u32],
     letter: u8,
 ) -> Control {
-    let c = fresh(heap, table, roots, consts);
-    match letter {
-        b'l' => follow(
-            heap,
-            table,
-            roots,
-            consts,
-            c,
-            b"push 1;words 0 83 104;record 0 8 15;name 0 20;",
-        ),
-        b'f' => follow(
-            heap,
-            table,
-            roots,
-            consts,
-            c,
-            b"push 1;words 0 5 5 5 5 5 5;words 0 6 6 6 6 6 6;words 0 7 7 7 7 7 7 7 7 7;words 0 8 8 8;name 0 72;name 1 8;name 2 36;name 3 112;",
-        ),
-        _ => c,
-    }
+    let c = opened_record(set_up(heap, table, roots, consts, 4));
+    let steps = beginning(
+        letter,
+        b"push 1;words 0 83 104;record 0 8 15;name 0 20;",
+        b"push 1;words 0 5 5 5 5 5 5;words 0 6 6 6 6 6 6;words 0 7 7 7 7 7 7 7 7 7;words 0 8 8 8;name 0 72;name 1 8;name 2 36;name 3 112;",
+    );
+    follow(heap, table, roots, consts, c, steps)
 }
 
 // The heap that a recipe makes.
