@@ -14,11 +14,12 @@
 //   collected 0        the same after a collection
 use crate::changing;
 use crate::looking;
+use collection::collect;
 use rules::Control;
 use telling::heaps;
 use telling::say;
 
-// The record of the heap that a recipe makes. Parts that are to be set up have no recipe.
+// The record of the heap that is asked: of the one that a recipe makes, or of that one collected. Parts that are to be set up have none.
 fn given(
     heap: &mut [u32],
     table: &mut [u32],
@@ -30,7 +31,19 @@ fn given(
     if letter == b'o' {
         return say::no_record();
     }
-    heaps::made(heap, table, roots, consts, recipe)
+    let c = heaps::made(heap, table, roots, consts, recipe);
+    if letter == b'c' {
+        return heaps::record_of(collect(heap, table, roots, consts, c));
+    }
+    c
+}
+
+// Whether the question with this letter leaves the parts as they are.
+fn only_looks(letter: u8) -> bool {
+    match letter {
+        b'f' | b'v' | b'g' | b'd' | b'u' | b'c' => true,
+        _ => false,
+    }
 }
 
 // The question by its letter: k numbers.
@@ -44,13 +57,10 @@ fn asked(
     row: &[u32; 16],
     k: usize,
 ) {
-    match letter {
-        b'f' | b'v' | b'g' | b'd' | b'u' => {
-            looking::looks(heap, table, roots, consts, c, letter, row, k)
-        }
-        b'n' => changing::roots_to(heap, table, roots, consts, c, row),
-        b'c' => changing::uses_less(heap, table, roots, consts, c, row),
-        _ => changing::changes(heap, table, roots, consts, c, letter, row, k),
+    if only_looks(letter) {
+        looking::looks(heap, table, roots, consts, c, letter, row, k);
+    } else {
+        changing::changes(heap, table, roots, consts, c, letter, row, k);
     }
 }
 
