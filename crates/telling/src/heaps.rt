@@ -117,11 +117,11 @@ pub fn assigned(
     assign(heap, table, roots, consts, c, row[0], field, row[2])
 }
 
-// One word of a part changed behind the calls.
-fn poke(part: &mut [u32], i: u32, w: u32) {
-    let at = place(i);
-    if at < part.len() {
-        part[at] = w;
+// One word of a part changed behind the calls, where the step is the part's.
+fn poke(part: &mut [u32], mine: bool, row: &[u32; 16]) {
+    let at = place(row[0]);
+    if mine && at < part.len() {
+        part[at] = row[1];
     }
 }
 
@@ -138,12 +138,9 @@ fn controlled(c: Control, row: &[u32; 16]) -> Control {
 
 // A step behind the calls that changes a word of a part.
 fn spoiled(heap: &mut [u32], table: &mut [u32], roots: &mut [u32], letter: u8, row: &[u32; 16]) {
-    match letter {
-        b'h' => poke(heap, row[0], row[1]),
-        b't' => poke(table, row[0], row[1]),
-        b's' => poke(roots, row[0], row[1]),
-        _ => {}
-    }
+    poke(heap, letter == b'h', row);
+    poke(table, letter == b't', row);
+    poke(roots, letter == b's', row);
 }
 
 // A root becomes a word.
