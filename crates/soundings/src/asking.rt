@@ -1,11 +1,12 @@
-// A question on a heap that a recipe makes. A question is a name and numbers:
+// A question on a heap that a recipe makes. A question is a name and numbers, as a step of a recipe is:
 //   open 4             setting up, with n
-//   push               
+//   push               a region more
 //   record 0 1 5       allocation of a record: the region, its words
 //   words 0 4 8        the same of a raw value
-//   assign 20 1 5      a word to a field: the pointer, the field, the word
+//   assign 20 1 5      a field of the record that a word points to becomes a word
+//   name 0 20          a root becomes a word
 //   end                pop: the newest region ends
-//   name 0 8           a root becomes a word
+// and those that leave the parts as they are:
 //   fetch 8            the value that a word points to
 //   view 0             a page
 //   go 0 1 0           walk: the root, the fields
@@ -64,6 +65,7 @@ fn asked(
     }
 }
 
+// The heap is made, and the question asked.
 pub fn asks(
     heap: &mut [u32],
     table: &mut [u32],

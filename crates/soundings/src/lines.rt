@@ -1,5 +1,6 @@
-// A line of the soundings: what is printed in front of the answer, the lengths of the heap, the table, the roots and the constants, the recipe of
-// the heap, and the question; bars stand between them.
+// Lines of the soundings. A line is four texts with bars between them:
+//   push again: |on 32 256 2 0|push 1;|push
+// what is printed in front of the answer; the lengths of the heap, the table, the roots and the constants; the recipe of the heap; the question.
 ghost use Prim.Native.Nat.{_≤_};
 use crate::asking;
 use telling::heaps;
@@ -8,9 +9,6 @@ use telling::say;
 // What stands before the first bar.
 fn before_bar(text: &[u8]) -> &[u8] {
     let e = heaps::end_of(text, 0, b'|');
-    if text.len() < e {
-        return text;
-    }
     &text[0..e]
 }
 
@@ -32,7 +30,7 @@ fn within(k: u32, n: usize) -> usize
     if asked < n { asked } else { n }
 }
 
-// The question on parts of these lengths.
+// The rest of a line, on parts of these lengths.
 fn sized(
     heap: &mut [u32],
     table: &mut [u32],
@@ -55,7 +53,7 @@ fn sized(
     );
 }
 
-// The question on parts of the lengths that a line names, from these.
+// What stands behind a line's first bar, on parts of the lengths that it names. The constants are a record of the number 7.
 fn on(heap: &mut [u32], table: &mut [u32], roots: &mut [u32], line: &[u8]) {
     let consts = [9u32, 7];
     let mut row = [0u32; 16];
@@ -72,6 +70,7 @@ fn sounding(line: &[u8]) {
     on(&mut heap, &mut table, &mut roots, behind_bar(line));
 }
 
+// Each line ends with a newline.
 pub fn all(lines: &[u8]) {
     let mut at = 0;
     while at < lines.len() {

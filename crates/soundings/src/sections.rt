@@ -1,4 +1,4 @@
-// The lines. A heap of pages of 16 words; where it is that of "Sh", the constants have a record of the number 7.
+// The lines, as `lines` reads them.
 use crate::lines;
 use telling::say;
 
@@ -39,7 +39,7 @@ due, 43 of 128 pages free: |on 2048 256 0 0|control 0 1 128 43;|due\n",
     );
 }
 
-// Fetch, page, walk, assign and set root, on the heap of "Sh" with one record of the number 7 in the constants.
+// Fetch, page, walk, assign and set root, on the heap of "Sh" with a record of the number 7 in the constants.
 pub fn looking() {
     say::text(b"Fetch, page, walk, assign, set root\n");
     lines::all(
@@ -77,8 +77,8 @@ root 0 to 12: |on 32 256 1 2|label;name 0 2;|name 0 12\n",
     );
 }
 
-// Used words and pop. A collection drops the dead value. In the two lines before the last a record in region 1 is its own field; region 0 has
-// its pointer as a field, and then as a raw word. Last, a region's pages go back in the order of their chain.
+// Used words and pop. A collection drops the dead value. In the two lines before the last a record in region 1 is its own field, and region 0
+// has its pointer: first in a record, then as a raw word. In the last a region's pages go back in the order of their chain.
 pub fn popping() {
     say::text(b"Used words and pop\n");
     lines::all(
