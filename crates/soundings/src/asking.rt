@@ -1,12 +1,6 @@
-// A question on a heap that a recipe makes. A question is a name and numbers, as a step of a recipe is:
-//   open 4             setting up, with n
-//   push               a region more
-//   record 0 1 5       allocation of a record: the region, its words
-//   words 0 4 8        the same of a raw value
-//   assign 20 1 5      a field of the record that a word points to becomes a word
-//   name 0 20          a root becomes a word
+// A question on a heap that a recipe makes. A question is a step of a recipe, one call of it (open, push, record, words, assign, name), or
 //   end                pop: the newest region ends
-// and those that leave the parts as they are:
+// or, of those that leave the parts as they are,
 //   fetch 8            the value that a word points to
 //   view 0             a page
 //   go 0 1 0           walk: the root, the fields
@@ -47,24 +41,6 @@ fn only_looks(letter: u8) -> bool {
     }
 }
 
-// The question by its letter: k numbers.
-fn asked(
-    heap: &mut [u32],
-    table: &mut [u32],
-    roots: &mut [u32],
-    consts: &[u32],
-    c: Control,
-    letter: u8,
-    row: &[u32; 16],
-    k: usize,
-) {
-    if only_looks(letter) {
-        looking::looks(heap, table, roots, consts, c, letter, row, k);
-    } else {
-        changing::changes(heap, table, roots, consts, c, letter, row, k);
-    }
-}
-
 // The heap is made, and the question asked.
 pub fn asks(
     heap: &mut [u32],
@@ -74,9 +50,11 @@ pub fn asks(
     recipe: &[u8],
     question: &[u8],
 ) {
-    let mut row = [0u32; 16];
-    let k = heaps::numbers(question, &mut row);
     let letter = heaps::first(question);
     let c = given(heap, table, roots, consts, recipe, letter);
-    asked(heap, table, roots, consts, c, letter, &row, k);
+    if only_looks(letter) {
+        looking::looks(heap, table, roots, consts, c, question);
+    } else {
+        changing::changes(heap, table, roots, consts, c, question);
+    }
 }

@@ -1,31 +1,23 @@
 // Questions that may change the parts: what the call answers, and what it left.
-use regions::push;
 use release::pop;
 use rules::Control;
-use setting_up::set_up;
 use telling::heaps;
 use telling::lent;
 use telling::say;
 
-// The call by the question's letter, its answer, and the record that it hands back.
+// The call, its answer, and the record that it hands back. But for a pop it is a step of a recipe.
 fn called(
     heap: &mut [u32],
     table: &mut [u32],
     roots: &mut [u32],
     consts: &[u32],
     c: Control,
-    letter: u8,
-    row: &[u32; 16],
-    k: usize,
+    question: &[u8],
 ) -> Control {
-    match letter {
-        b'o' => say::opened(set_up(heap, table, roots, consts, row[0])),
-        b'p' => say::plain(push(heap, table, roots, consts, c)),
-        b'e' => say::plain(pop(heap, table, roots, consts, c)),
-        b'a' => say::plain(heaps::assigned(heap, table, roots, consts, c, row)),
-        b'n' => say::plain(heaps::rooted(heap, table, roots, consts, c, row)),
-        _ => say::valued(heaps::stored(heap, table, roots, consts, c, letter, row, k)),
+    if heaps::first(question) == b'e' {
+        return say::plain(pop(heap, table, roots, consts, c));
     }
+    heaps::step(heap, table, roots, consts, c, question, true)
 }
 
 fn left_roots(roots: &[u32]) {
@@ -41,13 +33,11 @@ pub fn changes(
     roots: &mut [u32],
     consts: &[u32],
     c: Control,
-    letter: u8,
-    row: &[u32; 16],
-    k: usize,
+    question: &[u8],
 ) {
     let before = lent::sum(heap, table, roots);
-    let after = called(heap, table, roots, consts, c, letter, row, k);
-    if letter == b'n' {
+    let after = called(heap, table, roots, consts, c, question);
+    if heaps::first(question) == b'n' {
         left_roots(roots);
     } else {
         lent::report(before, c, heap, table, roots, after);

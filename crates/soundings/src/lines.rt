@@ -1,5 +1,5 @@
 // Lines of the soundings. A line is four texts with bars between them:
-//   push again: |on 32 256 2 0|push 1;|push
+//   push again: |on 32 256 2 0|push 1;|push 1
 // what is printed in front of the answer; the lengths of the heap, the table, the roots and the constants; the recipe of the heap; the question.
 ghost use Prim.Native.Nat.{_≤_};
 use crate::asking;

@@ -77,10 +77,19 @@ pub fn looks<'a>(
     roots: &'a [u32],
     consts: &'a [u32],
     c: Control,
-    letter: u8,
-    row: &[u32; 16],
-    k: usize,
+    question: &[u8],
 ) {
-    looked(heap, table, roots, consts, c, letter, row, k);
+    let mut row = [0u32; 16];
+    let k = heaps::numbers(question, &mut row);
+    looked(
+        heap,
+        table,
+        roots,
+        consts,
+        c,
+        heaps::first(question),
+        &row,
+        k,
+    );
     say::text(b"\n");
 }

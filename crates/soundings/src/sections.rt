@@ -7,16 +7,16 @@ pub fn opening() {
     say::text(b"Setting up and push\n");
     lines::all(
         b"set up P 16, N 2, two roots: |on 32 256 2 0||open 4
-push: |on 32 256 2 0||push
-push again: |on 32 256 2 0|push 1;|push
-push with no page left: |on 32 256 2 0|push 2;|push
+push: |on 32 256 2 0||push 1
+push again: |on 32 256 2 0|push 1;|push 1
+push with no page left: |on 32 256 2 0|push 2;|push 1
 set up n 3: |on 64 256 2 0||open 3
 set up n 9: |on 64 256 2 0||open 9
 set up one page, P 64: |on 64 256 2 0||open 6
 set up 40 words, P 16: |on 40 256 2 0||open 4
 set up a table of 257 words: |on 32 257 2 0||open 4
 set up 1,025 roots: |on 32 256 1025 0||open 4
-push with 64 regions, a page free: |on 1040 256 2 0|push 64;|push\n",
+push with 64 regions, a page free: |on 1040 256 2 0|push 64;|push 1\n",
     );
 }
 

@@ -1,4 +1,5 @@
 // Heaps made by the calls from a recipe, for soundings that begin with one. A recipe is steps; a step is a name, numbers, and a semicolon:
+//   open 4;            setting up, with n
 //   push 2;            so many regions more
 //   record 0 8 15;     a record more in a region: the region, its words
 //   words 0 83 104;    a raw value more
@@ -39,6 +40,36 @@ fn opened_record(o: Opened) -> Control {
     }
 }
 
+// The record after an allocation.
+fn valued_record(v: Valued) -> Control {
+    match v {
+        Valued::Done(_, c) => c,
+        Valued::Refused(_, c) => c,
+    }
+}
+
+// The record that an answer hands back. The answer of a step that is done aloud is printed.
+fn heard(aloud: bool, p: Plain) -> Control {
+    if aloud {
+        return say::plain(p);
+    }
+    record_of(p)
+}
+
+fn opened_heard(aloud: bool, o: Opened) -> Control {
+    if aloud {
+        return say::opened(o);
+    }
+    opened_record(o)
+}
+
+fn valued_heard(aloud: bool, v: Valued) -> Control {
+    if aloud {
+        return say::valued(v);
+    }
+    valued_record(v)
+}
+
 // So many regions more.
 fn pushed(
     heap: &mut [u32],
@@ -47,11 +78,12 @@ fn pushed(
     consts: &[u32],
     c: Control,
     regions: u32,
+    aloud: bool,
 ) -> Control {
     let mut now = c;
     let mut left = regions;
     while 0 < left {
-        now = record_of(push(heap, table, roots, consts, now));
+        now = heard(aloud, push(heap, table, roots, consts, now));
         left -= 1;
     }
     now
@@ -59,14 +91,6 @@ fn pushed(
 
 pub fn place(i: u32) -> usize {
     i as usize
-}
-
-// The record after an allocation.
-fn valued_record(v: Valued) -> Control {
-    match v {
-        Valued::Done(_, c) => c,
-        Valued::Refused(_, c) => c,
-    }
 }
 
 fn kind_of(letter: u8) -> Kind {
@@ -89,7 +113,7 @@ pub fn behind(row: &[u32; 16], k: usize) -> &[u32] {
 }
 
 // A value more: k numbers, its region and its words.
-pub fn stored(
+fn stored(
     heap: &mut [u32],
     table: &mut [u32],
     roots: &[u32],
@@ -105,7 +129,7 @@ pub fn stored(
 }
 
 // A field of the record that a word points to becomes a word.
-pub fn assigned(
+fn assigned(
     heap: &mut [u32],
     table: &[u32],
     roots: &[u32],
@@ -144,7 +168,7 @@ fn spoiled(heap: &mut [u32], table: &mut [u32], roots: &mut [u32], letter: u8, r
 }
 
 // A root becomes a word.
-pub fn rooted(
+fn rooted(
     heap: &[u32],
     table: &[u32],
     roots: &mut [u32],
@@ -166,12 +190,14 @@ fn done(
     letter: u8,
     row: &[u32; 16],
     k: usize,
+    aloud: bool,
 ) -> Control {
     match letter {
-        b'p' => pushed(heap, table, roots, consts, c, row[0]),
-        b'r' | b'w' => valued_record(stored(heap, table, roots, consts, c, letter, row, k)),
-        b'a' => record_of(assigned(heap, table, roots, consts, c, row)),
-        b'n' => record_of(rooted(heap, table, roots, consts, c, row)),
+        b'o' => opened_heard(aloud, set_up(heap, table, roots, consts, row[0])),
+        b'p' => pushed(heap, table, roots, consts, c, row[0], aloud),
+        b'r' | b'w' => valued_heard(aloud, stored(heap, table, roots, consts, c, letter, row, k)),
+        b'a' => heard(aloud, assigned(heap, table, roots, consts, c, row)),
+        b'n' => heard(aloud, rooted(heap, table, roots, consts, c, row)),
         b'c' => controlled(c, row),
         _ => {
             spoiled(heap, table, roots, letter, row);
@@ -228,17 +254,18 @@ pub fn first(text: &[u8]) -> u8 {
 }
 
 // The step that a text is.
-fn step(
+pub fn step(
     heap: &mut [u32],
     table: &mut [u32],
     roots: &mut [u32],
     consts: &[u32],
     c: Control,
     text: &[u8],
+    aloud: bool,
 ) -> Control {
     let mut row = [0u32; 16];
     let k = numbers(text, &mut row);
-    done(heap, table, roots, consts, c, first(text), &row, k)
+    done(heap, table, roots, consts, c, first(text), &row, k, aloud)
 }
 
 // Where what starts at a place ends: at the first such byte, or with the text.
@@ -268,7 +295,7 @@ fn follow(
     let mut at = 0;
     while at < recipe.len() {
         let e = end_of(recipe, at, b';');
-        now = step(heap, table, roots, consts, now, &recipe[at..e]);
+        now = step(heap, table, roots, consts, now, &recipe[at..e], false);
         at = e + 1;
     }
     now
