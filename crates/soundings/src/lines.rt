@@ -30,6 +30,17 @@ fn within(k: u32, n: usize) -> usize
     if asked < n { asked } else { n }
 }
 
+// The first words of a part.
+fn first_words(part: &mut [u32], k: u32) -> &mut [u32] {
+    let n = within(k, part.len());
+    &mut part[0..n]
+}
+
+fn first_constants(part: &[u32], k: u32) -> &[u32] {
+    let n = within(k, part.len());
+    &part[0..n]
+}
+
 // The rest of a line, on parts of these lengths.
 fn sized(
     heap: &mut [u32],
@@ -39,15 +50,11 @@ fn sized(
     row: &[u32; 16],
     rest: &[u8],
 ) {
-    let words = within(row[0], heap.len());
-    let rows = within(row[1], table.len());
-    let named = within(row[2], roots.len());
-    let constants = within(row[3], consts.len());
     asking::asks(
-        &mut heap[0..words],
-        &mut table[0..rows],
-        &mut roots[0..named],
-        &consts[0..constants],
+        first_words(heap, row[0]),
+        first_words(table, row[1]),
+        first_words(roots, row[2]),
+        first_constants(consts, row[3]),
         before_bar(rest),
         behind_bar(rest),
     );
