@@ -253,7 +253,7 @@ pub fn first(text: &[u8]) -> u8 {
     text[0]
 }
 
-// The step that a text is.
+// The step that a text is; aloud, its answer is printed.
 pub fn step(
     heap: &mut [u32],
     table: &mut [u32],
