@@ -1,14 +1,15 @@
 // The soundings of document 01 on the calls, on real memory: each line asks the library one thing and prints what came.
+mod asking;
+mod changing;
 mod converting;
+mod lines;
 mod looking;
-mod opening;
-mod popping;
-mod storing;
+mod sections;
 
 fn main() {
     converting::soundings();
-    opening::soundings();
-    storing::soundings();
-    looking::soundings();
-    popping::soundings();
+    sections::opening();
+    sections::storing();
+    sections::looking();
+    sections::popping();
 }

@@ -1,4 +1,5 @@
 // Heaps made by the calls from a recipe, for soundings that begin with one. A recipe is steps; a step is a name, numbers, and a semicolon:
+//   open 4;            setting up, with n
 //   push 2;            so many regions more
 //   record 0 8 15;     a record more in a region: the region, its words
 //   words 0 83 104;    a raw value more
@@ -32,34 +33,11 @@ pub fn record_of(p: Plain) -> Control {
     }
 }
 
-// A new heap with pages of 16 words.
-fn fresh(heap: &mut [u32], table: &mut [u32], roots: &mut [u32], consts: &[u32]) -> Control {
-    match set_up(heap, table, roots, consts, 4) {
+fn opened_record(o: Opened) -> Control {
+    match o {
         Opened::Done(c) => c,
         Opened::Refused(_) => say::no_record(),
     }
-}
-
-// So many regions more.
-fn pushed(
-    heap: &mut [u32],
-    table: &mut [u32],
-    roots: &[u32],
-    consts: &[u32],
-    c: Control,
-    regions: u32,
-) -> Control {
-    let mut now = c;
-    let mut left = regions;
-    while 0 < left {
-        now = record_of(push(heap, table, roots, consts, now));
-        left -= 1;
-    }
-    now
-}
-
-fn place(i: u32) -> usize {
-    i as usize
 }
 
 // The record after an allocation.
@@ -70,11 +48,68 @@ fn valued_record(v: Valued) -> Control {
     }
 }
 
+// The record that an answer hands back. The answer of a step that is done aloud is printed.
+fn heard(aloud: bool, p: Plain) -> Control {
+    if aloud {
+        return say::plain(p);
+    }
+    record_of(p)
+}
+
+fn opened_heard(aloud: bool, o: Opened) -> Control {
+    if aloud {
+        return say::opened(o);
+    }
+    opened_record(o)
+}
+
+fn valued_heard(aloud: bool, v: Valued) -> Control {
+    if aloud {
+        return say::valued(v);
+    }
+    valued_record(v)
+}
+
+// So many regions more.
+fn pushed(
+    heap: &mut [u32],
+    table: &mut [u32],
+    roots: &[u32],
+    consts: &[u32],
+    c: Control,
+    regions: u32,
+    aloud: bool,
+) -> Control {
+    let mut now = c;
+    let mut left = regions;
+    while 0 < left {
+        now = heard(aloud, push(heap, table, roots, consts, now));
+        left -= 1;
+    }
+    now
+}
+
+pub fn place(i: u32) -> usize {
+    i as usize
+}
+
 fn kind_of(letter: u8) -> Kind {
     if letter == b'w' {
         return Kind::Raw;
     }
     Kind::Record
+}
+
+// The numbers of a step behind its first.
+pub fn behind(row: &[u32; 16], k: usize) -> &[u32] {
+    let all = &row[..];
+    if k < 1 {
+        return &all[0..0];
+    }
+    if all.len() < k {
+        return &all[0..0];
+    }
+    &all[1..k]
 }
 
 // A value more: k numbers, its region and its words.
@@ -87,18 +122,10 @@ fn stored(
     letter: u8,
     row: &[u32; 16],
     k: usize,
-) -> Control {
-    if k < 1 {
-        return c;
-    }
-    let all = &row[..];
-    if all.len() < k {
-        return c;
-    }
-    let words = &all[1..k];
+) -> Valued {
     let j = Region(place(row[0]));
     let kind = kind_of(letter);
-    valued_record(allocate(heap, table, roots, consts, c, j, kind, words))
+    allocate(heap, table, roots, consts, c, j, kind, behind(row, k))
 }
 
 // A field of the record that a word points to becomes a word.
@@ -109,16 +136,16 @@ fn assigned(
     consts: &[u32],
     c: Control,
     row: &[u32; 16],
-) -> Control {
+) -> Plain {
     let field = place(row[1]);
-    record_of(assign(heap, table, roots, consts, c, row[0], field, row[2]))
+    assign(heap, table, roots, consts, c, row[0], field, row[2])
 }
 
-// One word of a part changed behind the calls.
-fn poke(part: &mut [u32], i: u32, w: u32) {
-    let at = place(i);
-    if at < part.len() {
-        part[at] = w;
+// One word of a part changed behind the calls, where the step is the part's.
+fn poke(part: &mut [u32], mine: bool, row: &[u32; 16]) {
+    let at = place(row[0]);
+    if mine && at < part.len() {
+        part[at] = row[1];
     }
 }
 
@@ -135,12 +162,9 @@ fn controlled(c: Control, row: &[u32; 16]) -> Control {
 
 // A step behind the calls that changes a word of a part.
 fn spoiled(heap: &mut [u32], table: &mut [u32], roots: &mut [u32], letter: u8, row: &[u32; 16]) {
-    match letter {
-        b'h' => poke(heap, row[0], row[1]),
-        b't' => poke(table, row[0], row[1]),
-        b's' => poke(roots, row[0], row[1]),
-        _ => {}
-    }
+    poke(heap, letter == b'h', row);
+    poke(table, letter == b't', row);
+    poke(roots, letter == b's', row);
 }
 
 // A root becomes a word.
@@ -151,9 +175,9 @@ fn rooted(
     consts: &[u32],
     c: Control,
     row: &[u32; 16],
-) -> Control {
+) -> Plain {
     let root = place(row[0]);
-    record_of(set_root(heap, table, roots, consts, c, root, row[1]))
+    set_root(heap, table, roots, consts, c, root, row[1])
 }
 
 // A step of k numbers, by the letter that its name begins with.
@@ -166,12 +190,14 @@ fn done(
     letter: u8,
     row: &[u32; 16],
     k: usize,
+    aloud: bool,
 ) -> Control {
     match letter {
-        b'p' => pushed(heap, table, roots, consts, c, row[0]),
-        b'r' | b'w' => stored(heap, table, roots, consts, c, letter, row, k),
-        b'a' => assigned(heap, table, roots, consts, c, row),
-        b'n' => rooted(heap, table, roots, consts, c, row),
+        b'o' => opened_heard(aloud, set_up(heap, table, roots, consts, row[0])),
+        b'p' => pushed(heap, table, roots, consts, c, row[0], aloud),
+        b'r' | b'w' => valued_heard(aloud, stored(heap, table, roots, consts, c, letter, row, k)),
+        b'a' => heard(aloud, assigned(heap, table, roots, consts, c, row)),
+        b'n' => heard(aloud, rooted(heap, table, roots, consts, c, row)),
         b'c' => controlled(c, row),
         _ => {
             spoiled(heap, table, roots, letter, row);
@@ -210,7 +236,7 @@ fn taken(row: &mut [u32; 16], k: usize, byte: u8) -> usize {
 }
 
 // The numbers of a step, and how many.
-fn numbers(step: &[u8], row: &mut [u32; 16]) -> usize {
+pub fn numbers(step: &[u8], row: &mut [u32; 16]) -> usize {
     let mut k: usize = 0;
     let mut i = 0;
     while i < step.len() {
@@ -220,25 +246,26 @@ fn numbers(step: &[u8], row: &mut [u32; 16]) -> usize {
     k
 }
 
-fn first(text: &[u8]) -> u8 {
+pub fn first(text: &[u8]) -> u8 {
     if text.len() == 0 {
         return b' ';
     }
     text[0]
 }
 
-// The step that a text is.
-fn step(
+// The step that a text is; aloud, its answer is printed.
+pub fn step(
     heap: &mut [u32],
     table: &mut [u32],
     roots: &mut [u32],
     consts: &[u32],
     c: Control,
     text: &[u8],
+    aloud: bool,
 ) -> Control {
     let mut row = [0u32; 16];
     let k = numbers(text, &mut row);
-    done(heap, table, roots, consts, c, first(text), &row, k)
+    done(heap, table, roots, consts, c, first(text), &row, k, aloud)
 }
 
 // Where what starts at a place ends: at the first such byte, or with the text.
@@ -268,14 +295,23 @@ fn follow(
     let mut at = 0;
     while at < recipe.len() {
         let e = end_of(recipe, at, b';');
-        now = step(heap, table, roots, consts, now, &recipe[at..e]);
+        now = step(heap, table, roots, consts, now, &recipe[at..e], false);
         at = e + 1;
     }
     now
 }
 
-// What a recipe begins with. The heap of document 01's image: "Sh" at 2, its record at 5, which is root 0. Raw values of 7, 7, 10 and 4 words,
-// headers counted, with roots that name the 10, 7, 7 and 4. Else a new heap.
+// The steps that stand for the first of a recipe, by its letter.
+fn beginning<'a>(letter: u8, label: &'a [u8], four: &'a [u8]) -> &'a [u8] {
+    match letter {
+        b'l' => label,
+        b'f' => four,
+        _ => &label[0..0],
+    }
+}
+
+// What a recipe begins with, in pages of 16 words. The heap of document 01's image: "Sh" at 2, its record at 5, which is root 0. Raw values of
+// 7, 7, 10 and 4 words, headers counted, with roots that name the 10, 7, 7 and 4. Else a new heap.
 fn begun(
     heap: &mut [u32],
     table: &mut [u32],
@@ -283,26 +319,13 @@ fn begun(
     consts: &[u32],
     letter: u8,
 ) -> Control {
-    let c = fresh(heap, table, roots, consts);
-    match letter {
-        b'l' => follow(
-            heap,
-            table,
-            roots,
-            consts,
-            c,
-            b"push 1;words 0 83 104;record 0 8 15;name 0 20;",
-        ),
-        b'f' => follow(
-            heap,
-            table,
-            roots,
-            consts,
-            c,
-            b"push 1;words 0 5 5 5 5 5 5;words 0 6 6 6 6 6 6;words 0 7 7 7 7 7 7 7 7 7;words 0 8 8 8;name 0 72;name 1 8;name 2 36;name 3 112;",
-        ),
-        _ => c,
-    }
+    let c = opened_record(set_up(heap, table, roots, consts, 4));
+    let steps = beginning(
+        letter,
+        b"push 1;words 0 83 104;record 0 8 15;name 0 20;",
+        b"push 1;words 0 5 5 5 5 5 5;words 0 6 6 6 6 6 6;words 0 7 7 7 7 7 7 7 7 7;words 0 8 8 8;name 0 72;name 1 8;name 2 36;name 3 112;",
+    );
+    follow(heap, table, roots, consts, c, steps)
 }
 
 // The heap that a recipe makes.

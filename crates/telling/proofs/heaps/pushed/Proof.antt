@@ -6,10 +6,10 @@ use Rattle.telling.proofs.heaps.pushed.Statement.{statement}
 use Rattle.telling.proofs.heaps.pushed.Tie as tie
 
 abbrev Inv-loop : tie.InvT-loop
-Inv-loop heap₀ table₀ roots consts regions now₀ left₀ heap table now left = (length heap ≡ length heap₀) × (length table ≡ length table₀)
+Inv-loop heap₀ table₀ roots consts regions aloud now₀ left₀ heap table now left = (length heap ≡ length heap₀) × (length table ≡ length table₀)
 
 abbrev μ-loop : tie.MeasureT-loop
-μ-loop heap₀ table₀ roots consts regions now₀ left₀ heap table now left = left
+μ-loop heap₀ table₀ roots consts regions aloud now₀ left₀ heap table now left = left
 
 loop-holds : tie.Need-loop-holds Inv-loop μ-loop
 loop-holds c = search needs
@@ -17,8 +17,8 @@ loop-holds c = search needs
 push-requires : tie.Need-push-requires Inv-loop μ-loop
 push-requires c κs = search needs
 
-record-of-requires : tie.Need-record-of-requires Inv-loop μ-loop
-record-of-requires c κs = search needs
+heard-requires : tie.Need-heard-requires Inv-loop μ-loop
+heard-requires c κs = search needs
 
 sub-left : tie.Need-sub-left Inv-loop μ-loop
 sub-left c = search needs
@@ -46,7 +46,7 @@ pushed-spec =
     μ-loop
     loop-holds
     push-requires
-    record-of-requires
+    heard-requires
     sub-left
     loop-less
     loop-again

@@ -1,0 +1,45 @@
+// Questions that may change the parts: what the call answers, and what it left.
+use release::pop;
+use rules::Control;
+use telling::heaps;
+use telling::lent;
+use telling::say;
+
+// The call, its answer, and the record that it hands back. But for a pop it is a step of a recipe.
+fn called(
+    heap: &mut [u32],
+    table: &mut [u32],
+    roots: &mut [u32],
+    consts: &[u32],
+    c: Control,
+    question: &[u8],
+) -> Control {
+    if heaps::first(question) == b'e' {
+        return say::plain(pop(heap, table, roots, consts, c));
+    }
+    heaps::step(heap, table, roots, consts, c, question, true)
+}
+
+fn left_roots(roots: &[u32]) {
+    say::text(b", roots");
+    say::words(roots);
+    say::text(b"\n");
+}
+
+// A call, and what it left: of a root that is named, the roots.
+pub fn changes(
+    heap: &mut [u32],
+    table: &mut [u32],
+    roots: &mut [u32],
+    consts: &[u32],
+    c: Control,
+    question: &[u8],
+) {
+    let before = lent::sum(heap, table, roots);
+    let after = called(heap, table, roots, consts, c, question);
+    if heaps::first(question) == b'n' {
+        left_roots(roots);
+    } else {
+        lent::report(before, c, heap, table, roots, after);
+    }
+}
