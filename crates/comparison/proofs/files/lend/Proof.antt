@@ -1,4 +1,4 @@
--- `comparison::files::lend` is safe: the table is lent as long as the array is, the other parts as long as is asked for, and the text and the sums keep their lengths.
+-- `comparison::files::lend` is safe: the table is lent as long as the array is, the other parts as long as is asked for, and the sums keep their length.
 use Prim.Native.Nat.{ℕ}
 use mathlib.Core.Path.{sym}
 use lib.ListN.{length-replicate}
@@ -40,10 +40,7 @@ through-requires : tie.Need-through-requires
 through-requires c κs = tt
 
 same-length : tie.Need-same-length
-same-length c = c .before .before .before .before .before .before .before .before .through .kept .1 .1 .1 .1 .1 .0
-
-same-length-2 : tie.Need-same-length-2
-same-length-2 c = c .before .before .before .before .before .before .before .before .through .kept .1 .1 .1 .1 .1 .1 .0
+same-length c = c .before .before .before .before .before .before .through .kept .1 .1 .1 .1 .1 .1 .0
 
 returns : tie.Need-returns
 returns c = tt
@@ -64,5 +61,4 @@ lend-spec =
     part-consts-end
     through-requires
     same-length
-    same-length-2
     returns)
