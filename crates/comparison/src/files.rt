@@ -1,7 +1,5 @@
 // The images of data/: each is read, collected and written, and the text compared with its answer.
 ghost use Prim.Native.Nat.{_≤_};
-use crate::counts;
-use crate::trial::both;
 use check::same;
 use conversions::refusal_number;
 use conversions::refusal_place;
@@ -16,6 +14,8 @@ use rules::Plain;
 use rules::Refusal;
 use rules::Valued;
 use samples::census::add;
+use trials::both;
+use trials::counts;
 use writing::write_frame;
 
 fn digit(k: u32) -> u8 {

@@ -1,8 +1,6 @@
 // Compares the collector with a second one, independent in method, on many heaps made at random, and with the answers of outside images.
-mod counts;
 mod files;
 mod report;
-mod trial;
 
 ghost use Prim.Native.Nat.{_≤_};
 use rules::Control;
@@ -10,7 +8,8 @@ use samples::chance;
 use samples::making::make;
 use samples::shape::Shape;
 use samples::shape::shape_of;
-use trial::both;
+use trials::both;
+use trials::counts;
 
 // A sample collected twice, and counted before and after.
 fn counted(

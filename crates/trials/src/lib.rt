@@ -1,8 +1,10 @@
 // One heap, both collectors: the first in place, the second from a copy into a heap of its own. Every word, the record and the answer are
 // compared.
-use crate::counts::ended;
+pub mod counts;
+
 use collection::collect;
 use conversions::refusal_number;
+use counts::ended;
 use leaves::word;
 use rules::Control;
 use rules::Plain;

@@ -1,9 +1,9 @@
--- `comparison::trial::lacks_too` is safe: the second heap is lent as long as the array is.
+-- `trials::lacks_too` is safe: the second heap is lent as long as the array is.
 use Prim.Native.Nat.{ℕ}
 use mathlib.Core.Path.{sym}
 use lib.ListN.{length-replicate}
-use Rattle.comparison.proofs.trial.lacks_too.Statement.{statement}
-use Rattle.comparison.proofs.trial.lacks_too.Tie as tie
+use Rattle.trials.proofs.lacks_too.Statement.{statement}
+use Rattle.trials.proofs.lacks_too.Tie as tie
 
 slice-aggregate-collect-again : tie.Need-slice-aggregate-collect-again
 slice-aggregate-collect-again c = sym (length-replicate {A = ℕ} 333258 0)

@@ -1,9 +1,9 @@
--- `comparison::trial::agrees` is safe: the heap as it is left is lent as long as the array is, before and after it is laid out.
+-- `trials::agrees` is safe: the heap as it is left is lent as long as the array is, before and after it is laid out.
 use Prim.Native.Nat.{ℕ}
 use mathlib.Core.Path.{sym, _∙_}
 use lib.ListN.{length-replicate}
-use Rattle.comparison.proofs.trial.agrees.Statement.{statement}
-use Rattle.comparison.proofs.trial.agrees.Tie as tie
+use Rattle.trials.proofs.agrees.Statement.{statement}
+use Rattle.trials.proofs.agrees.Tie as tie
 
 slice-aggregate-lay-out : tie.Need-slice-aggregate-lay-out
 slice-aggregate-lay-out c = sym (length-replicate {A = ℕ} 66822 0)

@@ -1,9 +1,9 @@
--- `comparison::trial::compared` is safe: the old heap is lent as long as the array is, before and after it is laid out, and the lent parts keep their lengths.
+-- `trials::compared` is safe: the old heap is lent as long as the array is, before and after it is laid out, and the lent parts keep their lengths.
 use Prim.Native.Nat.{ℕ}
 use mathlib.Core.Path.{sym, _∙_}
 use lib.ListN.{length-replicate}
-use Rattle.comparison.proofs.trial.compared.Statement.{statement}
-use Rattle.comparison.proofs.trial.compared.Tie as tie
+use Rattle.trials.proofs.compared.Statement.{statement}
+use Rattle.trials.proofs.compared.Tie as tie
 
 slice-aggregate-lay-out : tie.Need-slice-aggregate-lay-out
 slice-aggregate-lay-out c = sym (length-replicate {A = ℕ} 66822 0)

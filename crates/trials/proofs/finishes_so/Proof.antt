@@ -1,9 +1,9 @@
--- `comparison::trial::finishes_so` is safe: the second heap is lent as long as the array is, before and after the second collection.
+-- `trials::finishes_so` is safe: the second heap is lent as long as the array is, before and after the second collection.
 use Prim.Native.Nat.{ℕ}
 use mathlib.Core.Path.{sym, _∙_}
 use lib.ListN.{length-replicate}
-use Rattle.comparison.proofs.trial.finishes_so.Statement.{statement}
-use Rattle.comparison.proofs.trial.finishes_so.Tie as tie
+use Rattle.trials.proofs.finishes_so.Statement.{statement}
+use Rattle.trials.proofs.finishes_so.Tie as tie
 
 slice-aggregate-collect-again : tie.Need-slice-aggregate-collect-again
 slice-aggregate-collect-again c = sym (length-replicate {A = ℕ} 333258 0)
