@@ -1,7 +1,5 @@
 // The images of data/: each is read, collected and written, and the text compared with its answer.
 ghost use Prim.Native.Nat.{_≤_};
-use crate::counts;
-use crate::trial::both;
 use check::same;
 use conversions::refusal_number;
 use conversions::refusal_place;
@@ -16,6 +14,8 @@ use rules::Plain;
 use rules::Refusal;
 use rules::Valued;
 use samples::census::add;
+use trials::both;
+use trials::counts;
 use writing::write_frame;
 
 fn digit(k: u32) -> u8 {
@@ -61,19 +61,19 @@ fn refusal_text(why: Refusal, out: &mut [u8]) -> usize {
     23
 }
 
-// The collected heap's text, or the refusal's; its length.
-fn answer_text(
-    heap: &[u32],
-    table: &[u32],
-    roots: &[u32],
-    consts: &[u32],
-    answer: Plain,
-    out: &mut [u8],
-) -> usize {
-    match answer {
-        Plain::Refused(why, _) => refusal_text(why, out),
-        Plain::Done(c) => written(write_image(heap, table, roots, consts, c, out)),
+// Whether the first k bytes of a text are the expected ones.
+fn begins_so(out: &[u8], k: usize, expected: &[u8]) -> bool {
+    if out.len() < k {
+        return false;
     }
+    same(&out[0..k], expected)
+}
+
+// Whether a refusal's line is the expected text.
+fn refused_so(why: Refusal, expected: &[u8]) -> bool {
+    let mut out = [0u8; 32];
+    let k = refusal_text(why, &mut out);
+    begins_so(&out, k, expected)
 }
 
 fn written(v: Valued) -> usize {
@@ -83,38 +83,67 @@ fn written(v: Valued) -> usize {
     }
 }
 
-// Both collectors on the heap that was read; the length of the first one's text.
+// Whether a heap's text is the expected one.
+fn written_so(
+    heap: &[u32],
+    table: &[u32],
+    roots: &[u32],
+    consts: &[u32],
+    c: Control,
+    expected: &[u8],
+) -> bool {
+    let mut out = [0u8; 4096];
+    let k = written(write_image(heap, table, roots, consts, c, &mut out));
+    begins_so(&out, k, expected)
+}
+
+// Whether the collected heap's text, or the refusal's, is the expected one.
+fn ends_so(
+    heap: &[u32],
+    table: &[u32],
+    roots: &[u32],
+    consts: &[u32],
+    answer: Plain,
+    expected: &[u8],
+) -> bool {
+    match answer {
+        Plain::Refused(why, _) => refused_so(why, expected),
+        Plain::Done(c) => written_so(heap, table, roots, consts, c, expected),
+    }
+}
+
+// Both collectors on the heap that was read; whether the first one's text is the expected one.
 fn collected(
     heap: &mut [u32],
     table: &mut [u32],
     roots: &mut [u32],
     consts: &[u32],
     c: Control,
-    out: &mut [u8],
+    expected: &[u8],
     sums: &mut [u32],
-) -> usize {
+) -> bool {
     let answer = both(heap, table, roots, consts, c, sums);
-    answer_text(heap, table, roots, consts, answer, out)
+    ends_so(heap, table, roots, consts, answer, expected)
 }
 
-// The text of the answer for a text that is an image, into lent parts of its lengths.
+// The same of a text that is an image, read into lent parts of its lengths.
 fn through(
     text: &[u8],
     heap: &mut [u32],
     table: &mut [u32],
     roots: &mut [u32],
     consts: &mut [u32],
-    out: &mut [u8],
+    expected: &[u8],
     sums: &mut [u32],
-) -> usize {
+) -> bool {
     match read_image(text, heap, table, roots, consts) {
-        Opened::Refused(why) => refusal_text(why, out),
-        Opened::Done(c) => collected(heap, table, roots, consts, c, out, sums),
+        Opened::Refused(why) => refused_so(why, expected),
+        Opened::Done(c) => collected(heap, table, roots, consts, c, expected, sums),
     }
 }
 
 // Parts of these lengths.
-fn lend(text: &[u8], words: usize, r: usize, k: usize, out: &mut [u8], sums: &mut [u32]) -> usize
+fn lend(text: &[u8], words: usize, r: usize, k: usize, expected: &[u8], sums: &mut [u32]) -> bool
     requires { ⌜ (words ≤ 4096) × (r ≤ 1024) × (k ≤ 1024) ⌝ }
 {
     let mut heap = [0u32; 4096];
@@ -127,47 +156,43 @@ fn lend(text: &[u8], words: usize, r: usize, k: usize, out: &mut [u8], sums: &mu
         &mut table,
         &mut roots[0..r],
         &mut consts[0..k],
-        out,
+        expected,
         sums,
     )
 }
 
-// The lengths are those that the first frame states.
-fn sized(text: &[u8], h: Head, out: &mut [u8], sums: &mut [u32]) -> usize {
+// The lengths are those that the first frame states. An image that is too large is not as expected.
+fn sized(text: &[u8], h: Head, expected: &[u8], sums: &mut [u32]) -> bool {
     let words = (h.pages as usize) << (h.n % 16);
     let r = h.roots as usize;
     let k = h.consts as usize;
     if words <= 4096 && r <= 1024 && k <= 1024 {
-        return lend(text, words, r, k, out, sums);
+        return lend(text, words, r, k, expected, sums);
     }
-    0
+    false
 }
 
-fn answered(text: &[u8], out: &mut [u8], sums: &mut [u32]) -> usize {
+// Whether a text comes out as the expected one.
+fn answered(text: &[u8], expected: &[u8], sums: &mut [u32]) -> bool {
     match judge(text) {
-        Judged::Malformed(line) => refusal_text(Refusal::Malformed(line), out),
-        Judged::Well(h) => sized(text, h, out, sums),
+        Judged::Malformed(line) => refused_so(Refusal::Malformed(line), expected),
+        Judged::Well(h) => sized(text, h, expected, sums),
     }
 }
 
-// Whether the first k bytes of the one are the first m of the other.
-fn same_texts(out: &[u8], k: usize, expected: &[u8], m: usize) -> bool {
-    if out.len() < k {
+// The expected text is the first m of these bytes.
+fn answered_by(text: &[u8], bytes: &[u8], m: usize, sums: &mut [u32]) -> bool {
+    if bytes.len() < m {
         return false;
     }
-    if expected.len() < m {
-        return false;
-    }
-    same(&out[0..k], &expected[0..m])
+    answered(text, &bytes[0..m], sums)
 }
 
 // Whether the text that came is the file's answer.
 fn as_answered(i: u32, text: &[u8], sums: &mut [u32]) -> bool {
-    let mut out = [0u8; 4096];
     let mut expected = [0u8; 4096];
-    let k = answered(text, &mut out, sums);
     let m = read_answer(i, &mut expected);
-    same_texts(&out, k, &expected, m)
+    answered_by(text, &expected, m, sums)
 }
 
 fn image_read(i: u32, text: &[u8], n: usize, sums: &mut [u32]) {

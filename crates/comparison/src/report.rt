@@ -1,7 +1,7 @@
 // The report: what was met, and how it came out.
 ghost use Prim.Native.Nat.{_≤_};
-use crate::counts;
 use leaves::word;
+use trials::counts;
 
 // The number at a place, and the end of its line.
 fn number(sums: &[u32], k: usize) {

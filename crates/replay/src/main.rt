@@ -1,9 +1,8 @@
 // Replays a script of calls: one operation a line on standard input, one answer a line on standard output.
 // Each call on a heap is one call of the library; the rest reads lines and writes answers.
-mod calls;
 mod state;
 
-use calls::first_bytes;
+use carrying_out::parts::first_bytes;
 use script::lines::beginning;
 use script::lines::left;
 use script::lines::next_line;

@@ -1,11 +1,11 @@
 // What is kept from line to line besides the words, and what one line does to it.
-use crate::calls::ask;
-use crate::calls::change;
-use crate::calls::make;
-use crate::calls::within;
 use answers::Outcome;
 use answers::tell;
 use answers::unknown;
+use carrying_out::ask;
+use carrying_out::change;
+use carrying_out::make;
+use carrying_out::parts::within;
 use requests::Lending;
 use requests::Lengths;
 use requests::Request;

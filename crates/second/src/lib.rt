@@ -6,24 +6,23 @@
 //   0 to 65535  the heap     65536 to 65791  its table     65792 to 66815  its roots
 //   66816  n     66817  R     66818  how many roots     66819  free first     66820  free last     66821  free count
 //
-// Its books are one slice too: rows of 8 for each region, then the scan stack, four counters, four words for each word of the heap, and the
-// list of free pages.
-//   8j     e, just past region j's last page          8j + 1  fp, its first page
-//   8j + 2 a, its first unused address                8j + 3  its last copy, number plus 1
-//   8j + 4 its next copy to scan, number plus 1, 0 where all are scanned
-//   512 to 575  the scan stack: regions               576  its depth
-//   577  copies made     578  pages taken from the list of free ones     579  pages on that list
-//   580 + 4a      where the value at a was copied to, 0 where it was not
-//   580 + 4i + 1  the address that copy i came from    580 + 4i + 2  the address that it went to
-//   580 + 4i + 3  the next copy of its region, number plus 1, 0 where it is the last
-//   262724 to 266819  the list of free pages
+// The books of the collection stand behind the second heap, in its slice: two words for each region, the scan stack, four counters, four words
+// for each word of the heap, and the list of free pages. The rows of the second table are kept where they stand.
+//   66822 + 2j    region j's last copy, number plus 1
+//   66823 + 2j    its next copy to scan, number plus 1, 0 where all are scanned
+//   66950 to 67013  the scan stack: regions           67014  its depth
+//   67015  copies made     67016  pages taken from the list of free ones     67017  pages on that list
+//   67018 + 4a      where the value at a was copied to, 0 where it was not
+//   67018 + 4i + 1  the address that copy i came from    67018 + 4i + 2  the address that it went to
+//   67018 + 4i + 3  the next copy of its region, number plus 1, 0 where it is the last
+//   329162 to 333257  the list of free pages
 use rules::Control;
 ghost use Prim.Native.Nat.{_≤_, _<_};
 
-// The words of a heap with all that belongs to it, and of the books.
+// The words of a heap with all that belongs to it, alone and with the books behind it.
 pub const WHOLE: usize = 66822;
 
-pub const BOOKS: usize = 266820;
+pub const WITH_BOOKS: usize = 333258;
 
 // The places behind the heap.
 const TABLE: usize = 65536;
@@ -43,19 +42,23 @@ const LAST: usize = 66820;
 const COUNT: usize = 66821;
 
 // The places of the books.
-const STACK: usize = 512;
+const LAST_COPY: usize = 66822;
 
-const DEPTH: usize = 576;
+const NEXT_COPY: usize = 66823;
 
-const COPIED: usize = 577;
+const STACK: usize = 66950;
 
-const TAKEN: usize = 578;
+const DEPTH: usize = 67014;
 
-const LISTED: usize = 579;
+const COPIED: usize = 67015;
 
-const SIDE: usize = 580;
+const TAKEN: usize = 67016;
 
-const FREE: usize = 262724;
+const LISTED: usize = 67017;
+
+const SIDE: usize = 67018;
+
+const FREE: usize = 329162;
 
 fn wide(w: u32) -> usize
     ensures { λ r. ⌜ r < 4294967296 ⌝ }
@@ -122,76 +125,76 @@ fn copy_words(from: &[u32], to: &mut [u32], a: usize, b: usize, m: usize)
 }
 
 // A page number at the end of the list of free pages.
-fn list_page(book: &mut [u32], k: usize) {
-    let listed = get(book, LISTED);
-    set(book, FREE + listed, k);
-    set(book, LISTED, listed + 1);
+fn list_page(new: &mut [u32], k: usize) {
+    let listed = get(new, LISTED);
+    set(new, FREE + listed, k);
+    set(new, LISTED, listed + 1);
 }
 
 // The pages of a chain, listed in its order; at most `most`.
-fn list_chain(old: &[u32], book: &mut [u32], n: usize, link: usize, most: usize) {
+fn list_chain(old: &[u32], new: &mut [u32], n: usize, link: usize, most: usize) {
     let mut next = link;
     let mut left = most;
     while 0 < left {
         if next == 0 {
             return;
         }
-        list_page(book, next - 1);
+        list_page(new, next - 1);
         next = get(old, base(next, n));
         left -= 1;
     }
 }
 
 // The page at a place of the list, as a link.
-fn listed_at(book: &[u32], i: usize) -> usize
+fn listed_at(new: &[u32], i: usize) -> usize
     requires { ⌜ i < 4294967296 ⌝ }
     ensures { λ r. ⌜ r ≤ 4294967296 ⌝ }
 {
-    get(book, FREE + i) + 1
+    get(new, FREE + i) + 1
 }
 
 // The next page of the list, as a link; 0 where the list is used up.
-fn take(book: &mut [u32]) -> usize
+fn take(new: &mut [u32]) -> usize
     ensures { λ r. ⌜ r ≤ 4294967296 ⌝ }
 {
-    let taken = get(book, TAKEN);
-    if get(book, LISTED) <= taken {
+    let taken = get(new, TAKEN);
+    if get(new, LISTED) <= taken {
         return 0;
     }
-    set(book, TAKEN, taken + 1);
-    listed_at(book, taken)
+    set(new, TAKEN, taken + 1);
+    listed_at(new, taken)
 }
 
 // A taken page becomes region j's last: its origin written, the region's e and a set. Its first address.
-fn open(new: &mut [u32], book: &mut [u32], n: usize, j: usize, link: usize) -> usize
+fn open(new: &mut [u32], n: usize, j: usize, link: usize) -> usize
     requires { ⌜ j < 4294967296 ⌝ }
 {
     let at = base(link, n);
     set(new, at + 1, j + 1);
-    set(book, 8 * j, at + size(n));
-    set(book, 8 * j + 2, at + 2);
+    set(new, TABLE + 4 * j, at + size(n));
+    set(new, TABLE + 4 * j + 2, at + 2);
     at
 }
 
 // Each region takes its first page; false where a page is lacking.
-fn first_page(new: &mut [u32], book: &mut [u32], n: usize, j: usize) -> bool
+fn first_page(new: &mut [u32], n: usize, j: usize) -> bool
     requires { ⌜ j < 4294967296 ⌝ }
 {
-    let link = take(book);
+    let link = take(new);
     if link == 0 {
         return false;
     }
-    let at = open(new, book, n, j, link);
-    set(book, 8 * j + 1, at);
+    let at = open(new, n, j, link);
+    set(new, TABLE + 4 * j + 1, at);
     true
 }
 
-fn first_pages(new: &mut [u32], book: &mut [u32], n: usize, regions: usize) -> bool
+fn first_pages(new: &mut [u32], n: usize, regions: usize) -> bool
     requires { ⌜ regions ≤ 64 ⌝ }
 {
     let mut j: usize = 0;
     while j < regions {
-        if !first_page(new, book, n, j) {
+        if !first_page(new, n, j) {
             return false;
         }
         j += 1;
@@ -209,91 +212,91 @@ fn link_last(new: &mut [u32], n: usize, end: usize, link: usize) {
 }
 
 // A page more for region j, to which its last one is linked; false where it is lacking.
-fn next_page(new: &mut [u32], book: &mut [u32], n: usize, j: usize, end: usize) -> bool
+fn next_page(new: &mut [u32], n: usize, j: usize, end: usize) -> bool
     requires { ⌜ j < 4294967296 ⌝ }
 {
-    let link = take(book);
+    let link = take(new);
     if link == 0 {
         return false;
     }
     link_last(new, n, end, link);
-    open(new, book, n, j, link);
+    open(new, n, j, link);
     true
 }
 
 // Room for m words in region j: where it stands, or in a page more.
-fn make_room(new: &mut [u32], book: &mut [u32], n: usize, j: usize, m: usize) -> bool
+fn make_room(new: &mut [u32], n: usize, j: usize, m: usize) -> bool
     requires { ⌜ (j < 4294967296) × (m ≤ 4294967296) ⌝ }
 {
-    let end = get(book, 8 * j);
-    if get(book, 8 * j + 2) + m <= end {
+    let end = get(new, TABLE + 4 * j);
+    if get(new, TABLE + 4 * j + 2) + m <= end {
         return true;
     }
-    next_page(new, book, n, j, end)
+    next_page(new, n, j, end)
 }
 
 // Copy number i goes behind the copy that was the last of its region.
-fn link_copy(book: &mut [u32], before: usize, i: usize)
+fn link_copy(new: &mut [u32], before: usize, i: usize)
     requires { ⌜ (before < 4294967296) × (i < 4294967296) ⌝ }
 {
     if before == 0 {
         return;
     }
-    set(book, SIDE + 4 * (before - 1) + 3, i + 1);
+    set(new, SIDE + 4 * (before - 1) + 3, i + 1);
 }
 
 // A region of which all was scanned has copy number i to scan, and goes on the stack.
-fn wake(book: &mut [u32], j: usize, i: usize)
+fn wake(new: &mut [u32], j: usize, i: usize)
     requires { ⌜ (j < 4294967296) × (i < 4294967296) ⌝ }
 {
-    if 0 < get(book, 8 * j + 4) {
+    if 0 < get(new, NEXT_COPY + 2 * j) {
         return;
     }
-    set(book, 8 * j + 4, i + 1);
-    let depth = get(book, DEPTH);
-    set(book, STACK + depth, j);
-    set(book, DEPTH, depth + 1);
+    set(new, NEXT_COPY + 2 * j, i + 1);
+    let depth = get(new, DEPTH);
+    set(new, STACK + depth, j);
+    set(new, DEPTH, depth + 1);
 }
 
 // Copy number i goes to the end of region j's list.
-fn list_copy(book: &mut [u32], j: usize, i: usize)
+fn list_copy(new: &mut [u32], j: usize, i: usize)
     requires { ⌜ (j < 4294967296) × (i < 4294967296) ⌝ }
 {
-    let before = get(book, 8 * j + 3);
-    link_copy(book, before, i);
-    set(book, 8 * j + 3, i + 1);
-    wake(book, j, i);
+    let before = get(new, LAST_COPY + 2 * j);
+    link_copy(new, before, i);
+    set(new, LAST_COPY + 2 * j, i + 1);
+    wake(new, j, i);
 }
 
 // The next copy's number; it is of the value at a, and stands at b.
-fn number_copy(book: &mut [u32], a: usize, b: usize) -> usize
+fn number_copy(new: &mut [u32], a: usize, b: usize) -> usize
     requires { ⌜ (a < 4294967296) × (b < 4294967296) ⌝ }
     ensures { λ r. ⌜ r < 4294967296 ⌝ }
 {
-    set(book, SIDE + 4 * a, b);
-    let i = get(book, COPIED);
-    set(book, SIDE + 4 * i + 1, a);
-    set(book, SIDE + 4 * i + 2, b);
-    set(book, COPIED, i + 1);
+    set(new, SIDE + 4 * a, b);
+    let i = get(new, COPIED);
+    set(new, SIDE + 4 * i + 1, a);
+    set(new, SIDE + 4 * i + 2, b);
+    set(new, COPIED, i + 1);
     i
 }
 
 // The value at a copied into region j, whose first unused address b has room for its m words.
-fn copy_into(old: &[u32], new: &mut [u32], book: &mut [u32], a: usize, m: usize, j: usize)
+fn copy_into(old: &[u32], new: &mut [u32], a: usize, m: usize, j: usize)
     requires { ⌜ (a < 4294967296) × (m ≤ 4294967296) × (j < 4294967296) ⌝ }
 {
-    let b = get(book, 8 * j + 2);
+    let b = get(new, TABLE + 4 * j + 2);
     copy_words(old, new, a, b, m);
-    set(book, 8 * j + 2, b + m);
-    let i = number_copy(book, a, b);
-    list_copy(book, j, i);
+    set(new, TABLE + 4 * j + 2, b + m);
+    let i = number_copy(new, a, b);
+    list_copy(new, j, i);
 }
 
 // The value at a copied, if it was not yet; false where a page is lacking.
-fn copy_value(old: &[u32], new: &mut [u32], book: &mut [u32], n: usize, a: usize) -> bool
+fn copy_value(old: &[u32], new: &mut [u32], n: usize, a: usize) -> bool
     requires { ⌜ a < 4294967296 ⌝ }
 {
-    if 0 < get(book, SIDE + 4 * a) {
+    if 0 < get(new, SIDE + 4 * a) {
         return true;
     }
     let m = get(old, a) / 8 + 1;
@@ -302,41 +305,41 @@ fn copy_value(old: &[u32], new: &mut [u32], book: &mut [u32], n: usize, a: usize
         return true;
     }
     let j = origin - 1;
-    if !make_room(new, book, n, j, m) {
+    if !make_room(new, n, j, m) {
         return false;
     }
-    copy_into(old, new, book, a, m, j);
+    copy_into(old, new, a, m, j);
     true
 }
 
 // The word that stands for w after the collection.
-fn new_word(book: &[u32], w: usize) -> usize
+fn new_word(new: &[u32], w: usize) -> usize
     requires { ⌜ w < 4294967296 ⌝ }
 {
     if w % 4 != 0 {
         return w;
     }
-    4 * get(book, SIDE + w) // w is 4 times the address
+    4 * get(new, SIDE + w) // w is 4 times the address
 }
 
 // The value that a word points to copied, if it points into the heap.
-fn copy_named(old: &[u32], new: &mut [u32], book: &mut [u32], n: usize, w: usize) -> bool
+fn copy_named(old: &[u32], new: &mut [u32], n: usize, w: usize) -> bool
     requires { ⌜ w < 4294967296 ⌝ }
 {
     if w % 4 != 0 {
         return true;
     }
-    copy_value(old, new, book, n, w / 4)
+    copy_value(old, new, n, w / 4)
 }
 
 // The values that the m words from a on point to, in order.
-fn copy_all(old: &[u32], new: &mut [u32], book: &mut [u32], n: usize, a: usize, m: usize) -> bool
+fn copy_all(old: &[u32], new: &mut [u32], n: usize, a: usize, m: usize) -> bool
     requires { ⌜ (a ≤ 4294967296) × (m ≤ 4294967296) ⌝ }
 {
     let mut i: usize = 0;
     while i < m {
         let w = get(old, a + i);
-        if !copy_named(old, new, book, n, w) {
+        if !copy_named(old, new, n, w) {
             return false;
         }
         i += 1;
@@ -345,57 +348,58 @@ fn copy_all(old: &[u32], new: &mut [u32], book: &mut [u32], n: usize, a: usize, 
 }
 
 // The m words from a on as they are after the collection, from b on in the second heap.
-fn write_all(old: &[u32], new: &mut [u32], book: &[u32], a: usize, b: usize, m: usize)
+fn write_all(old: &[u32], new: &mut [u32], a: usize, b: usize, m: usize)
     requires { ⌜ (a ≤ 4294967296) × (b ≤ 4294967296) × (m ≤ 4294967296) ⌝ }
 {
     let mut i: usize = 0;
     while i < m {
-        set(new, b + i, new_word(book, get(old, a + i)));
+        let w = new_word(new, get(old, a + i));
+        set(new, b + i, w);
         i += 1;
     }
 }
 
 // Copy number i scanned: a record's fields; raw words stay as they were copied.
-fn scan_copy(old: &[u32], new: &mut [u32], book: &mut [u32], n: usize, i: usize) -> bool
+fn scan_copy(old: &[u32], new: &mut [u32], n: usize, i: usize) -> bool
     requires { ⌜ i < 4294967296 ⌝ }
 {
-    let a = get(book, SIDE + 4 * i + 1);
+    let a = get(new, SIDE + 4 * i + 1);
     let header = get(old, a);
     if header % 8 != 1 {
         return true;
     }
     let m = header / 8;
-    if !copy_all(old, new, book, n, a + 1, m) {
+    if !copy_all(old, new, n, a + 1, m) {
         return false;
     }
-    let b = get(book, SIDE + 4 * i + 2);
-    write_all(old, new, book, a + 1, b + 1, m);
+    let b = get(new, SIDE + 4 * i + 2);
+    write_all(old, new, a + 1, b + 1, m);
     true
 }
 
 // The next copy of region j, number i, scanned; the one behind it is the next then.
-fn scan_next(old: &[u32], new: &mut [u32], book: &mut [u32], n: usize, j: usize, i: usize) -> bool
+fn scan_next(old: &[u32], new: &mut [u32], n: usize, j: usize, i: usize) -> bool
     requires { ⌜ (j < 4294967296) × (i < 4294967296) ⌝ }
 {
-    if !scan_copy(old, new, book, n, i) {
+    if !scan_copy(old, new, n, i) {
         return false;
     }
-    let next = get(book, SIDE + 4 * i + 3);
-    set(book, 8 * j + 4, next);
+    let next = get(new, SIDE + 4 * i + 3);
+    set(new, NEXT_COPY + 2 * j, next);
     true
 }
 
 // Region j scanned to its end: no more copies than a heap has words.
-fn scan_region(old: &[u32], new: &mut [u32], book: &mut [u32], n: usize, j: usize) -> bool
+fn scan_region(old: &[u32], new: &mut [u32], n: usize, j: usize) -> bool
     requires { ⌜ j < 4294967296 ⌝ }
 {
     let mut left: usize = TABLE;
     while 0 < left {
-        let i = get(book, 8 * j + 4);
+        let i = get(new, NEXT_COPY + 2 * j);
         if i == 0 {
             return true;
         }
-        if !scan_next(old, new, book, n, j, i - 1) {
+        if !scan_next(old, new, n, j, i - 1) {
             return false;
         }
         left -= 1;
@@ -404,16 +408,16 @@ fn scan_region(old: &[u32], new: &mut [u32], book: &mut [u32], n: usize, j: usiz
 }
 
 // The regions on the stack, last pushed first, until it is empty: no more than a heap has words.
-fn scan_all(old: &[u32], new: &mut [u32], book: &mut [u32], n: usize) -> bool {
+fn scan_all(old: &[u32], new: &mut [u32], n: usize) -> bool {
     let mut left: usize = TABLE;
     while 0 < left {
-        let depth = get(book, DEPTH);
+        let depth = get(new, DEPTH);
         if depth == 0 {
             return true;
         }
-        set(book, DEPTH, depth - 1);
-        let j = get(book, STACK - 1 + depth);
-        if !scan_region(old, new, book, n, j) {
+        set(new, DEPTH, depth - 1);
+        let j = get(new, STACK - 1 + depth);
+        if !scan_region(old, new, n, j) {
             return false;
         }
         left -= 1;
@@ -422,108 +426,107 @@ fn scan_all(old: &[u32], new: &mut [u32], book: &mut [u32], n: usize) -> bool {
 }
 
 // The old pages of every region, bottom first, behind the free ones.
-fn list_old(old: &[u32], book: &mut [u32], n: usize, regions: usize)
+fn list_old(old: &[u32], new: &mut [u32], n: usize, regions: usize)
     requires { ⌜ regions ≤ 64 ⌝ }
 {
     let mut j: usize = 0;
     while j < regions {
         let first = link_of(get(old, TABLE + 4 * j + 1), n);
-        list_chain(old, book, n, first, TABLE);
+        list_chain(old, new, n, first, TABLE);
         j += 1;
     }
 }
 
+// The page at a place of the list linked to the next one.
+fn link_next(new: &mut [u32], n: usize, i: usize)
+    requires { ⌜ i < 4294967295 ⌝ }
+{
+    let at = base(listed_at(new, i), n);
+    let link = listed_at(new, i + 1);
+    set(new, at, link);
+}
+
 // The pages of the list from one place on linked one to the next; `to` is the place of the last, which is linked to none.
-fn link_free(new: &mut [u32], book: &[u32], n: usize, from: usize, to: usize)
+fn link_free(new: &mut [u32], n: usize, from: usize, to: usize)
     requires { ⌜ to < 4294967296 ⌝ }
 {
     let mut i = from;
     while i < to {
-        set(new, base(listed_at(book, i), n), listed_at(book, i + 1));
+        link_next(new, n, i);
         i += 1;
     }
 }
 
-// The rows of the second table.
-fn write_rows(new: &mut [u32], book: &[u32], regions: usize)
-    requires { ⌜ regions ≤ 64 ⌝ }
-{
-    let mut j: usize = 0;
-    while j < regions {
-        copy_words(book, new, 8 * j, TABLE + 4 * j, 3);
-        j += 1;
-    }
-}
-
 // The free list from place `taken` to the end, and what is said of it behind the second heap.
-fn write_free(new: &mut [u32], book: &[u32], n: usize, taken: usize, listed: usize)
+fn write_free(new: &mut [u32], n: usize, taken: usize, listed: usize)
     requires { ⌜ (taken < listed) × (listed < 4294967296) ⌝ }
 {
-    link_free(new, book, n, taken, listed - 1);
-    set(new, FIRST, listed_at(book, taken));
-    set(new, LAST, listed_at(book, listed - 1));
+    link_free(new, n, taken, listed - 1);
+    let first = listed_at(new, taken);
+    let last = listed_at(new, listed - 1);
+    set(new, FIRST, first);
+    set(new, LAST, last);
     set(new, COUNT, listed - taken);
 }
 
 // The free list after the collection: what was not taken, then the old pages.
-fn end_free(old: &[u32], new: &mut [u32], book: &mut [u32], n: usize, regions: usize)
+fn end_free(old: &[u32], new: &mut [u32], n: usize, regions: usize)
     requires { ⌜ regions ≤ 64 ⌝ }
 {
-    list_old(old, book, n, regions);
-    let taken = get(book, TAKEN);
-    let listed = get(book, LISTED);
+    list_old(old, new, n, regions);
+    let taken = get(new, TAKEN);
+    let listed = get(new, LISTED);
     if taken < listed {
-        write_free(new, book, n, taken, listed);
+        write_free(new, n, taken, listed);
     }
 }
 
 // The free pages listed, and a first page taken for each region; false where one is lacking.
-fn start(old: &[u32], new: &mut [u32], book: &mut [u32], n: usize, regions: usize) -> bool
+fn start(old: &[u32], new: &mut [u32], n: usize, regions: usize) -> bool
     requires { ⌜ regions ≤ 64 ⌝ }
 {
-    list_chain(old, book, n, get(old, FIRST), get(old, COUNT));
-    first_pages(new, book, n, regions)
+    list_chain(old, new, n, get(old, FIRST), get(old, COUNT));
+    first_pages(new, n, regions)
 }
 
 // All that a root reaches copied into the second heap; false where a page is lacking.
-fn copy_living(old: &[u32], new: &mut [u32], book: &mut [u32], n: usize) -> bool {
+fn copy_living(old: &[u32], new: &mut [u32], n: usize) -> bool {
     let named = get(old, NAMED);
-    if !copy_all(old, new, book, n, ROOTS, named) {
+    if !copy_all(old, new, n, ROOTS, named) {
         return false;
     }
-    write_all(old, new, book, ROOTS, ROOTS, named);
-    scan_all(old, new, book, n)
+    write_all(old, new, ROOTS, ROOTS, named);
+    scan_all(old, new, n)
 }
 
 // What is said of the second heap: n, R and the number of roots stay, the rows and the free list are new.
-fn finish(old: &[u32], new: &mut [u32], book: &mut [u32], n: usize, regions: usize)
+fn finish(old: &[u32], new: &mut [u32], n: usize, regions: usize)
     requires { ⌜ regions ≤ 64 ⌝ }
 {
     copy_words(old, new, EXPONENT, EXPONENT, 3);
-    write_rows(new, book, regions);
-    end_free(old, new, book, n, regions);
+    end_free(old, new, n, regions);
 }
 
 // The collection from its first pages on; false where a page is lacking.
-fn go_on(old: &[u32], new: &mut [u32], book: &mut [u32], n: usize, regions: usize) -> bool
+fn go_on(old: &[u32], new: &mut [u32], n: usize, regions: usize) -> bool
     requires { ⌜ regions ≤ 64 ⌝ }
 {
-    if !copy_living(old, new, book, n) {
+    if !copy_living(old, new, n) {
         return false;
     }
-    finish(old, new, book, n, regions);
+    finish(old, new, n, regions);
     true
 }
 
 // The collection of document 01 into a second heap with all that belongs to it, all 0 before, as the books are. The first is only read. A
 // heap that passes the audit is wanted; of any other the answer means nothing. False where a page was lacking.
-pub fn collect_again(old: &[u32], new: &mut [u32], book: &mut [u32]) -> bool {
+pub fn collect_again(old: &[u32], new: &mut [u32]) -> bool {
     let n = get(old, EXPONENT);
     let regions = get(old, REGIONS) % 65;
-    if !start(old, new, book, n, regions) {
+    if !start(old, new, n, regions) {
         return false;
     }
-    go_on(old, new, book, n, regions)
+    go_on(old, new, n, regions)
 }
 
 // The words of the record.

@@ -7,10 +7,10 @@ use Rattle.comparison.proofs.all_samples.Statement.{statement}
 use Rattle.comparison.proofs.all_samples.Tie as tie
 
 abbrev Inv-loop : tie.InvT-loop
-Inv-loop most sums₀ i₀ sums i = (length sums ≡ length sums₀) × (i ≤ most)
+Inv-loop most consts sums₀ i₀ sums i = (length sums ≡ length sums₀) × (i ≤ most)
 
 abbrev μ-loop : tie.MeasureT-loop
-μ-loop most sums₀ i₀ sums i = most - i
+μ-loop most consts sums₀ i₀ sums i = most - i
 
 loop-holds : tie.Need-loop-holds Inv-loop μ-loop
 loop-holds c = search needs

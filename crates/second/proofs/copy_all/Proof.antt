@@ -7,10 +7,10 @@ use Rattle.second.proofs.copy_all.Statement.{statement}
 use Rattle.second.proofs.copy_all.Tie as tie
 
 abbrev Inv-loop : tie.InvT-loop
-Inv-loop old new₀ book₀ n a m i₀ new book i = (length new ≡ length new₀) × (length book ≡ length book₀) × (i ≤ m)
+Inv-loop old new₀ n a m i₀ new i = (length new ≡ length new₀) × (i ≤ m)
 
 abbrev μ-loop : tie.MeasureT-loop
-μ-loop old new₀ book₀ n a m i₀ new book i = m - i
+μ-loop old new₀ n a m i₀ new i = m - i
 
 loop-holds : tie.Need-loop-holds Inv-loop μ-loop
 loop-holds c = search needs
@@ -27,9 +27,6 @@ copy-named-requires c κs = search needs
 same-length : tie.Need-same-length Inv-loop μ-loop
 same-length c = search needs
 
-same-length-2 : tie.Need-same-length-2 Inv-loop μ-loop
-same-length-2 c = search needs
-
 returns : tie.Need-returns Inv-loop μ-loop
 returns c = search needs
 
@@ -42,11 +39,8 @@ loop-less c = search needs
 loop-again : tie.Need-loop-again Inv-loop μ-loop
 loop-again c = search needs
 
-same-length-3 : tie.Need-same-length-3 Inv-loop μ-loop
-same-length-3 c = search needs
-
-same-length-4 : tie.Need-same-length-4 Inv-loop μ-loop
-same-length-4 c = search needs
+same-length-2 : tie.Need-same-length-2 Inv-loop μ-loop
+same-length-2 c = search needs
 
 returns-2 : tie.Need-returns-2 Inv-loop μ-loop
 returns-2 c = search needs
@@ -62,11 +56,9 @@ copy-all-spec =
     get-requires
     copy-named-requires
     same-length
-    same-length-2
     returns
     add-i
     loop-less
     loop-again
-    same-length-3
-    same-length-4
+    same-length-2
     returns-2)

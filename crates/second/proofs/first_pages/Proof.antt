@@ -7,10 +7,10 @@ use Rattle.second.proofs.first_pages.Statement.{statement}
 use Rattle.second.proofs.first_pages.Tie as tie
 
 abbrev Inv-loop : tie.InvT-loop
-Inv-loop new₀ book₀ n regions j₀ new book j = (length new ≡ length new₀) × (length book ≡ length book₀) × (j ≤ regions)
+Inv-loop new₀ n regions j₀ new j = (length new ≡ length new₀) × (j ≤ regions)
 
 abbrev μ-loop : tie.MeasureT-loop
-μ-loop new₀ book₀ n regions j₀ new book j = regions - j
+μ-loop new₀ n regions j₀ new j = regions - j
 
 loop-holds : tie.Need-loop-holds Inv-loop μ-loop
 loop-holds c = search needs
@@ -20,9 +20,6 @@ first-page-requires c κs = search needs
 
 same-length : tie.Need-same-length Inv-loop μ-loop
 same-length c = search needs
-
-same-length-2 : tie.Need-same-length-2 Inv-loop μ-loop
-same-length-2 c = search needs
 
 returns : tie.Need-returns Inv-loop μ-loop
 returns c = search needs
@@ -36,11 +33,8 @@ loop-less c = search needs
 loop-again : tie.Need-loop-again Inv-loop μ-loop
 loop-again c = search needs
 
-same-length-3 : tie.Need-same-length-3 Inv-loop μ-loop
-same-length-3 c = search needs
-
-same-length-4 : tie.Need-same-length-4 Inv-loop μ-loop
-same-length-4 c = search needs
+same-length-2 : tie.Need-same-length-2 Inv-loop μ-loop
+same-length-2 c = search needs
 
 returns-2 : tie.Need-returns-2 Inv-loop μ-loop
 returns-2 c = search needs
@@ -54,11 +48,9 @@ first-pages-spec =
     loop-holds
     first-page-requires
     same-length
-    same-length-2
     returns
     add-j
     loop-less
     loop-again
-    same-length-3
-    same-length-4
+    same-length-2
     returns-2)

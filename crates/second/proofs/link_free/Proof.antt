@@ -7,28 +7,16 @@ use Rattle.second.proofs.link_free.Statement.{statement}
 use Rattle.second.proofs.link_free.Tie as tie
 
 abbrev Inv-loop : tie.InvT-loop
-Inv-loop new₀ book n from to i₀ new i = length new ≡ length new₀
+Inv-loop new₀ n from to i₀ new i = length new ≡ length new₀
 
 abbrev μ-loop : tie.MeasureT-loop
-μ-loop new₀ book n from to i₀ new i = to - i
+μ-loop new₀ n from to i₀ new i = to - i
 
 loop-holds : tie.Need-loop-holds Inv-loop μ-loop
 loop-holds c = search needs
 
-listed-at-requires : tie.Need-listed-at-requires Inv-loop μ-loop
-listed-at-requires c κs = search needs
-
-base-requires : tie.Need-base-requires Inv-loop μ-loop
-base-requires c κs = search needs
-
-add-listed-at : tie.Need-add-listed-at Inv-loop μ-loop
-add-listed-at c = search needs
-
-listed-at-requires-2 : tie.Need-listed-at-requires-2 Inv-loop μ-loop
-listed-at-requires-2 c κs = search needs
-
-set-requires : tie.Need-set-requires Inv-loop μ-loop
-set-requires c κs = search needs
+link-next-requires : tie.Need-link-next-requires Inv-loop μ-loop
+link-next-requires c κs = search needs
 
 add-i : tie.Need-add-i Inv-loop μ-loop
 add-i c = search needs
@@ -52,11 +40,7 @@ link-free-spec =
     Inv-loop
     μ-loop
     loop-holds
-    listed-at-requires
-    base-requires
-    add-listed-at
-    listed-at-requires-2
-    set-requires
+    link-next-requires
     add-i
     loop-less
     loop-again

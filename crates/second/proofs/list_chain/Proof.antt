@@ -6,10 +6,10 @@ use Rattle.second.proofs.list_chain.Statement.{statement}
 use Rattle.second.proofs.list_chain.Tie as tie
 
 abbrev Inv-loop : tie.InvT-loop
-Inv-loop old book₀ n link most next₀ left₀ book next left = length book ≡ length book₀
+Inv-loop old new₀ n link most next₀ left₀ new next left = length new ≡ length new₀
 
 abbrev μ-loop : tie.MeasureT-loop
-μ-loop old book₀ n link most next₀ left₀ book next left = left
+μ-loop old new₀ n link most next₀ left₀ new next left = left
 
 loop-holds : tie.Need-loop-holds Inv-loop μ-loop
 loop-holds c = search needs

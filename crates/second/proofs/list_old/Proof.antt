@@ -7,10 +7,10 @@ use Rattle.second.proofs.list_old.Statement.{statement}
 use Rattle.second.proofs.list_old.Tie as tie
 
 abbrev Inv-loop : tie.InvT-loop
-Inv-loop old book₀ n regions j₀ book j = (length book ≡ length book₀) × (j ≤ regions)
+Inv-loop old new₀ n regions j₀ new j = (length new ≡ length new₀) × (j ≤ regions)
 
 abbrev μ-loop : tie.MeasureT-loop
-μ-loop old book₀ n regions j₀ book j = regions - j
+μ-loop old new₀ n regions j₀ new j = regions - j
 
 loop-holds : tie.Need-loop-holds Inv-loop μ-loop
 loop-holds c = search needs

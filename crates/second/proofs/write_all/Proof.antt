@@ -7,16 +7,13 @@ use Rattle.second.proofs.write_all.Statement.{statement}
 use Rattle.second.proofs.write_all.Tie as tie
 
 abbrev Inv-loop : tie.InvT-loop
-Inv-loop old new₀ book a b m i₀ new i = (length new ≡ length new₀) × (i ≤ m)
+Inv-loop old new₀ a b m i₀ new i = (length new ≡ length new₀) × (i ≤ m)
 
 abbrev μ-loop : tie.MeasureT-loop
-μ-loop old new₀ book a b m i₀ new i = m - i
+μ-loop old new₀ a b m i₀ new i = m - i
 
 loop-holds : tie.Need-loop-holds Inv-loop μ-loop
 loop-holds c = search needs
-
-add-set : tie.Need-add-set Inv-loop μ-loop
-add-set c = search needs
 
 add-get : tie.Need-add-get Inv-loop μ-loop
 add-get c = search needs
@@ -26,6 +23,9 @@ get-requires c κs = search needs
 
 new-word-requires : tie.Need-new-word-requires Inv-loop μ-loop
 new-word-requires c κs = search needs
+
+add-set : tie.Need-add-set Inv-loop μ-loop
+add-set c = search needs
 
 set-requires : tie.Need-set-requires Inv-loop μ-loop
 set-requires c κs = search needs
@@ -52,10 +52,10 @@ write-all-spec =
     Inv-loop
     μ-loop
     loop-holds
-    add-set
     add-get
     get-requires
     new-word-requires
+    add-set
     set-requires
     add-i
     loop-less

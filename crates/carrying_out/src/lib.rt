@@ -1,4 +1,6 @@
-// What a request does: one call of the library each, on the lent parts.
+// A request carried out: one call of the library each, on the lent parts.
+pub mod parts;
+
 use answers::Answer;
 use answers::Outcome;
 use answers::count;
@@ -10,6 +12,8 @@ use answers::told;
 use answers::unknown;
 use answers::word;
 use answers::worded;
+use parts::first_bytes;
+use parts::first_words;
 use requests::Asking;
 use requests::Changing;
 use requests::Making;
@@ -27,48 +31,20 @@ use script::lists::read_decimals;
 use script::lists::read_text;
 use script::lists::read_words;
 use script::tokens::Cursor;
-ghost use Prim.Native.Nat.{_≤_};
 
-// A length, at most n.
-pub fn within(k: usize, n: usize) -> usize
-    ensures { λ r. ⌜ r ≤ n ⌝ }
-{
-    if k < n { k } else { n }
-}
-
-// The first bytes of a part.
-pub fn first_bytes(part: &[u8], k: usize) -> &[u8] {
-    let n = within(k, part.len());
-    &part[0..n]
-}
-
-// The first words of a part.
-fn first_words(part: &[u32], k: usize) -> &[u32] {
-    let n = within(k, part.len());
-    &part[0..n]
-}
-
-// The text that stands on the line from an index is the image's. It is read into these bytes.
-fn read_in(
+// An image is read from its text.
+fn open_image(
     heap: &mut [u32],
     table: &mut [u32],
     roots: &mut [u32],
     consts: &mut [u32],
-    bytes: &mut [u8],
-    line: &[u8],
+    text: &[u8],
     c: Control,
-    from: usize,
 ) -> Outcome {
-    let Count::Is(k) = read_text(line, Cursor { at: from }, bytes) else {
-        return unknown(c);
-    };
-    opened(
-        image::read_image(first_bytes(bytes, k), heap, table, roots, consts),
-        c,
-    )
+    opened(image::read_image(text, heap, table, roots, consts), c)
 }
 
-// An image is read from the line, by way of bytes of its own.
+// The text that stands on the line from an index is the image's.
 fn read(
     heap: &mut [u32],
     table: &mut [u32],
@@ -79,7 +55,10 @@ fn read(
     from: usize,
 ) -> Outcome {
     let mut bytes = [0u8; 262144];
-    read_in(heap, table, roots, consts, &mut bytes, line, c, from)
+    let Count::Is(k) = read_text(line, Cursor { at: from }, &mut bytes) else {
+        return unknown(c);
+    };
+    open_image(heap, table, roots, consts, first_bytes(&bytes, k), c)
 }
 
 // Sets one word of a part, where it has such a word.
@@ -129,6 +108,20 @@ pub fn make(
     }
 }
 
+// A value of these words.
+fn store(
+    heap: &mut [u32],
+    table: &mut [u32],
+    roots: &[u32],
+    consts: &[u32],
+    c: Control,
+    j: Region,
+    kind: Kind,
+    words: &[u32],
+) -> Outcome {
+    word(allocation::allocate(heap, table, roots, consts, c, j, kind, words))
+}
+
 // The words that the line lists from an index are the value's.
 fn allocate(
     heap: &mut [u32],
@@ -145,7 +138,7 @@ fn allocate(
     let Count::Is(l) = read_words(line, Cursor { at: from }, &mut words) else {
         return unknown(c);
     };
-    word(allocation::allocate(
+    store(
         heap,
         table,
         roots,
@@ -154,7 +147,23 @@ fn allocate(
         j,
         kind,
         first_words(&words, l),
-    ))
+    )
+}
+
+// A push, a pop or a collection: a call that is asked for by its name alone.
+fn change_regions(
+    asked: Changing,
+    heap: &mut [u32],
+    table: &mut [u32],
+    roots: &mut [u32],
+    consts: &[u32],
+    c: Control,
+) -> Plain {
+    match asked {
+        Changing::Push => regions::push(heap, table, roots, consts, c),
+        Changing::Pop => release::pop(heap, table, roots, consts, c),
+        _ => collection::collect(heap, table, roots, consts, c),
+    }
 }
 
 // A call that changes lent words or the record.
@@ -168,8 +177,6 @@ pub fn change(
     c: Control,
 ) -> Outcome {
     match asked {
-        Changing::Push => plain(regions::push(heap, table, roots, consts, c)),
-        Changing::Pop => plain(release::pop(heap, table, roots, consts, c)),
         Changing::Alloc(j, kind, from) => allocate(
             heap,
             table,
@@ -192,7 +199,7 @@ pub fn change(
             x,
         )),
         Changing::Root(i, w) => plain(access::set_root(heap, table, roots, consts, c, i, w)),
-        Changing::Collect => plain(collection::collect(heap, table, roots, consts, c)),
+        _ => plain(change_regions(asked, heap, table, roots, consts, c)),
     }
 }
 

@@ -1,9 +1,9 @@
--- `comparison::trial::same` is safe and ends: the place grows up to the part's length.
+-- `trials::same` is safe and ends: the place grows up to the part's length.
 use Prim.Native.Nat.{_-_, _≤_}
 use lib.ListN.{length}
 use borrow.Author.Needs.{needs}
-use Rattle.comparison.proofs.trial.same.Statement.{statement}
-use Rattle.comparison.proofs.trial.same.Tie as tie
+use Rattle.trials.proofs.same.Statement.{statement}
+use Rattle.trials.proofs.same.Tie as tie
 
 abbrev Inv-loop : tie.InvT-loop
 Inv-loop a b i₀ i = i ≤ length a

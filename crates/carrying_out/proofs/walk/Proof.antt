@@ -1,16 +1,16 @@
--- `calls::walk` is safe: the words that are read are lent as many as the array has, before and after.
+-- `carrying_out::walk` is safe: the words that are read are lent as many as the array has, before and after.
 use Prim.Native.Nat.{ℕ}
 use mathlib.Core.Path.{sym, _∙_}
 use lib.ListN.{length-replicate}
 use borrow.Author.Needs.{needs}
-use Rattle.replay.proofs.calls.walk.Statement.{statement}
-use Rattle.replay.proofs.calls.walk.Tie as tie
+use Rattle.carrying_out.proofs.walk.Statement.{statement}
+use Rattle.carrying_out.proofs.walk.Tie as tie
 
 slice-aggregate-read-decimals : tie.Need-slice-aggregate-read-decimals
 slice-aggregate-read-decimals c = sym (length-replicate {A = ℕ} 65536 0)
 
 read-decimals-requires : tie.Need-read-decimals-requires
-read-decimals-requires c κs = search needs
+read-decimals-requires c κs = tt
 
 enum-known-k : tie.Need-enum-known-k
 enum-known-k c = search needs
@@ -19,25 +19,25 @@ enum-told : tie.Need-enum-told
 enum-told c = search needs
 
 unknown-requires : tie.Need-unknown-requires
-unknown-requires c κs = search needs
+unknown-requires c κs = tt
 
 returns : tie.Need-returns
-returns c = search needs
+returns c = tt
 
 slice-aggregate-first-words : tie.Need-slice-aggregate-first-words
 slice-aggregate-first-words c = sym (c .before .before .before .before .before .read-decimals .kept .1 .1 .0 ∙ length-replicate {A = ℕ} 65536 0)
 
 first-words-requires : tie.Need-first-words-requires
-first-words-requires c κs = search needs
+first-words-requires c κs = tt
 
 walk-requires : tie.Need-walk-requires
-walk-requires c κs = search needs
+walk-requires c κs = tt
 
 word-requires : tie.Need-word-requires
-word-requires c κs = search needs
+word-requires c κs = tt
 
 returns-2 : tie.Need-returns-2
-returns-2 c = search needs
+returns-2 c = tt
 
 pub walk-spec : {M : Type 1} → statement M
 walk-spec =

@@ -1,10 +1,10 @@
--- `comparison::counts::named` is safe and ends: the root's number grows up to their count.
+-- `trials::counts::named` is safe and ends: the root's number grows up to their count.
 use mathlib.Core.Path.{_≡_}
 use Prim.Native.Nat.{_-_, _≤_}
 use lib.ListN.{length}
 use borrow.Author.Needs.{needs}
-use Rattle.comparison.proofs.counts.named.Statement.{statement}
-use Rattle.comparison.proofs.counts.named.Tie as tie
+use Rattle.trials.proofs.counts.named.Statement.{statement}
+use Rattle.trials.proofs.counts.named.Tie as tie
 
 abbrev Inv-loop : tie.InvT-loop
 Inv-loop sums₀ roots i₀ sums i = (length sums ≡ length sums₀) × (i ≤ length roots)
