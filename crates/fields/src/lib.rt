@@ -86,14 +86,7 @@ fn words_pass(
 }
 
 // Whether each field of each record of page k passes the test.
-fn page_passes(
-    heap: &[u32],
-    consts: &[u32],
-    n: u32,
-    regions: u32,
-    wanted: Wanted,
-    k: Page,
-) -> bool
+fn page_passes(heap: &[u32], consts: &[u32], n: u32, regions: u32, wanted: Wanted, k: Page) -> bool
     requires { ⌜ Paged n (length (now heap)) × (length (now consts) ≤ 65535) × (k .0 < pageCount n (now heap)) ⌝ }
     ensures { λ r. ⌜ r ≡ pagePass (passes n regions (now (heap .entry)) (now (consts .entry)) wanted) n (now (heap .entry)) (k .0) ⌝ }
 {
