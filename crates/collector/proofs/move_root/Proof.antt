@@ -20,10 +20,10 @@ move-value-requires : tie.Need-move-value-requires
 move-value-requires c κs = search needs
 
 same-length : tie.Need-same-length
-same-length c = search needs
+same-length c = c .before .before .before .before .move-value .kept .0
 
 same-length-2 : tie.Need-same-length-2
-same-length-2 c = search needs
+same-length-2 c = c .before .before .before .before .move-value .kept .1 .0
 
 returns-2 : tie.Need-returns-2
 unfolding moveRoot
