@@ -1,4 +1,5 @@
 -- `copying::take_page` meets its contract: its writes are the definition's, in their order.
+use mathlib.Core.Path.{refl, _∙_}
 use native.Mathlib.Omega.{arith}
 use Rattle.laws.proofs.Tests.{tests}
 use Rattle.motion.specs.Run.{takeAt, takeOn}
@@ -10,7 +11,7 @@ word-requires : tie.Need-word-requires
 word-requires c κs = search needs
 
 same-length : tie.Need-same-length
-same-length c = search needs
+same-length c = refl
 
 returns : tie.Need-returns
 unfolding takeOn
@@ -47,10 +48,10 @@ write-requires-4 : tie.Need-write-requires-4
 write-requires-4 c κs = search needs
 
 same-length-2 : tie.Need-same-length-2
-same-length-2 c = search needs
+same-length-2 c = c .before .before .before .before .before .before .before .before .before .before .before .before .before .write2 .kept .0 ∙ c .before .before .before .before .before .before .before .before .before .before .before .before .before .before .before .before .before .write .kept .0
 
 same-length-3 : tie.Need-same-length-3
-same-length-3 c = search needs
+same-length-3 c = c .before .before .write4 .kept .0 ∙ c .before .before .before .before .before .before .before .write3 .kept .0
 
 returns-2 : tie.Need-returns-2
 unfolding takeAt takeOn

@@ -13,7 +13,7 @@ write-text-requires : tie.Need-write-text-requires
 write-text-requires c κs = let l = image-short (lent (c .before .before .before .before .before .before .before .args .heap .now) (c .before .before .before .before .before .before .before .args .table .now) (c .before .before .before .before .before .before .before .args .roots .now) (c .before .before .before .before .before .before .before .args .consts .now) (c .before .before .before .before .before .before .before .args .c)) (c .before .before .before .before .before .before .before .pre .0) (c .before .before .before .before .before .before .before .pre .1) (c .before .before .before .before .before .before .before .pre .2) in (c .before .before .before .before .before .before .before .pre .0, omega arith)
 
 same-length : tie.Need-same-length
-same-length c = search needs
+same-length c = c .before .before .write-text .kept .0
 
 returns : tie.Need-returns
 returns c = let l = image-short (lent (c .before .before .before .before .before .before .before .before .before .before .args .heap .now) (c .before .before .before .before .before .before .before .before .before .before .args .table .now) (c .before .before .before .before .before .before .before .before .before .before .args .roots .now) (c .before .before .before .before .before .before .before .before .before .before .args .consts .now) (c .before .before .before .before .before .before .before .before .before .before .args .c)) (c .before .before .before .before .before .before .before .before .before .before .pre .0) (c .before .before .before .before .before .before .before .before .before .before .pre .1) (c .before .before .before .before .before .before .before .before .before .before .pre .2) in printed _ _ _ _ (c .before .before .write-text .ensures) (c .before .before .before .before .text-length .ensures .0) (omega (arith, c .before .before .before .before .text-length .ensures .0))

@@ -20,7 +20,7 @@ write-frame-requires : tie.Need-write-frame-requires
 write-frame-requires c κs = search needs
 
 same-length : tie.Need-same-length
-same-length c = search needs
+same-length c = c .before .before .write-frame .kept .0
 
 returns : tie.Need-returns
 returns c = printed _ _ _ _ (c .before .before .write-frame .ensures ∙ rw (c .before .before .before .before .before .before .refusal-number .ensures, c .before .before .before .before .before .refusal-place .ensures)) (sym (length-frame 255 _)) (omega arith)
