@@ -1,10 +1,10 @@
--- `collector::work_stack` meets its contract: the work starts with the entry that was pushed last.
+-- `attempting::work_stack` meets its contract: the work starts with the entry that was pushed last.
 use mathlib.Core.Path.{_∙_}
 use Rattle.motion.specs.Whole.{workFrom}
 use Rattle.scan_stack.proofs.Working.{narrow-go}
 use borrow.Author.Needs.{needs}
-use Rattle.collector.proofs.work_stack.Statement.{statement}
-use Rattle.collector.proofs.work_stack.Tie as tie
+use Rattle.attempting.proofs.work_stack.Statement.{statement}
+use Rattle.attempting.proofs.work_stack.Tie as tie
 
 pop-requires : tie.Need-pop-requires
 pop-requires c κs = search needs

@@ -1,10 +1,10 @@
--- `collector::attempt` meets its contract: a part that lacks a page ends it, as in the definition.
+-- `attempting::attempt` meets its contract: a part that lacks a page ends it, as in the definition.
 use mathlib.Core.Path.{_∙_}
 use borrow.Author.Tests.{not-true, not-false}
 use Rattle.motion.specs.Whole.{workDone, rootsDone, freshDone}
 use borrow.Author.Needs.{needs}
-use Rattle.collector.proofs.attempt.Statement.{statement}
-use Rattle.collector.proofs.attempt.Tie as tie
+use Rattle.attempting.proofs.attempt.Statement.{statement}
+use Rattle.attempting.proofs.attempt.Tie as tie
 
 freshen-requires : tie.Need-freshen-requires
 freshen-requires c κs = search needs

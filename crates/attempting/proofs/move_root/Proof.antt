@@ -1,10 +1,10 @@
--- `collector::move_root` meets its contract: only a heap pointer's value is moved.
+-- `attempting::move_root` meets its contract: only a heap pointer's value is moved.
 use borrow.Author.Tests.{eq-eqb}
 use Rattle.laws.proofs.Tests.{tests}
 use Rattle.motion.specs.Whole.{moveRoot}
 use borrow.Author.Needs.{needs}
-use Rattle.collector.proofs.move_root.Statement.{statement}
-use Rattle.collector.proofs.move_root.Tie as tie
+use Rattle.attempting.proofs.move_root.Statement.{statement}
+use Rattle.attempting.proofs.move_root.Tie as tie
 
 returns : tie.Need-returns
 unfolding moveRoot

@@ -1,12 +1,12 @@
--- `collector::fresh` meets its contract: the writes to the region's row are the definition's, in their order.
+-- `attempting::fresh` meets its contract: the writes to the region's row are the definition's, in their order.
 use mathlib.Core.Path.{_∙_}
 use native.Mathlib.Omega.{arith}
 use Rattle.laws.proofs.Tests.{tests}
 use Rattle.rules.proofs.Limits.{page-size}
 use Rattle.motion.specs.Whole.{freshAt, freshOn, fresh as freshDef}
 use borrow.Author.Needs.{needs}
-use Rattle.collector.proofs.fresh.Statement.{statement}
-use Rattle.collector.proofs.fresh.Tie as tie
+use Rattle.attempting.proofs.fresh.Statement.{statement}
+use Rattle.attempting.proofs.fresh.Tie as tie
 
 take-page-requires : tie.Need-take-page-requires
 take-page-requires c κs = search needs
