@@ -3,8 +3,8 @@ use borrow.Author.Needs.{needs}
 use mathlib.Core.Path.{sym, ap, _∙_}
 use native.Mathlib.Omega.{arith}
 use borrow.Author.Tests.{not-true, not-false}
-use Rattle.desk.specs.Printed.{takesHead}
-use Rattle.desk.proofs.Lengths.{printed-as}
+use Rattle.desk.specs.Taking.{takesHead}
+use Rattle.printing.proofs.Lengths.{printed-as}
 use Rattle.desk.proofs.Programs.{taken, fronts-fit, program-stops, program-goes}
 use Rattle.desk.proofs.print_parts.Statement.{statement}
 use Rattle.desk.proofs.print_parts.Tie as tie

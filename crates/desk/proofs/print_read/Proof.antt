@@ -1,7 +1,7 @@
 -- `desk::print_read` meets its contract: the parts have the lengths of the image, so that reading is refused only for a malformed text.
 use mathlib.Core.Path.{_∙_}
 use borrow.Author.Needs.{needs}
-use Rattle.desk.proofs.Lengths.{printed-as}
+use Rattle.printing.proofs.Lengths.{printed-as}
 use Rattle.desk.proofs.Programs.{read-refused, read-done}
 use Rattle.desk.proofs.print_read.Statement.{statement}
 use Rattle.desk.proofs.print_read.Tie as tie

@@ -1,10 +1,10 @@
--- `desk::print_collected` meets its contract: a refusal is the collection's, and what a finished one leaves can be written.
+-- `printing::print_collected` meets its contract: a refusal is the collection's, and what a finished one leaves can be written.
 use borrow.Author.Needs.{needs}
 use native.Mathlib.Omega.{arith}
-use Rattle.desk.proofs.Lengths.{printed-as}
-use Rattle.desk.proofs.Collected.{left-admitted, collected-image, collected-refused}
-use Rattle.desk.proofs.print_collected.Statement.{statement}
-use Rattle.desk.proofs.print_collected.Tie as tie
+use Rattle.printing.proofs.Lengths.{printed-as}
+use Rattle.printing.proofs.Collected.{left-admitted, collected-image, collected-refused}
+use Rattle.printing.proofs.print_collected.Statement.{statement}
+use Rattle.printing.proofs.print_collected.Tie as tie
 
 collect-requires : tie.Need-collect-requires
 collect-requires c κs = search needs

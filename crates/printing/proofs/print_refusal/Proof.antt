@@ -1,11 +1,11 @@
--- `desk::print_refusal` meets its contract: the frame is written from the first byte on, and has two words.
+-- `printing::print_refusal` meets its contract: the frame is written from the first byte on, and has two words.
 use borrow.Author.Needs.{needs}
 use mathlib.Core.Path.{sym, _∙_}
 use native.Mathlib.Omega.{arith}
 use Rattle.rules.proofs.Frames.{length-frame}
-use Rattle.desk.proofs.Lengths.{printed}
-use Rattle.desk.proofs.print_refusal.Statement.{statement}
-use Rattle.desk.proofs.print_refusal.Tie as tie
+use Rattle.printing.proofs.Lengths.{printed}
+use Rattle.printing.proofs.print_refusal.Statement.{statement}
+use Rattle.printing.proofs.print_refusal.Tie as tie
 
 refusal-number-requires : tie.Need-refusal-number-requires
 refusal-number-requires c κs = search needs

@@ -1,10 +1,10 @@
--- `desk::print_image` meets its contract: the text has room, and is written from the first byte on.
+-- `printing::print_image` meets its contract: the text has room, and is written from the first byte on.
 use borrow.Author.Needs.{needs}
 use native.Mathlib.Omega.{arith}
 use Rattle.rules.specs.Memory.{lent}
-use Rattle.desk.proofs.Lengths.{image-short, printed}
-use Rattle.desk.proofs.print_image.Statement.{statement}
-use Rattle.desk.proofs.print_image.Tie as tie
+use Rattle.printing.proofs.Lengths.{image-short, printed}
+use Rattle.printing.proofs.print_image.Statement.{statement}
+use Rattle.printing.proofs.print_image.Tie as tie
 
 text-length-requires : tie.Need-text-length-requires
 text-length-requires c κs = search needs
