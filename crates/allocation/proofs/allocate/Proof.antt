@@ -1,7 +1,7 @@
 -- `allocation::allocate` meets its contract: after the tests in their order all that placing the value asks for is known.
 use borrow.Author.Needs.{needs}
 use Prim.Native.Nat.{_+_, _-_, _^_, _<_, _≤_}
-use mathlib.Core.Path.{refl, sym, _∙_}
+use mathlib.Core.Path.{sym, _∙_}
 use native.Mathlib.Omega.{arith}
 use borrow.Author.Tests.{not-false, lt-leb, lt-ltb, le-ltb}
 use lib.ListN.{length}
@@ -45,10 +45,10 @@ row-fits-requires : tie.Need-row-fits-requires
 row-fits-requires c κs = let a = known (c .before .before .before .before .before) in (a .table, region (c .before .before), a .paged .low, a .paged .high)
 
 same-length : tie.Need-same-length
-same-length c = refl
+same-length c = search needs
 
 same-length-2 : tie.Need-same-length-2
-same-length-2 c = refl
+same-length-2 c = search needs
 
 returns-3 : tie.Need-returns-3
 unfolding allocate
@@ -61,10 +61,10 @@ sub-if3 : tie.Need-sub-if3
 sub-if3 c = let a = known (c .before .before .before .before .before .before .before .before) in let s = page-size _ (a .paged .low) (a .paged .high) in omega (arith, c .page-words .ensures)
 
 same-length-3 : tie.Need-same-length-3
-same-length-3 c = refl
+same-length-3 c = search needs
 
 same-length-4 : tie.Need-same-length-4
-same-length-4 c = refl
+same-length-4 c = search needs
 
 returns-4 : tie.Need-returns-4
 unfolding allocate
@@ -82,10 +82,10 @@ words-fit-requires : tie.Need-words-fit-requires
 words-fit-requires c κs = let a = known (c .before .before .before .before .before .before .before .before .before .before) in (a .paged, a .consts)
 
 same-length-5 : tie.Need-same-length-5
-same-length-5 c = refl
+same-length-5 c = search needs
 
 same-length-6 : tie.Need-same-length-6
-same-length-6 c = refl
+same-length-6 c = search needs
 
 returns-5 : tie.Need-returns-5
 unfolding allocate
@@ -100,10 +100,10 @@ put-value-requires : tie.Need-put-value-requires
 put-value-requires c κs = fitted _ _ _ _ _ _ _ (known (c .before .before .before .before .before .before .before .before .before .before .before .before .before .before .before)) (region (c .before .before .before .before .before .before .before .before .before .before .before .before)) (sym (c .before .before .before .before .before .before .before .before .before .row-fits .ensures) ∙ not-false _ (c .before .before .before .before .before .before .before .before .if2 .left)) (short (c .before .before .before .before .before .before))
 
 same-length-7 : tie.Need-same-length-7
-same-length-7 c = c .before .before .before .before .put-value .kept .0
+same-length-7 c = search needs
 
 same-length-8 : tie.Need-same-length-8
-same-length-8 c = c .before .before .before .before .put-value .kept .1 .0
+same-length-8 c = search needs
 
 returns-6 : tie.Need-returns-6
 unfolding allocate
