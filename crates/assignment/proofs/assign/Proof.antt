@@ -24,7 +24,7 @@ assign-into-requires : tie.Need-assign-into-requires
 assign-into-requires c κs = let a = tests-admit _ _ _ _ _ (c .before .before .before .first-tests .ensures) (c .before .enum-told .given .1) in (a .paged, a .consts)
 
 same-length : tie.Need-same-length
-same-length c = c .before .before .assign-into .kept .0
+same-length c = search needs
 
 returns-2 : tie.Need-returns-2
 unfolding assign

@@ -1,5 +1,4 @@
 -- `access::assign_into` meets its contract: its tests are the definition's, in its order, and a field of a good record lies inside the heap.
-use mathlib.Core.Path.{refl}
 use native.Mathlib.Omega.{arith}
 use borrow.Author.Needs.{needs}
 use Rattle.assignment.proofs.Assigning.{Lies, lies, to-number, to-no-const, to-const, to-no-heap, to-raw, to-no-field, no-word, assigned}
@@ -25,7 +24,7 @@ good-heap-requires : tie.Need-good-heap-requires
 good-heap-requires c κs = search needs
 
 same-length : tie.Need-same-length
-same-length c = refl
+same-length c = search needs
 
 returns-4 : tie.Need-returns-4
 returns-4 c t u = to-no-heap _ t u _ _ _ _ _ _ (c .before .before .before .before .pointer-address .ensures) (c .before .before .before .before .before .if1 .left) (c .before .before .before .if2 .left) (c .before .good-heap .ensures) (c .if4 .taken)
@@ -44,7 +43,7 @@ is-record-requires : tie.Need-is-record-requires
 is-record-requires c κs = search needs
 
 same-length-2 : tie.Need-same-length-2
-same-length-2 c = refl
+same-length-2 c = search needs
 
 returns-5 : tie.Need-returns-5
 returns-5 c t u = to-raw _ t u _ _ _ _ _ _ (c .before .before .before .before .before .before .before .pointer-address .ensures) (c .before .before .before .before .before .before .before .before .if1 .left) (c .before .before .before .before .before .before .if2 .left) (c .before .before .before .before .good-heap .ensures) (c .before .before .before .if4 .left) (c .before .is-record .ensures) (c .if5 .taken)
@@ -53,7 +52,7 @@ cast-if6 : tie.Need-cast-if6
 cast-if6 c = let l = inside (c .before .before .before) in omega arith
 
 same-length-3 : tie.Need-same-length-3
-same-length-3 c = refl
+same-length-3 c = search needs
 
 returns-6 : tie.Need-returns-6
 returns-6 c t u = to-no-field _ t u _ _ _ _ _ _ (c .before .before .before .before .before .before .before .before .pointer-address .ensures) (c .before .before .before .before .before .before .before .before .before .if1 .left) (c .before .before .before .before .before .before .before .if2 .left) (c .before .before .before .before .before .good-heap .ensures) (c .before .before .before .before .if4 .left) (c .before .before .is-record .ensures) (c .before .if5 .left) (c .if6 .taken)
@@ -62,7 +61,7 @@ good-word-requires : tie.Need-good-word-requires
 good-word-requires c κs = search needs
 
 same-length-4 : tie.Need-same-length-4
-same-length-4 c = refl
+same-length-4 c = search needs
 
 returns-7 : tie.Need-returns-7
 returns-7 c t u = no-word _ t u _ _ _ _ _ _ (c .before .before .before .before .before .before .before .before .before .before .before .pointer-address .ensures) (c .before .before .before .before .before .before .before .before .before .before .before .before .if1 .left) (c .before .before .before .before .before .before .before .before .before .before .if2 .left) (c .before .before .before .before .before .before .before .before .good-heap .ensures) (c .before .before .before .before .before .before .before .if4 .left) (c .before .before .before .before .before .is-record .ensures) (c .before .before .before .before .if5 .left) (c .before .before .before .if6 .left) (c .before .good-word .ensures) (c .if7 .taken)

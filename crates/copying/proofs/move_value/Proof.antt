@@ -1,5 +1,4 @@
 -- `copying::move_value` meets its contract: what it calls is what the definition runs, in its order.
-use mathlib.Core.Path.{refl, _∙_}
 use borrow.Author.Tests.{ne-eqb, not-true, not-false}
 use Rattle.laws.proofs.Tests.{tests}
 use Rattle.motion.specs.Run.{moveTo, moveOn, moveOf}
@@ -11,7 +10,7 @@ word-requires : tie.Need-word-requires
 word-requires c κs = search needs
 
 same-length : tie.Need-same-length
-same-length c = refl
+same-length c = search needs
 
 returns : tie.Need-returns
 unfolding moveOf
@@ -27,10 +26,10 @@ room-requires : tie.Need-room-requires
 room-requires c κs = search needs
 
 same-length-2 : tie.Need-same-length-2
-same-length-2 c = c .before .before .before .before .before .room .kept .0
+same-length-2 c = search needs
 
 same-length-3 : tie.Need-same-length-3
-same-length-3 c = c .before .before .before .before .before .room .kept .1 .0
+same-length-3 c = search needs
 
 returns-2 : tie.Need-returns-2
 unfolding moveOn moveOf
@@ -58,10 +57,10 @@ wake-requires : tie.Need-wake-requires
 wake-requires c κs = search needs
 
 same-length-4 : tie.Need-same-length-4
-same-length-4 c = c .before .before .before .before .before .before .before .before .before .before .before .before .forward .kept .0 ∙ c .before .before .before .before .before .before .before .before .before .before .before .before .before .before .before .before .copy .kept .0 ∙ c .before .before .before .before .before .before .before .before .before .before .before .before .before .before .before .before .before .before .before .before .before .before .before .before .before .room .kept .0
+same-length-4 c = search needs
 
 same-length-5 : tie.Need-same-length-5
-same-length-5 c = c .before .before .wake .kept .0 ∙ c .before .before .before .before .before .before .set-top .kept .0 ∙ c .before .before .before .before .before .before .before .before .before .before .before .before .before .before .before .before .before .before .before .before .before .before .before .before .before .room .kept .1 .0
+same-length-5 c = search needs
 
 returns-3 : tie.Need-returns-3
 unfolding moveTo moveOn moveOf

@@ -1,5 +1,4 @@
 -- `copying::room` meets its contract: there is room, or the definition's writes follow the page that was taken.
-use mathlib.Core.Path.{refl, _∙_}
 use native.Mathlib.Omega.{arith}
 use Rattle.laws.proofs.Tests.{tests}
 use Rattle.rules.proofs.Limits.{page-size}
@@ -18,7 +17,7 @@ add-if1 : tie.Need-add-if1
 add-if1 c = search needs
 
 same-length : tie.Need-same-length
-same-length c = refl
+same-length c = search needs
 
 returns : tie.Need-returns
 unfolding roomDef
@@ -28,10 +27,10 @@ take-page-requires : tie.Need-take-page-requires
 take-page-requires c κs = search needs
 
 same-length-2 : tie.Need-same-length-2
-same-length-2 c = c .before .before .before .before .before .take-page .kept .0
+same-length-2 c = search needs
 
 same-length-3 : tie.Need-same-length-3
-same-length-3 c = c .before .before .before .before .before .take-page .kept .1 .0
+same-length-3 c = search needs
 
 returns-2 : tie.Need-returns-2
 unfolding joinOn roomDef
@@ -62,10 +61,10 @@ set-top-requires : tie.Need-set-top-requires
 set-top-requires c κs = search needs
 
 same-length-4 : tie.Need-same-length-4
-same-length-4 c = c .before .before .before .before .before .before .before .before .before .before .write .kept .0 ∙ c .before .before .before .before .before .before .before .before .before .before .before .before .before .before .before .before .before .before .before .before .take-page .kept .0
+same-length-4 c = search needs
 
 same-length-5 : tie.Need-same-length-5
-same-length-5 c = c .before .before .set-top .kept .0 ∙ c .before .before .before .before .before .before .set-end .kept .0 ∙ c .before .before .before .before .before .before .before .before .before .before .before .before .before .before .before .before .before .before .before .before .take-page .kept .1 .0
+same-length-5 c = search needs
 
 returns-3 : tie.Need-returns-3
 unfolding joinAt joinOn roomDef

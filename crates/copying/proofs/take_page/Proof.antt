@@ -1,5 +1,4 @@
 -- `copying::take_page` meets its contract: its writes are the definition's, in their order.
-use mathlib.Core.Path.{refl, _∙_}
 use native.Mathlib.Omega.{arith}
 use Rattle.laws.proofs.Tests.{tests}
 use Rattle.motion.specs.Run.{takeAt, takeOn}
@@ -11,7 +10,7 @@ word-requires : tie.Need-word-requires
 word-requires c κs = search needs
 
 same-length : tie.Need-same-length
-same-length c = refl
+same-length c = search needs
 
 returns : tie.Need-returns
 unfolding takeOn
@@ -48,10 +47,10 @@ write-requires-4 : tie.Need-write-requires-4
 write-requires-4 c κs = search needs
 
 same-length-2 : tie.Need-same-length-2
-same-length-2 c = c .before .before .before .before .before .before .before .before .before .before .before .before .before .write2 .kept .0 ∙ c .before .before .before .before .before .before .before .before .before .before .before .before .before .before .before .before .before .write .kept .0
+same-length-2 c = search needs
 
 same-length-3 : tie.Need-same-length-3
-same-length-3 c = c .before .before .write4 .kept .0 ∙ c .before .before .before .before .before .before .before .write3 .kept .0
+same-length-3 c = search needs
 
 returns-2 : tie.Need-returns-2
 unfolding takeAt takeOn

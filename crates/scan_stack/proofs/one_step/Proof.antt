@@ -1,5 +1,4 @@
 -- `copying::one_step` meets its contract: the test for the region's a comes first, then what it calls is what the definition runs.
-use mathlib.Core.Path.{_∙_}
 use borrow.Author.Tests.{eq-eqb, ne-eqb, not-true, not-false}
 use Rattle.motion.specs.Run.{stepOn, step as stepDef}
 use borrow.Author.Needs.{needs}
@@ -16,7 +15,7 @@ pop-requires : tie.Need-pop-requires
 pop-requires c κs = search needs
 
 same-length : tie.Need-same-length
-same-length c = c .before .before .pop .kept .0 ∙ c .before .before .before .before .before .before .set-status .kept .0
+same-length c = search needs
 
 returns : tie.Need-returns
 unfolding stepDef
@@ -26,10 +25,10 @@ scan-value-requires : tie.Need-scan-value-requires
 scan-value-requires c κs = search needs
 
 same-length-2 : tie.Need-same-length-2
-same-length-2 c = c .before .before .before .before .before .scan-value .kept .0
+same-length-2 c = search needs
 
 same-length-3 : tie.Need-same-length-3
-same-length-3 c = c .before .before .before .before .before .scan-value .kept .1 .0
+same-length-3 c = search needs
 
 returns-2 : tie.Need-returns-2
 unfolding stepOn stepDef
@@ -42,10 +41,10 @@ low-requires : tie.Need-low-requires
 low-requires c κs = search needs
 
 same-length-4 : tie.Need-same-length-4
-same-length-4 c = c .before .before .before .before .before .before .before .before .before .scan-value .kept .0
+same-length-4 c = search needs
 
 same-length-5 : tie.Need-same-length-5
-same-length-5 c = c .before .before .before .before .before .before .before .before .before .scan-value .kept .1 .0
+same-length-5 c = search needs
 
 returns-3 : tie.Need-returns-3
 unfolding stepOn stepDef

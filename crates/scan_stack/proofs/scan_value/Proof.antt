@@ -1,5 +1,4 @@
 -- `copying::scan_value` meets its contract: only a record's fields are looked at.
-use mathlib.Core.Path.{refl}
 use borrow.Author.Tests.{eq-eqb}
 use Rattle.laws.proofs.Tests.{tests}
 use Rattle.motion.specs.Run.{scanOf}
@@ -11,7 +10,7 @@ word-requires : tie.Need-word-requires
 word-requires c κs = search needs
 
 same-length : tie.Need-same-length
-same-length c = refl
+same-length c = search needs
 
 returns : tie.Need-returns
 unfolding scanOf
@@ -24,10 +23,10 @@ scan-fields-requires : tie.Need-scan-fields-requires
 scan-fields-requires c κs = search needs
 
 same-length-2 : tie.Need-same-length-2
-same-length-2 c = c .before .before .before .before .scan-fields .kept .0
+same-length-2 c = search needs
 
 same-length-3 : tie.Need-same-length-3
-same-length-3 c = c .before .before .before .before .scan-fields .kept .1 .0
+same-length-3 c = search needs
 
 returns-2 : tie.Need-returns-2
 unfolding scanOf
