@@ -15,8 +15,8 @@ use Rattle.laws.proofs.Tests.{both}
 use Rattle.rules.specs.Image.{frame, headFits, programFits, partFits, Expected, expected, layout, withFrame, readFrame, readFrames, readText, programOn, collectProgram}
 use Rattle.rules.proofs.Frames.{length-frame}
 use Rattle.promises.proofs.ImageDigits.{frame-read, read-framed}
-use Rattle.desk.specs.Printed.{longest}
-use Rattle.desk.proofs.Lengths.{pages-room}
+use Rattle.printing.specs.Printed.{longest}
+use Rattle.printing.proofs.Lengths.{pages-room}
 
 -- ---- a frame of a text that is cut
 

@@ -1,4 +1,2 @@
-pub mod Lengths
-pub mod Collected
 pub mod Programs
 pub mod Enough

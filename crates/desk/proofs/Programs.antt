@@ -24,7 +24,8 @@ use Rattle.reading.specs.declared.Head.{Head}
 use Rattle.reading.specs.Parts.{framesAt, headList, headFrom, judgedAs, lengthsFit}
 use Rattle.reading.proofs.Heads.{headed, head-words, head-fits}
 use Rattle.reading.proofs.Wells.{judged-well, same-lengths}
-use Rattle.desk.specs.Printed.{collectedFrom, takesHead}
+use Rattle.printing.specs.Printed.{collectedFrom}
+use Rattle.desk.specs.Taking.{takesHead}
 
 -- ---- the first frame
 

@@ -1,4 +1,5 @@
 -- `collector::finish` meets its contract: each part is the definition's.
+use mathlib.Core.Path.{_∙_}
 use Rattle.collector.proofs.Ended.{few-pages, finished}
 use borrow.Author.Needs.{needs}
 use Rattle.collector.proofs.finish.Statement.{statement}
@@ -23,16 +24,16 @@ record-by-requires : tie.Need-record-by-requires
 record-by-requires c κs = search needs
 
 same-length : tie.Need-same-length
-same-length c = search needs
+same-length c = c .before .before .before .before .before .before .before .before .before .before .before .give-all .kept .0 ∙ c .before .before .before .before .before .before .before .before .before .before .before .before .before .before .before .before .before .own-all .kept .0
 
 same-length-2 : tie.Need-same-length-2
-same-length-2 c = search needs
+same-length-2 c = c .before .before .before .before .before .before .before .before .before .before .before .give-all .kept .1 .0
 
 same-length-3 : tie.Need-same-length-3
-same-length-3 c = search needs
+same-length-3 c = c .before .before .before .before .write-table .kept .0
 
 same-length-4 : tie.Need-same-length-4
-same-length-4 c = search needs
+same-length-4 c = c .before .before .before .before .before .before .before .before .before .before .before .before .before .before .before .before .before .before .before .before .before .before .write-roots .kept .1 .0
 
 returns : tie.Need-returns
 returns c = λ k. finished _ _ _ _ _ _ _ _ _ _ _ _ k (c .before .before .before .before .before .before .before .before .before .before .before .before .before .before .before .before .before .before .before .before .before .before .before .before .before .page-count .ensures) (c .before .before .before .before .before .before .before .before .before .before .before .before .before .before .before .before .before .before .before .before .before .before .write-roots .ensures) (c .before .before .before .before .before .before .before .before .before .before .before .before .before .before .before .before .before .own-all .ensures) (c .before .before .before .before .before .before .before .before .before .before .before .give-all .ensures) (c .before .before .before .before .write-table .ensures) (c .record-by .ensures)

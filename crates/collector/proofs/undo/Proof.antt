@@ -1,4 +1,5 @@
 -- `collector::undo` meets its contract: the headers first, then the pages that were taken.
+use mathlib.Core.Path.{_∙_}
 use Rattle.collector.proofs.Ended.{few-pages}
 use borrow.Author.Needs.{needs}
 use Rattle.collector.proofs.undo.Statement.{statement}
@@ -17,7 +18,7 @@ relink-all-requires : tie.Need-relink-all-requires
 relink-all-requires c κs = rw (c .before .before .before .before .undo-headers .kept .0) (c .before .before .before .before .before .before .before .before .before .pre, c .before .before .before .before .before .before .page-count .ensures, search needs)
 
 same-length : tie.Need-same-length
-same-length c = search needs
+same-length c = c .before .before .relink-all .kept .0 ∙ c .before .before .before .before .before .before .before .undo-headers .kept .0
 
 returns : tie.Need-returns
 returns c = rw (c .before .before .relink-all .ensures, c .before .before .before .before .before .before .before .undo-headers .ensures, c .before .before .before .before .before .before .before .before .before .page-count .ensures)

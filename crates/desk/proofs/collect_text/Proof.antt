@@ -24,7 +24,7 @@ print-parts-requires : tie.Need-print-parts-requires
 print-parts-requires c κs = search needs
 
 same-length : tie.Need-same-length
-same-length c = search needs
+same-length c = c .before .before .before .before .before .before .print-parts .kept .1 .1 .1 .1 .1 .0
 
 returns-2 : tie.Need-returns-2
 returns-2 c = let p = c .before .before .before .before .before .before .print-parts .ensures in (p .fits, λ q. p, λ q. absurd (omega (arith, c .before .before .before .before .before .before .before .before .before .before .before .before .if1 .left)))

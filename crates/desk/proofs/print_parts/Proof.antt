@@ -3,8 +3,8 @@ use borrow.Author.Needs.{needs}
 use mathlib.Core.Path.{sym, ap, _∙_}
 use native.Mathlib.Omega.{arith}
 use borrow.Author.Tests.{not-true, not-false}
-use Rattle.desk.specs.Printed.{takesHead}
-use Rattle.desk.proofs.Lengths.{printed-as}
+use Rattle.desk.specs.Taking.{takesHead}
+use Rattle.printing.proofs.Lengths.{printed-as}
 use Rattle.desk.proofs.Programs.{taken, fronts-fit, program-stops, program-goes}
 use Rattle.desk.proofs.print_parts.Statement.{statement}
 use Rattle.desk.proofs.print_parts.Tie as tie
@@ -19,7 +19,7 @@ print-refusal-requires : tie.Need-print-refusal-requires
 print-refusal-requires c κs = search needs
 
 same-length : tie.Need-same-length
-same-length c = search needs
+same-length c = c .before .before .print-refusal .kept .1 .0
 
 returns : tie.Need-returns
 returns c = printed-as (program-stops _ (ap takesHead (sym (c .before .before .before .before .before .before .read-head .ensures)) ∙ sym (c .before .before .before .before .before .takes-head .ensures) ∙ not-true _ (c .before .before .before .before .if1 .taken))) (c .before .before .print-refusal .ensures)
@@ -67,7 +67,7 @@ same-length-2 : tie.Need-same-length-2
 same-length-2 c = search needs
 
 same-length-3 : tie.Need-same-length-3
-same-length-3 c = search needs
+same-length-3 c = c .before .before .before .before .before .before .before .before .before .before .print-read .kept .1 .1 .0
 
 same-length-4 : tie.Need-same-length-4
 same-length-4 c = search needs
@@ -76,7 +76,7 @@ same-length-5 : tie.Need-same-length-5
 same-length-5 c = search needs
 
 same-length-6 : tie.Need-same-length-6
-same-length-6 c = search needs
+same-length-6 c = c .before .before .before .before .before .before .before .before .before .before .print-read .kept .1 .1 .1 .1 .1 .0
 
 returns-2 : tie.Need-returns-2
 returns-2 c = printed-as (program-goes _ (ap takesHead (sym (c .before .before .before .before .before .before .before .before .before .before .before .before .before .before .before .before .before .before .before .before .before .read-head .ensures)) ∙ sym (c .before .before .before .before .before .before .before .before .before .before .before .before .before .before .before .before .before .before .before .before .takes-head .ensures) ∙ not-false _ (c .before .before .before .before .before .before .before .before .before .before .before .before .before .before .before .before .before .before .before .if1 .left))) (c .before .before .before .before .before .before .before .before .before .before .print-read .ensures)

@@ -1,7 +1,7 @@
 -- `desk::takes_head` meets its contract: the tests are the definition's, in its order.
 use borrow.Author.Needs.{needs}
 use Rattle.laws.proofs.Tests.{tests}
-use Rattle.desk.specs.Printed.{takesHead}
+use Rattle.desk.specs.Taking.{takesHead}
 use Rattle.desk.proofs.takes_head.Statement.{statement}
 use Rattle.desk.proofs.takes_head.Tie as tie
 

@@ -15,10 +15,10 @@ enum-known-judged : tie.Need-enum-known-judged
 enum-known-judged c = search needs
 
 same-length : tie.Need-same-length
-same-length c = search needs
+same-length c = refl
 
 same-length-2 : tie.Need-same-length-2
-same-length-2 c = search needs
+same-length-2 c = refl
 
 returns : tie.Need-returns
 returns c = pop-broken _ _ _ (sym (c .before .judged .given .1) ∙ c .before .before .before .audit .ensures)
@@ -27,10 +27,10 @@ enum-told : tie.Need-enum-told
 enum-told c = search needs
 
 same-length-3 : tie.Need-same-length-3
-same-length-3 c = search needs
+same-length-3 c = refl
 
 same-length-4 : tie.Need-same-length-4
-same-length-4 c = search needs
+same-length-4 c = refl
 
 returns-2 : tie.Need-returns-2
 returns-2 c = pop-none _ (judged-passes _ _ (sym (c .before .before .enum-told .given .1) ∙ c .before .before .before .before .audit .ensures)) (c .if1 .taken)
@@ -45,10 +45,10 @@ let-go-requires : tie.Need-let-go-requires
 let-go-requires c κs = let a = passed-admitted _ (judged-passes _ _ (sym (c .before .before .before .before .before .enum-told .given .1) ∙ c .before .before .before .before .before .before .before .audit .ensures)) in let r = a .regions in (a, omega arith)
 
 same-length-5 : tie.Need-same-length-5
-same-length-5 c = search needs
+same-length-5 c = refl
 
 same-length-6 : tie.Need-same-length-6
-same-length-6 c = search needs
+same-length-6 c = refl
 
 returns-3 : tie.Need-returns-3
 returns-3 c = pop-held _ (judged-passes _ _ (sym (c .before .before .before .before .before .before .before .enum-told .given .1) ∙ c .before .before .before .before .before .before .before .before .before .audit .ensures)) (c .before .before .before .before .before .if1 .left) _ refl _ (c .before .let-go .ensures) (c .if2 .taken)
@@ -63,10 +63,10 @@ set-row-requires : tie.Need-set-row-requires
 set-row-requires c κs = let a = passed-admitted _ (judged-passes _ _ (sym (c .before .before .before .before .before .before .before .before .before .before .before .before .before .before .enum-told .given .1) ∙ c .before .before .before .before .before .before .before .before .before .before .before .before .before .before .before .before .audit .ensures)) in let r = a .regions in (a .table, omega arith, omega arith, omega arith, omega arith)
 
 same-length-7 : tie.Need-same-length-7
-same-length-7 c = search needs
+same-length-7 c = c .before .before .before .before .before .before .give-chain .kept .0
 
 same-length-8 : tie.Need-same-length-8
-same-length-8 c = search needs
+same-length-8 c = c .before .before .set-row .kept .0
 
 returns-4 : tie.Need-returns-4
 returns-4 c = pop-done _ (judged-passes _ _ (sym (c .before .before .before .before .before .before .before .before .before .before .before .before .before .before .before .before .before .enum-told .given .1) ∙ c .before .before .before .before .before .before .before .before .before .before .before .before .before .before .before .before .before .before .before .audit .ensures)) (c .before .before .before .before .before .before .before .before .before .before .before .before .before .before .before .if1 .left) _ refl _ (c .before .before .before .before .before .before .before .before .before .before .before .let-go .ensures) _ _ _ _ (c .before .before .before .before .before .before .before .before .before .before .if2 .left) (c .before .before .before .before .before .before .before .before .first-link .ensures) (c .before .before .before .before .before .before .give-chain .ensures) (c .before .before .set-row .ensures)

@@ -1,4 +1,4 @@
--- `collector::move_roots` meets its contract: the roots from i on are still to be moved.
+-- `attempting::move_roots` meets its contract: the roots from i on are still to be moved.
 use Prim.Native.Nat.{_-_}
 use mathlib.Core.Path.{_≡_, refl, sym, _∙_}
 use native.Mathlib.Omega.{arith}
@@ -8,10 +8,10 @@ use Rattle.laws.specs.Each.{eachOf}
 use Rattle.laws.proofs.Each.{eachOf-end}
 use Rattle.motion.specs.Leaves.{desk}
 use Rattle.motion.specs.Whole.{moveRoot}
-use Rattle.collector.proofs.Rooted.{root-more, root-over}
+use Rattle.attempting.proofs.Rooted.{root-more, root-over}
 use borrow.Author.Needs.{needs}
-use Rattle.collector.proofs.move_roots.Statement.{statement}
-use Rattle.collector.proofs.move_roots.Tie as tie
+use Rattle.attempting.proofs.move_roots.Statement.{statement}
+use Rattle.attempting.proofs.move_roots.Tie as tie
 
 abbrev Inv-loop : tie.InvT-loop
 Inv-loop heap₀ notes₀ roots n i₀ heap notes i = (eachOf (moveRoot n) (drop i roots) (desk heap notes) ≡ eachOf (moveRoot n) roots (desk heap₀ notes₀)) × (length heap ≡ length heap₀) × (length notes ≡ length notes₀)

@@ -18,7 +18,7 @@ use Rattle.facts.proofs.Passing.{meaning}
 use Rattle.facts.proofs.Judged.{judged-passes, passed, passed-admitted}
 use Rattle.working.proofs.Running.{Refusing}
 use Rattle.working.proofs.Collecting.{collects}
-use Rattle.desk.specs.Printed.{collectedFrom}
+use Rattle.printing.specs.Printed.{collectedFrom}
 
 module _ (s : Store) (o : Outcome Plain) (c : Control) (done : o .answer ≡ Plain.Done c) where
   abbrev Fit : Type 0

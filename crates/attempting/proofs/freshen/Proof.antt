@@ -1,4 +1,4 @@
--- `collector::freshen` meets its contract: the loop runs `each`, and a turn is what `fresh` does.
+-- `attempting::freshen` meets its contract: the loop runs `each`, and a turn is what `fresh` does.
 use Prim.Native.Nat.{_+_}
 use mathlib.Core.Path.{_≡_, refl, sym, _∙_}
 use native.Mathlib.Omega.{arith}
@@ -8,8 +8,8 @@ use Rattle.laws.specs.Each.{each}
 use Rattle.laws.proofs.Each.{each-more, each-over, each-end}
 use Rattle.motion.specs.Leaves.{desk}
 use Rattle.motion.specs.Whole.{fresh as freshDef}
-use Rattle.collector.proofs.freshen.Statement.{statement}
-use Rattle.collector.proofs.freshen.Tie as tie
+use Rattle.attempting.proofs.freshen.Statement.{statement}
+use Rattle.attempting.proofs.freshen.Tie as tie
 
 abbrev Inv-loop : tie.InvT-loop
 Inv-loop heap₀ notes₀ regions n j₀ left₀ heap notes j left = (each left (freshDef n) j (desk heap notes) ≡ each regions (freshDef n) 0 (desk heap₀ notes₀)) × (length heap ≡ length heap₀) × (length notes ≡ length notes₀) × (j + left ≡ regions)

@@ -1,18 +1,19 @@
--- `collector::attempt` meets its contract: a part that lacks a page ends it, as in the definition.
+-- `attempting::attempt` meets its contract: a part that lacks a page ends it, as in the definition.
+use mathlib.Core.Path.{_∙_}
 use borrow.Author.Tests.{not-true, not-false}
 use Rattle.motion.specs.Whole.{workDone, rootsDone, freshDone}
 use borrow.Author.Needs.{needs}
-use Rattle.collector.proofs.attempt.Statement.{statement}
-use Rattle.collector.proofs.attempt.Tie as tie
+use Rattle.attempting.proofs.attempt.Statement.{statement}
+use Rattle.attempting.proofs.attempt.Tie as tie
 
 freshen-requires : tie.Need-freshen-requires
 freshen-requires c κs = search needs
 
 same-length : tie.Need-same-length
-same-length c = search needs
+same-length c = c .before .before .before .before .before .freshen .kept .0
 
 same-length-2 : tie.Need-same-length-2
-same-length-2 c = search needs
+same-length-2 c = c .before .before .before .before .before .freshen .kept .1 .0
 
 returns : tie.Need-returns
 unfolding freshDone
@@ -22,10 +23,10 @@ move-roots-requires : tie.Need-move-roots-requires
 move-roots-requires c κs = search needs
 
 same-length-3 : tie.Need-same-length-3
-same-length-3 c = search needs
+same-length-3 c = c .before .before .before .before .before .move-roots .kept .0 ∙ c .before .before .before .before .before .before .before .before .before .before .before .before .before .freshen .kept .0
 
 same-length-4 : tie.Need-same-length-4
-same-length-4 c = search needs
+same-length-4 c = c .before .before .before .before .before .move-roots .kept .1 .0 ∙ c .before .before .before .before .before .before .before .before .before .before .before .before .before .freshen .kept .1 .0
 
 returns-2 : tie.Need-returns-2
 unfolding rootsDone freshDone
@@ -38,10 +39,10 @@ finished-requires : tie.Need-finished-requires
 finished-requires c κs = search needs
 
 same-length-5 : tie.Need-same-length-5
-same-length-5 c = search needs
+same-length-5 c = c .before .before .before .before .before .work-stack .kept .0 ∙ c .before .before .before .before .before .before .before .before .before .before .before .before .before .move-roots .kept .0 ∙ c .before .before .before .before .before .before .before .before .before .before .before .before .before .before .before .before .before .before .before .before .before .freshen .kept .0
 
 same-length-6 : tie.Need-same-length-6
-same-length-6 c = search needs
+same-length-6 c = c .before .before .before .before .before .work-stack .kept .1 .0 ∙ c .before .before .before .before .before .before .before .before .before .before .before .before .before .move-roots .kept .1 .0 ∙ c .before .before .before .before .before .before .before .before .before .before .before .before .before .before .before .before .before .before .before .before .before .freshen .kept .1 .0
 
 returns-3 : tie.Need-returns-3
 unfolding workDone rootsDone freshDone

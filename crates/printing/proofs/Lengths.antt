@@ -12,7 +12,7 @@ use Rattle.rules.specs.Memory.{Store, pageCount, pageWords, pageAddress, row}
 use Rattle.rules.specs.Refusals.{Admitted}
 use Rattle.rules.specs.Image.{trim, pageFrames, imageText}
 use Rattle.rules.proofs.Frames.{length-frame, length-trim, image-length}
-use Rattle.desk.specs.Printed.{longest, Printed}
+use Rattle.printing.specs.Printed.{longest, Printed}
 
 -- ---- the longest text
 

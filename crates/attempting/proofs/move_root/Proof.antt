@@ -1,10 +1,10 @@
--- `collector::move_root` meets its contract: only a heap pointer's value is moved.
+-- `attempting::move_root` meets its contract: only a heap pointer's value is moved.
 use borrow.Author.Tests.{eq-eqb}
 use Rattle.laws.proofs.Tests.{tests}
 use Rattle.motion.specs.Whole.{moveRoot}
 use borrow.Author.Needs.{needs}
-use Rattle.collector.proofs.move_root.Statement.{statement}
-use Rattle.collector.proofs.move_root.Tie as tie
+use Rattle.attempting.proofs.move_root.Statement.{statement}
+use Rattle.attempting.proofs.move_root.Tie as tie
 
 returns : tie.Need-returns
 unfolding moveRoot
@@ -20,10 +20,10 @@ move-value-requires : tie.Need-move-value-requires
 move-value-requires c κs = search needs
 
 same-length : tie.Need-same-length
-same-length c = search needs
+same-length c = c .before .before .before .before .move-value .kept .0
 
 same-length-2 : tie.Need-same-length-2
-same-length-2 c = search needs
+same-length-2 c = c .before .before .before .before .move-value .kept .1 .0
 
 returns-2 : tie.Need-returns-2
 unfolding moveRoot

@@ -1,11 +1,11 @@
--- `desk::print_refusal` meets its contract: the frame is written from the first byte on, and has two words.
+-- `printing::print_refusal` meets its contract: the frame is written from the first byte on, and has two words.
 use borrow.Author.Needs.{needs}
 use mathlib.Core.Path.{sym, _∙_}
 use native.Mathlib.Omega.{arith}
 use Rattle.rules.proofs.Frames.{length-frame}
-use Rattle.desk.proofs.Lengths.{printed}
-use Rattle.desk.proofs.print_refusal.Statement.{statement}
-use Rattle.desk.proofs.print_refusal.Tie as tie
+use Rattle.printing.proofs.Lengths.{printed}
+use Rattle.printing.proofs.print_refusal.Statement.{statement}
+use Rattle.printing.proofs.print_refusal.Tie as tie
 
 refusal-number-requires : tie.Need-refusal-number-requires
 refusal-number-requires c κs = search needs
@@ -20,7 +20,7 @@ write-frame-requires : tie.Need-write-frame-requires
 write-frame-requires c κs = search needs
 
 same-length : tie.Need-same-length
-same-length c = search needs
+same-length c = c .before .before .write-frame .kept .0
 
 returns : tie.Need-returns
 returns c = printed _ _ _ _ (c .before .before .write-frame .ensures ∙ rw (c .before .before .before .before .before .before .refusal-number .ensures, c .before .before .before .before .before .refusal-place .ensures)) (sym (length-frame 255 _)) (omega arith)

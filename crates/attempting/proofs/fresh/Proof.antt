@@ -1,20 +1,21 @@
--- `collector::fresh` meets its contract: the writes to the region's row are the definition's, in their order.
+-- `attempting::fresh` meets its contract: the writes to the region's row are the definition's, in their order.
+use mathlib.Core.Path.{_∙_}
 use native.Mathlib.Omega.{arith}
 use Rattle.laws.proofs.Tests.{tests}
 use Rattle.rules.proofs.Limits.{page-size}
 use Rattle.motion.specs.Whole.{freshAt, freshOn, fresh as freshDef}
 use borrow.Author.Needs.{needs}
-use Rattle.collector.proofs.fresh.Statement.{statement}
-use Rattle.collector.proofs.fresh.Tie as tie
+use Rattle.attempting.proofs.fresh.Statement.{statement}
+use Rattle.attempting.proofs.fresh.Tie as tie
 
 take-page-requires : tie.Need-take-page-requires
 take-page-requires c κs = search needs
 
 same-length : tie.Need-same-length
-same-length c = search needs
+same-length c = c .before .before .before .before .before .take-page .kept .0
 
 same-length-2 : tie.Need-same-length-2
-same-length-2 c = search needs
+same-length-2 c = c .before .before .before .before .before .take-page .kept .1 .0
 
 returns : tie.Need-returns
 unfolding freshOn freshDef
@@ -45,10 +46,10 @@ set-status-requires : tie.Need-set-status-requires
 set-status-requires c κs = search needs
 
 same-length-3 : tie.Need-same-length-3
-same-length-3 c = search needs
+same-length-3 c = c .before .before .before .before .before .before .before .before .before .before .before .before .before .before .before .before .before .before .before .before .before .before .before .take-page .kept .0
 
 same-length-4 : tie.Need-same-length-4
-same-length-4 c = search needs
+same-length-4 c = c .before .before .set-status .kept .0 ∙ c .before .before .before .before .before .before .set-top .kept .0 ∙ c .before .before .before .before .before .before .before .before .before .before .set-first .kept .0 ∙ c .before .before .before .before .before .before .before .before .before .before .before .before .before .before .set-end .kept .0 ∙ c .before .before .before .before .before .before .before .before .before .before .before .before .before .before .before .before .before .before .before .before .before .before .before .take-page .kept .1 .0
 
 returns-2 : tie.Need-returns-2
 unfolding freshAt freshOn freshDef
