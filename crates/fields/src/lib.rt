@@ -3,23 +3,20 @@ ghost use mathlib.Core.Path.{_≡_};
 ghost use Prim.Native.Nat.{_≤_, _<_};
 ghost use lib.ListN.{length};
 ghost use Rattle.laws.specs.Lists.{all};
-ghost use Rattle.rules.specs.Memory.{lent, pageCount, chain};
+ghost use Rattle.rules.specs.Memory.{lent};
 ghost use Rattle.rules.specs.Refusals.{Paged, Admitted};
-ghost use Rattle.rules.specs.Audit.{pagePass, recordsPass, rule6 as rule6Of, rule7 as rule7Of};
+ghost use Rattle.rules.specs.Audit.{recordsPass, rule6 as rule6Of, rule7 as rule7Of};
 ghost use Rattle.rules.specs.Calls.{pointsInto, letGo};
 ghost use Rattle.fields.specs.Passing.{passes};
 use conversions::address_page;
-use conversions::link_page;
 use conversions::origin_region;
 use conversions::page_address;
 use conversions::pointer_address;
-use pages::body_address;
 use pages::page_count;
-use pages::page_end;
+use pages::page_words;
 use rows::first_link;
 use rows::link_address;
 use rules::Control;
-use rules::Page;
 use rules::Region;
 use values::fits;
 use values::good_word;
@@ -85,63 +82,6 @@ fn words_pass(
     true
 }
 
-// Whether each field of each record of page k passes the test.
-fn page_passes(heap: &[u32], consts: &[u32], n: u32, regions: u32, wanted: Wanted, k: Page) -> bool
-    requires { ⌜ Paged n (length (now heap)) × (length (now consts) ≤ 65535) × (k .0 < pageCount n (now heap)) ⌝ }
-    ensures { λ r. ⌜ r ≡ pagePass (passes n regions (now (heap .entry)) (now (consts .entry)) wanted) n (now (heap .entry)) (k .0) ⌝ }
-{
-    let end = page_end(k, n).0;
-    let mut at = body_address(k, n).0;
-    while at < end {
-        let head = heap[at];
-        if !fits(head, end - (at + 1)) {
-            return true;
-        }
-        let next = at + 1 + (head / 8) as usize;
-        if !is_record(head) {
-            at = next;
-            continue;
-        }
-        if !words_pass(heap, consts, n, regions, wanted, &heap[at + 1..next]) {
-            return false;
-        }
-        at = next;
-    }
-    true
-}
-
-// Whether each field of each record of the pages from a link on passes the test.
-fn chain_passes(
-    heap: &[u32],
-    consts: &[u32],
-    n: u32,
-    regions: u32,
-    wanted: Wanted,
-    first: u32,
-) -> bool
-    requires { ⌜ Paged n (length (now heap)) × (length (now consts) ≤ 65535) ⌝ }
-    ensures { λ r. ⌜ r ≡ all (pagePass (passes n regions (now (heap .entry)) (now (consts .entry)) wanted) n (now (heap .entry))) (chain (pageCount n (now (heap .entry))) n (now (heap .entry)) first) ⌝ }
-{
-    let pages = page_count(heap.len(), n) as u32;
-    let mut link = first;
-    let mut left = pages;
-    while 0 < left {
-        if link == 0 {
-            return true;
-        }
-        if pages < link {
-            return true;
-        }
-        if !page_passes(heap, consts, n, regions, wanted, link_page(link)) {
-            return false;
-        }
-        let base = link_address(link, n).0;
-        link = heap[base];
-        left -= 1;
-    }
-    true
-}
-
 // Whether each field of each record of the regions below a bound passes the test.
 fn records_pass(
     heap: &[u32],
@@ -155,17 +95,51 @@ fn records_pass(
     requires { ⌜ Paged n (length (now heap)) × (length (now table) ≡ 256) × (length (now consts) ≤ 65535) × (below ≤ 64) ⌝ }
     ensures { λ r. ⌜ r ≡ recordsPass (passes n regions (now (heap .entry)) (now (consts .entry)) wanted) n (now (heap .entry)) (now (table .entry)) below ⌝ }
 {
-    let mut j: usize = 0;
-    let mut left = below;
-    while 0 < left {
-        let first = first_link(table, Region(j), n);
-        if !chain_passes(heap, consts, n, regions, wanted, first) {
-            return false;
+    let size = page_words(n);
+    let pages = page_count(heap.len(), n) as u32;
+    let mut fine = true;
+    let mut j = Region(0);
+    let mut regions_left = below;
+    'regions: while 0 < regions_left {
+        let mut link = first_link(table, j, n);
+        let mut left = pages;
+        'pages: while 0 < left {
+            if link == 0 {
+                break 'pages;
+            }
+            if pages < link {
+                break 'pages;
+            }
+            let base = link_address(link, n).0;
+            let end = base + size;
+            let mut at = base + 2;
+            'values: while at < end {
+                let head = heap[at];
+                if !fits(head, end - (at + 1)) {
+                    break 'values;
+                }
+                let next = at + 1 + (head / 8) as usize;
+                if !is_record(head) {
+                    at = next;
+                    continue 'values;
+                }
+                let mut field = at + 1;
+                while field < next {
+                    if !word_passes(heap, consts, n, regions, wanted, heap[field]) {
+                        fine = false;
+                        break 'regions;
+                    }
+                    field += 1;
+                }
+                at = next;
+            }
+            link = heap[base];
+            left -= 1;
         }
-        j += 1;
-        left -= 1;
+        j = Region(j.0 + 1);
+        regions_left -= 1;
     }
-    true
+    fine
 }
 
 // Rule 6: each field of each record in the heap is a number or a good pointer.

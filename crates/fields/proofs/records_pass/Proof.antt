@@ -1,55 +1,416 @@
--- `fields::records_pass` meets its contract: what is left to test, from the present region on, is the whole test.
+-- `fields::records_pass` meets its contract: at each of the four levels what is left to test, with what the outer levels have left, is the whole test.
 use mathlib.Core.Path.{_≡_, refl, sym, _∙_}
-use Prim.Native.Nat.{_+_}
+use mathlib.Core.Bool.{true, _&&_}
+use mathlib.Core.Logic.{⊎-elim}
+use Prim.Native.Nat.{_+_, _-_, _/_, _*_, _^_, _<_, _≤_}
 use native.Mathlib.Omega.{arith}
 use borrow.Author.Tests.{not-true, not-false}
-use Rattle.laws.proofs.Tests.{from-end}
+use lib.ListN.{length, getD}
+use lib.Seq.{slice}
+use Rattle.laws.specs.Lists.{all}
+use Rattle.laws.proofs.Tests.{from-end, fields-end, fields-go, fields-stop}
+use Rattle.rules.specs.Memory.{chain}
+use Rattle.rules.specs.Words.{valsIn, fieldsPass}
+use Rattle.rules.specs.Audit.{pagePass}
+use Rattle.rules.proofs.Headers.{fit-of}
+use Rattle.rules.proofs.Limits.{Inside, page-here, pages-few}
+use Rattle.rules.proofs.Stepping.{values-end, values-stop, values-raw, values-rec}
+use Rattle.rules.proofs.Nests.{Over, over-fuel, over-none, over-bad, pages-over, regions-go}
 use Rattle.fields.specs.Passing.{passes}
-use Rattle.fields.proofs.Turns.{Records, region-next, region-stop}
+use Rattle.fields.proofs.Turns.{Records, page-records}
 use Rattle.fields.proofs.records_pass.Statement.{statement}
 use Rattle.fields.proofs.records_pass.Tie as tie
 
 abbrev Inv-loop : tie.InvT-loop
-Inv-loop heap table consts n regions wanted below j₀ left₀ j left = (Records (passes n regions heap consts wanted) n heap table left j ≡ Records (passes n regions heap consts wanted) n heap table below 0) × (j + left ≡ below)
+Inv-loop heap table consts n regions wanted below size pages fine₀ j regions-left link left base end at head next field₀ fine field = ((all (passes n regions heap consts wanted) (slice field next heap) && (all (fieldsPass (passes n regions heap consts wanted)) (valsIn heap next end) && (all (pagePass (passes n regions heap consts wanted) n heap) (chain (left - 1) n heap (getD heap base 0)) && Records (passes n regions heap consts wanted) n heap table (regions-left - 1) (j .0 + 1)))) ≡ Records (passes n regions heap consts wanted) n heap table below 0) × (fine ≡ true)
 
 abbrev μ-loop : tie.MeasureT-loop
-μ-loop heap table consts n regions wanted below j₀ left₀ j left = left
+μ-loop heap table consts n regions wanted below size pages fine₀ j regions-left link left base end at head next field₀ fine field = next - field
 
-loop-holds : tie.Need-loop-holds Inv-loop μ-loop
-loop-holds c = (refl, omega arith)
+abbrev Inv-values : tie.InvT-values
+Inv-values heap table consts n regions wanted below size pages fine₀ j regions-left link left base end at₀ fine at = ((all (fieldsPass (passes n regions heap consts wanted)) (valsIn heap at end) && (all (pagePass (passes n regions heap consts wanted) n heap) (chain (left - 1) n heap (getD heap base 0)) && Records (passes n regions heap consts wanted) n heap table (regions-left - 1) (j .0 + 1))) ≡ Records (passes n regions heap consts wanted) n heap table below 0) × (fine ≡ true)
 
-abbrev entry : tie.At-loop Inv-loop μ-loop → tie.Start Inv-loop μ-loop
-entry c = c .before .before .before .before
+abbrev μ-values : tie.MeasureT-values
+μ-values heap table consts n regions wanted below size pages fine₀ j regions-left link left base end at₀ fine at = end - at
 
-first-link-requires : tie.Need-first-link-requires Inv-loop μ-loop
-first-link-requires c κs = let p = entry (c .before) .pre in (p .1, omega arith, p .0 .low, p .0 .high)
+abbrev Inv-pages : tie.InvT-pages
+Inv-pages heap table consts n regions wanted below size pages fine₀ j regions-left link₀ left₀ fine link left = ((all (pagePass (passes n regions heap consts wanted) n heap) (chain left n heap link) && Records (passes n regions heap consts wanted) n heap table (regions-left - 1) (j .0 + 1)) ≡ Records (passes n regions heap consts wanted) n heap table below 0) × (fine ≡ true)
 
-chain-passes-requires : tie.Need-chain-passes-requires Inv-loop μ-loop
-chain-passes-requires c κs = let p = entry (c .before .before) .pre in (p .0, p .2)
+abbrev μ-pages : tie.MeasureT-pages
+μ-pages heap table consts n regions wanted below size pages fine₀ j regions-left link₀ left₀ fine link left = left
 
-returns : tie.Need-returns Inv-loop μ-loop
-returns c =
-    let l = c .before .before .before .before in
-    sym (region-stop _ _ _ _ _ _ _ (c .before .before .first-link .ensures) (c .before .before .before .loop-test .taken) (sym (c .before .chain-passes .ensures) ∙ not-true _ (c .if1 .taken))) ∙ l .loop .inv .0
+abbrev Inv-regions : tie.InvT-regions
+Inv-regions heap table consts n regions wanted below size pages fine₀ j₀ regions-left₀ fine j regions-left = (Records (passes n regions heap consts wanted) n heap table regions-left (j .0) ≡ Records (passes n regions heap consts wanted) n heap table below 0) × (fine ≡ true) × (j .0 + regions-left ≡ below)
 
-add-j : tie.Need-add-j Inv-loop μ-loop
-add-j c = let p = entry (c .before .before .before .before) .pre in omega arith
+abbrev μ-regions : tie.MeasureT-regions
+μ-regions heap table consts n regions wanted below size pages fine₀ j₀ regions-left₀ fine j regions-left = regions-left
 
-sub-left : tie.Need-sub-left Inv-loop μ-loop
-sub-left c = omega arith
+page-words-requires :
+    tie.Need-page-words-requires
+    Inv-loop
+    μ-loop
+    Inv-values
+    μ-values
+    Inv-pages
+    μ-pages
+    Inv-regions
+    μ-regions
+page-words-requires c κs = omega arith
 
-loop-less : tie.Need-loop-less Inv-loop μ-loop
+page-count-requires :
+    tie.Need-page-count-requires
+    Inv-loop
+    μ-loop
+    Inv-values
+    μ-values
+    Inv-pages
+    μ-pages
+    Inv-regions
+    μ-regions
+page-count-requires c κs = omega arith
+
+few : (c : tie.After-page-count Inv-loop μ-loop Inv-values μ-values Inv-pages μ-pages Inv-regions μ-regions) → c .page-count .result ≤ 65536
+few c = pages-few _ _ _ (c .before .before .before .before .before .pre .0) (c .page-count .ensures)
+
+cast-pages :
+    tie.Need-cast-pages Inv-loop μ-loop Inv-values μ-values Inv-pages μ-pages Inv-regions μ-regions
+cast-pages c = omega (arith, few c)
+
+regions-holds :
+    tie.Need-regions-holds
+    Inv-loop
+    μ-loop
+    Inv-values
+    μ-values
+    Inv-pages
+    μ-pages
+    Inv-regions
+    μ-regions
+regions-holds c = (refl, refl, omega arith)
+
+first-link-requires :
+    tie.Need-first-link-requires
+    Inv-loop
+    μ-loop
+    Inv-values
+    μ-values
+    Inv-pages
+    μ-pages
+    Inv-regions
+    μ-regions
+first-link-requires c κs = omega arith
+
+pages-holds :
+    tie.Need-pages-holds
+    Inv-loop
+    μ-loop
+    Inv-values
+    μ-values
+    Inv-pages
+    μ-pages
+    Inv-regions
+    μ-regions
+pages-holds c = (sym (regions-go _ _ _ _ _ _ _ _ (c .before .before .before .page-count .ensures) (c .first-link .ensures) (c .before .regions-test .taken)) ∙ c .before .before .regions .inv .0, c .before .before .regions .inv .1)
+
+over : (c : tie.Left-pages Inv-loop μ-loop Inv-values μ-values Inv-pages μ-pages Inv-regions μ-regions) → Over (c .before .before .before .before .before .before .before .before .before .before .args .n) (c .before .before .before .before .before .page-count .result) (c .before .before .before .before .before .before .before .before .before .before .args .heap .now) (c .before .before .before .before .before .page-count .ensures) (c .before .pages .left) (c .before .pages .link)
+over c = ⊎-elim (λ w. over-fuel _ _ _ _ _ _ (w .left)) (⊎-elim (λ w. over-none _ _ _ _ _ _ (w .1 .taken)) (λ w. over-bad _ _ _ _ _ _ (w .2 .taken))) (c .pages-test .came)
+
+link-address-requires :
+    tie.Need-link-address-requires
+    Inv-loop
+    μ-loop
+    Inv-values
+    μ-values
+    Inv-pages
+    μ-pages
+    Inv-regions
+    μ-regions
+link-address-requires c κs = omega (arith, few ((c .before .before .before .before .before .before .before)))
+
+here : (c : tie.After-link-address Inv-loop μ-loop Inv-values μ-values Inv-pages μ-pages Inv-regions μ-regions) → Inside (2 ^ c .before .before .before .before .before .before .before .before .before .before .before .before .before .args .n) (c .link-address .result .0) (length (c .before .before .before .before .before .before .before .before .before .before .before .before .before .args .heap .now))
+here c = page-here _ _ _ _ _ (c .before .before .before .before .before .before .before .before .before .before .before .before .before .pre .0) (c .before .before .before .before .before .before .before .before .page-count .ensures) (c .link-address .ensures) (c .before .before .if1 .left) (c .before .if2 .left)
+
+inside : (c : tie.After-link-address Inv-loop μ-loop Inv-values μ-values Inv-pages μ-pages Inv-regions μ-regions) → c .link-address .result .0 + c .before .before .before .before .before .before .before .before .before .page-words .result ≤ length (c .before .before .before .before .before .before .before .before .before .before .before .before .before .args .heap .now)
+inside c = omega (arith, here c, c .before .before .before .before .before .before .before .before .before .page-words .ensures)
+
+add-end :
+    tie.Need-add-end Inv-loop μ-loop Inv-values μ-values Inv-pages μ-pages Inv-regions μ-regions
+add-end c = omega (arith, here c, c .before .before .before .before .before .before .before .before .before .page-words .ensures)
+
+add-at :
+    tie.Need-add-at Inv-loop μ-loop Inv-values μ-values Inv-pages μ-pages Inv-regions μ-regions
+add-at c = omega (arith, here c)
+
+values-holds :
+    tie.Need-values-holds
+    Inv-loop
+    μ-loop
+    Inv-values
+    μ-values
+    Inv-pages
+    μ-pages
+    Inv-regions
+    μ-regions
+values-holds c = (sym (page-records _ _ _ _ (c .before .before .before .before .before .before .before .before .page-count .ensures) _ _ _ (c .before .before .before .before .before .before .before .before .before .page-words .ensures) _ _ (c .link-address .ensures) (c .before .before .before .pages-test .taken) (c .before .before .if1 .left) (c .before .if2 .left)) ∙ c .before .before .before .before .pages .inv .0, c .before .before .before .before .pages .inv .1)
+
+mul-head :
+    tie.Need-mul-head Inv-loop μ-loop Inv-values μ-values Inv-pages μ-pages Inv-regions μ-regions
+mul-head c = omega (arith, here ((c .before .before)), c .before .before .before .before .before .before .before .before .before .before .before .page-words .ensures)
+
+shared-slice-read-head :
+    tie.Need-shared-slice-read-head
+    Inv-loop
+    μ-loop
+    Inv-values
+    μ-values
+    Inv-pages
+    μ-pages
+    Inv-regions
+    μ-regions
+shared-slice-read-head c = omega (arith, (inside ((c .before .before .before))))
+
+add-fits :
+    tie.Need-add-fits Inv-loop μ-loop Inv-values μ-values Inv-pages μ-pages Inv-regions μ-regions
+add-fits c = omega (arith, here ((c .before .before .before)), c .before .before .before .before .before .before .before .before .before .before .before .before .page-words .ensures)
+
+sub-fits :
+    tie.Need-sub-fits Inv-loop μ-loop Inv-values μ-values Inv-pages μ-pages Inv-regions μ-regions
+sub-fits c = omega arith
+
+fits-requires :
+    tie.Need-fits-requires
+    Inv-loop
+    μ-loop
+    Inv-values
+    μ-values
+    Inv-pages
+    μ-pages
+    Inv-regions
+    μ-regions
+fits-requires c κs = omega arith
+
+add-next :
+    tie.Need-add-next Inv-loop μ-loop Inv-values μ-values Inv-pages μ-pages Inv-regions μ-regions
+add-next c = omega (arith, here ((c .before .before .before .before .before)), c .before .before .before .before .before .before .before .before .before .before .before .before .before .before .page-words .ensures)
+
+cast-next :
+    tie.Need-cast-next Inv-loop μ-loop Inv-values μ-values Inv-pages μ-pages Inv-regions μ-regions
+cast-next c = omega (arith, c .before .before .shared-slice-known4 .given (c .before .before .before .before .values .at))
+
+add-next-2 :
+    tie.Need-add-next-2 Inv-loop μ-loop Inv-values μ-values Inv-pages μ-pages Inv-regions μ-regions
+add-next-2 c = omega (arith, here ((c .before .before .before .before .before)), c .before .before .before .before .before .before .before .before .before .before .before .before .before .before .page-words .ensures, c .before .before .shared-slice-known4 .given (c .before .before .before .before .values .at))
+
+within : (c : tie.Else3 Inv-loop μ-loop Inv-values μ-values Inv-pages μ-pages Inv-regions μ-regions) → c .before .before .before .before .values .at + 1 + getD (c .before .before .before .before .before .before .before .before .before .before .before .before .before .before .before .before .before .before .args .heap .now) (c .before .before .before .before .values .at) 0 / 8 ≤ length (c .before .before .before .before .before .before .before .before .before .before .before .before .before .before .before .before .before .before .args .heap .now)
+within c = let f = fit-of _ _ (sym (c .before .fits2 .ensures) ∙ not-false _ (c .if3 .left)) .1 in omega (arith, inside ((c .before .before .before .before .before)))
+
+is-record-requires :
+    tie.Need-is-record-requires
+    Inv-loop
+    μ-loop
+    Inv-values
+    μ-values
+    Inv-pages
+    μ-pages
+    Inv-regions
+    μ-regions
+is-record-requires c κs = omega arith
+
+values-less :
+    tie.Need-values-less
+    Inv-loop
+    μ-loop
+    Inv-values
+    μ-values
+    Inv-pages
+    μ-pages
+    Inv-regions
+    μ-regions
+values-less c = omega arith
+
+values-again :
+    tie.Need-values-again
+    Inv-loop
+    μ-loop
+    Inv-values
+    μ-values
+    Inv-pages
+    μ-pages
+    Inv-regions
+    μ-regions
+values-again c = (sym (values-raw _ _ _ _ _ (c .before .before .before .before .before .values-test .taken) (inside ((c .before .before .before .before .before .before .before))) (sym (c .before .before .before .fits2 .ensures) ∙ not-false _ (c .before .before .if3 .left)) (sym (c .before .is-record .ensures) ∙ not-true _ (c .if4 .taken))) ∙ c .before .before .before .before .before .before .values .inv .0, c .before .before .before .before .before .before .values .inv .1)
+
+add-field :
+    tie.Need-add-field Inv-loop μ-loop Inv-values μ-values Inv-pages μ-pages Inv-regions μ-regions
+add-field c = omega (arith, here ((c .before .before .before .before .before .before .before)), c .before .before .before .before .before .before .before .before .before .before .before .before .before .before .before .before .page-words .ensures)
+
+loop-holds :
+    tie.Need-loop-holds Inv-loop μ-loop Inv-values μ-values Inv-pages μ-pages Inv-regions μ-regions
+loop-holds c = (sym (values-rec _ _ _ _ _ (c .before .before .before .before .before .values-test .taken) (inside ((c .before .before .before .before .before .before .before))) (sym (c .before .before .before .fits2 .ensures) ∙ not-false _ (c .before .before .if3 .left)) (sym (c .before .is-record .ensures) ∙ not-false _ (c .if4 .left))) ∙ c .before .before .before .before .before .before .values .inv .0, c .before .before .before .before .before .before .values .inv .1)
+
+mul-word-passes :
+    tie.Need-mul-word-passes
+    Inv-loop
+    μ-loop
+    Inv-values
+    μ-values
+    Inv-pages
+    μ-pages
+    Inv-regions
+    μ-regions
+mul-word-passes c = omega (arith, here ((c .before .before .before .before .before .before .before .before .before)), within ((c .before .before .before .before)))
+
+shared-slice-read-word-passes :
+    tie.Need-shared-slice-read-word-passes
+    Inv-loop
+    μ-loop
+    Inv-values
+    μ-values
+    Inv-pages
+    μ-pages
+    Inv-regions
+    μ-regions
+shared-slice-read-word-passes c = omega (arith, within ((c .before .before .before .before .before)))
+
+word-passes-requires :
+    tie.Need-word-passes-requires
+    Inv-loop
+    μ-loop
+    Inv-values
+    μ-values
+    Inv-pages
+    μ-pages
+    Inv-regions
+    μ-regions
+word-passes-requires c κs = (c .before .before .before .before .before .before .before .before .before .before .before .before .before .before .before .before .before .before .before .before .before .before .before .pre .0, c .before .before .before .before .before .before .before .before .before .before .before .before .before .before .before .before .before .before .before .before .before .before .before .pre .2)
+
+add-field-2 :
+    tie.Need-add-field-2
+    Inv-loop
+    μ-loop
+    Inv-values
+    μ-values
+    Inv-pages
+    μ-pages
+    Inv-regions
+    μ-regions
+add-field-2 c = omega (arith, here ((c .before .before .before .before .before .before .before .before .before .before .before .before)), within ((c .before .before .before .before .before .before .before)))
+
+loop-less :
+    tie.Need-loop-less Inv-loop μ-loop Inv-values μ-values Inv-pages μ-pages Inv-regions μ-regions
 loop-less c = omega arith
 
-loop-again : tie.Need-loop-again Inv-loop μ-loop
-loop-again c =
-    let l = c .before .before .before .before in (
-      sym (region-next _ _ _ _ _ _ _ (c .before .before .first-link .ensures) (c .before .before .before .loop-test .taken) (sym (c .before .chain-passes .ensures) ∙ not-false _ (c .if1 .left))) ∙ l .loop .inv .0,
-      omega arith,
-    )
+loop-again :
+    tie.Need-loop-again Inv-loop μ-loop Inv-values μ-values Inv-pages μ-pages Inv-regions μ-regions
+loop-again c = (sym (fields-go _ _ _ _ _ (c .before .before .before .loop-test .taken) (within ((c .before .before .before .before .before .before .before))) (sym (c .before .word-passes .ensures) ∙ not-false _ (c .if5 .left))) ∙ c .before .before .before .before .loop .inv .0, c .before .before .before .before .loop .inv .1)
 
-returns-2 : tie.Need-returns-2 Inv-loop μ-loop
-returns-2 c = sym (from-end _ _ _ (c .loop-test .left)) ∙ c .before .loop .inv .0
+values-less-2 :
+    tie.Need-values-less-2
+    Inv-loop
+    μ-loop
+    Inv-values
+    μ-values
+    Inv-pages
+    μ-pages
+    Inv-regions
+    μ-regions
+values-less-2 c = omega arith
+
+values-again-2 :
+    tie.Need-values-again-2
+    Inv-loop
+    μ-loop
+    Inv-values
+    μ-values
+    Inv-pages
+    μ-pages
+    Inv-regions
+    μ-regions
+values-again-2 c = (sym (fields-end _ _ _ _ _ (c .loop-test .left)) ∙ c .before .loop .inv .0, c .before .loop .inv .1)
+
+mul-link :
+    tie.Need-mul-link Inv-loop μ-loop Inv-values μ-values Inv-pages μ-pages Inv-regions μ-regions
+mul-link c = omega (arith, here ((c .before .before)))
+
+shared-slice-read-link :
+    tie.Need-shared-slice-read-link
+    Inv-loop
+    μ-loop
+    Inv-values
+    μ-values
+    Inv-pages
+    μ-pages
+    Inv-regions
+    μ-regions
+shared-slice-read-link c = omega (arith, here ((c .before .before .before)))
+
+sub-left :
+    tie.Need-sub-left Inv-loop μ-loop Inv-values μ-values Inv-pages μ-pages Inv-regions μ-regions
+sub-left c = omega arith
+
+pages-less :
+    tie.Need-pages-less Inv-loop μ-loop Inv-values μ-values Inv-pages μ-pages Inv-regions μ-regions
+pages-less c = omega arith
+
+pages-again :
+    tie.Need-pages-again
+    Inv-loop
+    μ-loop
+    Inv-values
+    μ-values
+    Inv-pages
+    μ-pages
+    Inv-regions
+    μ-regions
+pages-again c = (⊎-elim (λ w. sym (values-end _ _ _ _ _ (w .left)) ∙ c .before .before .values .inv .0) (λ w. sym (values-stop _ _ _ _ _ (w .0 .taken) (inside ((c .before .before .before))) (sym (w .2 .ensures) ∙ not-true _ (w .3 .taken))) ∙ c .before .before .values .inv .0) (c .before .values-test .came), c .before .before .values .inv .1)
+
+add-t40 :
+    tie.Need-add-t40 Inv-loop μ-loop Inv-values μ-values Inv-pages μ-pages Inv-regions μ-regions
+add-t40 c = omega arith
+
+sub-regions-left :
+    tie.Need-sub-regions-left
+    Inv-loop
+    μ-loop
+    Inv-values
+    μ-values
+    Inv-pages
+    μ-pages
+    Inv-regions
+    μ-regions
+sub-regions-left c = omega arith
+
+regions-less :
+    tie.Need-regions-less
+    Inv-loop
+    μ-loop
+    Inv-values
+    μ-values
+    Inv-pages
+    μ-pages
+    Inv-regions
+    μ-regions
+regions-less c = omega arith
+
+regions-again :
+    tie.Need-regions-again
+    Inv-loop
+    μ-loop
+    Inv-values
+    μ-values
+    Inv-pages
+    μ-pages
+    Inv-regions
+    μ-regions
+regions-again c = (sym (pages-over _ _ _ _ _ _ _ _ (over ((c .before)))) ∙ c .before .before .pages .inv .0, c .before .before .pages .inv .1, omega arith)
+
+returns :
+    tie.Need-returns Inv-loop μ-loop Inv-values μ-values Inv-pages μ-pages Inv-regions μ-regions
+returns c = c .before .regions .inv .1 ∙ sym (from-end _ _ _ (c .regions-test .left)) ∙ c .before .regions .inv .0
+
+returns-2 :
+    tie.Need-returns-2 Inv-loop μ-loop Inv-values μ-values Inv-pages μ-pages Inv-regions μ-regions
+returns-2 c = sym (fields-stop _ _ _ _ _ (c .before .before .before .loop-test .taken) (within ((c .before .before .before .before .before .before .before))) (sym (c .before .word-passes .ensures) ∙ not-true _ (c .if5 .taken))) ∙ c .before .before .before .before .loop .inv .0
 
 pub records-pass-spec : {M : Type 1} → statement M
 records-pass-spec =
@@ -57,12 +418,51 @@ records-pass-spec =
     (tie.spec
     Inv-loop
     μ-loop
-    loop-holds
+    Inv-values
+    μ-values
+    Inv-pages
+    μ-pages
+    Inv-regions
+    μ-regions
+    page-words-requires
+    page-count-requires
+    cast-pages
+    regions-holds
     first-link-requires
-    chain-passes-requires
-    returns
-    add-j
-    sub-left
+    pages-holds
+    link-address-requires
+    add-end
+    add-at
+    values-holds
+    mul-head
+    shared-slice-read-head
+    add-fits
+    sub-fits
+    fits-requires
+    add-next
+    cast-next
+    add-next-2
+    is-record-requires
+    values-less
+    values-again
+    add-field
+    loop-holds
+    mul-word-passes
+    shared-slice-read-word-passes
+    word-passes-requires
+    add-field-2
     loop-less
     loop-again
+    values-less-2
+    values-again-2
+    mul-link
+    shared-slice-read-link
+    sub-left
+    pages-less
+    pages-again
+    add-t40
+    sub-regions-left
+    regions-less
+    regions-again
+    returns
     returns-2)
