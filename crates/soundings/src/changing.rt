@@ -20,12 +20,6 @@ fn called(
     heaps::step(heap, table, roots, consts, c, question, true)
 }
 
-fn left_roots(roots: &[u32]) {
-    say::text(b", roots");
-    say::words(roots);
-    say::text(b"\n");
-}
-
 // A call, and what it left: of a root that is named, the roots.
 pub fn changes(
     heap: &mut [u32],
@@ -38,7 +32,7 @@ pub fn changes(
     let before = lent::sum(heap, table, roots);
     let after = called(heap, table, roots, consts, c, question);
     if heaps::first(question) == b'n' {
-        left_roots(roots);
+        lent::only_roots(roots);
     } else {
         lent::report(before, c, heap, table, roots, after);
     }

@@ -1,43 +1,14 @@
 // Lines of the soundings. A line is four texts with bars between them:
 //   push again: |on 32 256 2 0|push 1;|push 1
 // what is printed in front of the answer; the lengths of the heap, the table, the roots and the constants; the recipe of the heap; the question.
-ghost use Prim.Native.Nat.{_≤_};
 use crate::asking;
+use telling::cutting;
 use telling::heaps;
 use telling::say;
 
-// What stands before the first bar.
-fn before_bar(text: &[u8]) -> &[u8] {
-    let e = heaps::end_of(text, 0, b'|');
-    &text[0..e]
-}
-
-// What stands behind the first bar.
-fn behind_bar(text: &[u8]) -> &[u8] {
-    let e = heaps::end_of(text, 0, b'|');
-    if text.len() <= e {
-        return &text[0..0];
-    }
-    let start = e + 1;
-    &text[start..]
-}
-
-// A length, at most n.
-fn within(k: u32, n: usize) -> usize
-    ensures { λ r. ⌜ r ≤ n ⌝ }
-{
-    let asked = heaps::place(k);
-    if asked < n { asked } else { n }
-}
-
-// The first words of a part.
-fn first_words(part: &mut [u32], k: u32) -> &mut [u32] {
-    let n = within(k, part.len());
-    &mut part[0..n]
-}
-
+// The first words of the constants.
 fn first_constants(part: &[u32], k: u32) -> &[u32] {
-    let n = within(k, part.len());
+    let n = cutting::within(k, part.len());
     &part[0..n]
 }
 
@@ -51,12 +22,12 @@ fn sized(
     rest: &[u8],
 ) {
     asking::asks(
-        first_words(heap, row[0]),
-        first_words(table, row[1]),
-        first_words(roots, row[2]),
+        cutting::first_words(heap, row[0]),
+        cutting::first_words(table, row[1]),
+        cutting::first_words(roots, row[2]),
         first_constants(consts, row[3]),
-        before_bar(rest),
-        behind_bar(rest),
+        cutting::before_bar(rest),
+        cutting::behind_bar(rest),
     );
 }
 
@@ -64,8 +35,8 @@ fn sized(
 fn on(heap: &mut [u32], table: &mut [u32], roots: &mut [u32], line: &[u8]) {
     let consts = [9u32, 7];
     let mut row = [0u32; 16];
-    heaps::numbers(before_bar(line), &mut row);
-    sized(heap, table, roots, &consts, &row, behind_bar(line));
+    heaps::numbers(cutting::before_bar(line), &mut row);
+    sized(heap, table, roots, &consts, &row, cutting::behind_bar(line));
 }
 
 // A line, on parts whose words are all 7.
@@ -73,8 +44,8 @@ fn sounding(line: &[u8]) {
     let mut heap = [7u32; 2048];
     let mut table = [7u32; 257];
     let mut roots = [7u32; 1025];
-    say::text(before_bar(line));
-    on(&mut heap, &mut table, &mut roots, behind_bar(line));
+    say::text(cutting::before_bar(line));
+    on(&mut heap, &mut table, &mut roots, cutting::behind_bar(line));
 }
 
 // Each line ends with a newline.

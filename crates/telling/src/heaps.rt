@@ -49,14 +49,14 @@ fn valued_record(v: Valued) -> Control {
 }
 
 // The record that an answer hands back. The answer of a step that is done aloud is printed.
-fn heard(aloud: bool, p: Plain) -> Control {
+pub fn heard(aloud: bool, p: Plain) -> Control {
     if aloud {
         return say::plain(p);
     }
     record_of(p)
 }
 
-fn opened_heard(aloud: bool, o: Opened) -> Control {
+pub fn opened_heard(aloud: bool, o: Opened) -> Control {
     if aloud {
         return say::opened(o);
     }

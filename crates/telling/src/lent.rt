@@ -16,6 +16,13 @@ fn pages(heap: &[u32]) {
     }
 }
 
+// The roots, where nothing else is to be seen.
+pub fn only_roots(roots: &[u32]) {
+    say::text(b", roots");
+    say::words(roots);
+    say::text(b"\n");
+}
+
 // The record, the table, the roots and the pages.
 pub fn show(heap: &[u32], table: &[u32], roots: &[u32], c: Control) {
     say::text(b"; record");
