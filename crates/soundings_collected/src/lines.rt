@@ -2,8 +2,9 @@
 //   audit, R is 0: |on 32 1 2 7|label;control 0 2 2 1;|audit
 //   read it with n 3: |on 32 1 0 0 202 13|3|read
 // what is printed in front of the answer; numbers; the recipe of the heap; the question. The numbers are the lengths of the heap, the roots and
-// the constants, and the field of the constants' record. Where the question is about an image's text, there is no recipe. Then the fourth number
-// is how many bytes a write is lent, the fifth how many bytes of the text are read, and the byte at the sixth is the one that stands for a recipe.
+// the constants, and the field of the constants' record. A question about an image's text needs no recipe and no constants: there the fourth
+// number is how many bytes a write is lent, the fifth how many bytes of the text are read, and the sixth the place of a byte that is another: the
+// one that stands where a recipe would.
 use crate::asking;
 use telling::cutting;
 use telling::heaps;
@@ -57,7 +58,7 @@ fn on_source(image: &[u8], row: &[u32; 16], rest: &[u8]) {
     }
 }
 
-// A byte becomes another; a place that is 0 stands for none. The byte that stood there.
+// A byte becomes another; the place 0 stands for none. The byte that stood there.
 fn changed(text: &mut [u8], at: u32, byte: u8) -> u8 {
     let i = heaps::place(at);
     if i == 0 {

@@ -13,7 +13,7 @@ fn soundings(image: &mut [u8]) {
     sections::images(image);
 }
 
-// Behind the image's text stand newlines.
+// Behind the image's text stand newlines, for the line that reads one too many.
 fn main() {
     let mut image = [10u8; 256];
     io::read_full(0, &mut image);

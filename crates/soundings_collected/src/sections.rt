@@ -33,7 +33,7 @@ audit, a free page's word is 1 and a is 17: |on 32 1 2 7|label;heap 20 1;table 2
     );
 }
 
-// First a heap of one value; then a record of itself, and two records, each the other's field. Of the lines with no value that the roots name:
+// The heap of "Sh"; then a record of itself, and two records, each the other's field. Of the lines with no value that the roots name:
 // none at all; a raw value in region 1 and a record of it in region 0; none, and a free page is lacking before any root is looked at.
 pub fn collecting(image: &mut [u8]) {
     say::text(b"The collection\n");
