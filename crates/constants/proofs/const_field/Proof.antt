@@ -1,4 +1,4 @@
--- `contents::const_field` meets its contract: each way in which the code decides is what the definition decides.
+-- `constants::const_field` meets its contract: each way in which the code decides is what the definition decides.
 use mathlib.Core.Path.{_≡_, sym, ap, _∙_}
 use borrow.Author.Needs.{needs}
 use Rattle.rules.specs.Words.{goodConst}

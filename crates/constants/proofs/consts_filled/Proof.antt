@@ -1,4 +1,4 @@
--- `contents::consts_filled` meets its contract: the zeros after the values that are left are those after all values.
+-- `constants::consts_filled` meets its contract: the zeros after the values that are left are those after all values.
 use mathlib.Core.Path.{_≡_, refl, sym, _∙_}
 use mathlib.Core.Logic.{⊎-elim}
 use Prim.Native.Nat.{_+_, _-_, _*_, _^_, _<_, _≤_}

@@ -1,4 +1,4 @@
--- `contents::rule8` meets its contract: its two parts are the definition's.
+-- `constants::rule8` meets its contract: its two parts are the definition's.
 use mathlib.Core.Path.{_≡_, sym, _∙_}
 use borrow.Author.Needs.{needs}
 use borrow.Author.Tests.{not-true, not-false}

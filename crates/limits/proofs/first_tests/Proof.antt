@@ -1,4 +1,4 @@
--- `pages::first_tests` meets its contract: the limits first, and once they hold, n is small enough for the common test.
+-- `limits::first_tests` meets its contract: the limits first, and once they hold, n is small enough for the common test.
 use borrow.Author.Needs.{needs}
 use mathlib.Core.Path.{sym, _∙_}
 use borrow.Author.Tests.{not-false}

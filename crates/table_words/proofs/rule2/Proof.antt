@@ -1,4 +1,4 @@
--- `chains::rule2` meets its contract: the two tests are the definition's, and R is at most 64 by the first tests.
+-- `table_words::rule2` meets its contract: the two tests are the definition's, and R is at most 64 by the first tests.
 use mathlib.Core.Path.{_≡_, sym, _∙_}
 use native.Mathlib.Omega.{arith}
 use borrow.Author.Tests.{not-true, not-false}

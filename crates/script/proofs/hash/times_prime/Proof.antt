@@ -1,4 +1,4 @@
--- `hash::times_prime` is the product modulo 2^64: with h = high * 2^32 + low, what the upper half carries past 2^64 is dropped.
+-- `script::hash::times_prime` is the product modulo 2^64: with h = high * 2^32 + low, what the upper half carries past 2^64 is dropped.
 use Prim.Native.Nat.{ℕ, _+_, _*_, _/_, _%_, _^_, _<_}
 use mathlib.Core.Path.{_≡_, refl, sym, ap, _∙_}
 use native.Mathlib.Omega.{arith}
