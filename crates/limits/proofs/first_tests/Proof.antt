@@ -2,7 +2,6 @@
 use borrow.Author.Needs.{needs}
 use mathlib.Core.Path.{sym, _∙_}
 use borrow.Author.Tests.{not-false}
-use Rattle.laws.proofs.Tests.{tests}
 use Rattle.rules.proofs.Limits.{within}
 use Rattle.limits.specs.First.{firstTests}
 use Rattle.limits.proofs.first_tests.Statement.{statement}
