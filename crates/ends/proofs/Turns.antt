@@ -1,18 +1,17 @@
 -- The turn laws of rules 4 and 9: at each region and at each page, what is left to test is what was left before.
-use Prim.Native.Nat.{ℕ, zero, suc, _+_, _-_, _*_, _/_, _^_, _≤_, _<_}
-use mathlib.Core.Path.{_≡_, refl, sym, ap, _∙_}
+use Prim.Native.Nat.{ℕ, _+_, _-_, _*_, _/_, _^_, _≤_, _<_}
+use mathlib.Core.Path.{_≡_, sym, _∙_}
 use mathlib.Core.Bool.{Bool, true, false, _&&_}
 use mathlib.Core.List.{List}
-use native.Mathlib.Omega.{arith}
 use borrow.Author.Tests.{le-leb, lt-leb, eq-eqb, ne-eqb}
 use lib.Dec.{leb, eqb}
 use lib.ListN.{length, getD}
 use lib.Seq.{slice}
 use Rattle.laws.specs.Lists.{all, allFrom, allBelow, zeros}
-use Rattle.laws.proofs.Tests.{and-left, and-right, and-yes, and-assoc, below-in, from-go, from-stop}
+use Rattle.laws.proofs.Tests.{and-left, and-right, and-yes, below-in, from-go, from-stop}
 use Rattle.laws.proofs.Facts.{and-of, same-test, below-of}
 use Rattle.rules.specs.declared.Control.{Control}
-use Rattle.rules.specs.Memory.{Store, lent, link, pageEnd, endOf, topOf, firstLink, chain, regionPages, freePages}
+use Rattle.rules.specs.Memory.{lent, link, endOf, topOf, firstLink, chain, regionPages, freePages}
 use Rattle.rules.specs.Audit.{ifLast, endsAt, topFits, clean, rule4, rule9}
 use Rattle.rules.proofs.Chains.{page-from}
 use Rattle.rules.proofs.Nests.{pages-go, last-not, last-is}

@@ -5,12 +5,11 @@ use mathlib.Core.Path.{_≡_, refl, sym, _∙_}
 use mathlib.Core.Bool.{Bool, true, false, not}
 use native.Mathlib.Omega.{arith}
 use borrow.Author.Tests.{not-false}
-use lib.ListN.{length}
 use Rattle.laws.specs.Choice.{_⇒_∣_}
 use Rattle.rules.specs.declared.Control.{Control}
 use Rattle.rules.specs.declared.Refusal.{Refusal}
-use Rattle.rules.specs.Memory.{Store, limits}
-use Rattle.rules.specs.Refusals.{Admitted, admitted, common, withinLimits, commonTest}
+use Rattle.rules.specs.Memory.{limits}
+use Rattle.rules.specs.Refusals.{Admitted, common}
 use Rattle.rules.proofs.Limits.{admits}
 use Rattle.limits.specs.declared.Tested.{Tested}
 use Rattle.limits.specs.First.{firstTests}

@@ -1,12 +1,12 @@
 -- Filling by places: a word of a frame by its number, and one turn of filling a part and of filling the pages. A part that is filled
 -- from place i on has the words before i, and storing the rest makes the whole.
 use Prim.Native.Nat.{ℕ, zero, suc, _+_, _-_, _*_, _^_, _≤_, _<_}
-use mathlib.Core.Path.{_≡_, refl, sym, ap, _∙_}
-use mathlib.Core.List.{List, [], _∷_, _++_}
+use mathlib.Core.Path.{_≡_, sym, ap, _∙_}
+use mathlib.Core.List.{List, _++_}
 use native.Mathlib.Nat.{add-zero, zero-mul, add-mul, one-mul}
 use native.Mathlib.Numerals.{add-one}
 use native.Mathlib.Omega.{arith}
-use lib.ListN.{length, take, drop, getD, set, length-append, length-drop, drop-of-length-le, List·getD-eq-default}
+use lib.ListN.{length, take, drop, set, length-append, length-drop, drop-of-length-le, List·getD-eq-default}
 use lib.Seq.{sets, length-sets, drop-cons, length-take-le}
 use Rattle.laws.specs.Lists.{at, padded}
 use Rattle.laws.proofs.Writes.{sets-append, sets-next, sets-whole, part-sets}

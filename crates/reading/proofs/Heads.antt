@@ -1,20 +1,17 @@
 -- The first frame by places: what its limits say as facts, that it ends at place 71, and that the judgement of a text is that of the
 -- frames behind it.
-use Prim.Native.Nat.{ℕ, zero, suc, _+_, _-_, _*_, _^_, _≤_, _<_}
-use mathlib.Core.Path.{_≡_, refl, sym, ap, _∙_}
-use mathlib.Core.Bool.{Bool, true, false, _&&_}
-use mathlib.Core.Option.{Option, none, some}
-use mathlib.Core.List.{List, [], _∷_}
+use Prim.Native.Nat.{ℕ, _-_, _*_, _^_, _≤_}
+use mathlib.Core.Path.{_≡_, refl, sym, _∙_}
+use mathlib.Core.Bool.{true, false}
+use mathlib.Core.List.{List}
 use native.Mathlib.Nat.{mul-le-mul-left, mul-one, one-le-pow}
 use native.Mathlib.Omega.{arith}
 use native.Mathlib.Decide.{ℕ-discrete}
 use borrow.Author.Tests.{leb-true, ne-eqb}
-use lib.Dec.{leb, eqb}
-use lib.ListN.{length, drop, getD}
-use Rattle.laws.specs.Choice.{_⇒_∣_}
+use lib.ListN.{drop}
 use Rattle.laws.specs.Lists.{at}
 use Rattle.laws.proofs.Tests.{both, and-right}
-use Rattle.rules.specs.Image.{headFits, layout, Frames, frames, malformed, withFrame, readFrame, readFrames, readText}
+use Rattle.rules.specs.Image.{headFits, layout, Frames, frames, malformed, withFrame, readFrames, readText}
 use Rattle.reading.specs.declared.Rest.{Rest}
 use Rattle.reading.specs.declared.Head.{Head}
 use Rattle.reading.specs.declared.Judged.{Judged}

@@ -1,22 +1,20 @@
 -- The frames of a text, line by line: one turn of judging them, how far a frame goes, and what the words of a well formed text are.
 -- By one step of the definition a frame, and recursion on the frames that are expected.
-use Prim.Native.Nat.{ℕ, zero, suc, _+_, _-_, _*_, _^_, _≤_, _<_}
+use Prim.Native.Nat.{ℕ, suc, _+_, _-_, _≤_, _<_}
 use mathlib.Core.Path.{_≡_, refl, sym, ap, _∙_}
-use mathlib.Core.Bool.{Bool, true, false, _&&_}
-use mathlib.Core.Option.{Option, none, some}
-use mathlib.Core.List.{List, [], _∷_, _++_}
-use native.Mathlib.Numerals.{sub-one, add-one}
+use mathlib.Core.Bool.{Bool, true, false}
+use mathlib.Core.List.{List, _∷_}
+use native.Mathlib.Numerals.{add-one}
 use native.Mathlib.Omega.{arith}
-use lib.ListN.{length, drop, getD, replicate, drop-of-length-le}
+use lib.ListN.{length, drop, replicate, drop-of-length-le}
 use lib.Seq.{drop-cons}
-use Rattle.laws.specs.Choice.{_⇒_∣_}
-use Rattle.laws.specs.Lists.{at, padded}
-use Rattle.rules.specs.Image.{partFits, Expected, expected, Frames, frames, malformed, withFrame, readFrame, readFrames, joined}
+use Rattle.laws.specs.Lists.{at}
+use Rattle.rules.specs.Image.{partFits, Expected, expected, Frames, frames, malformed, withFrame, readFrames}
 use Rattle.scanning.specs.declared.Cursor.{Cursor}
 use Rattle.scanning.specs.declared.Step.{Step}
 use Rattle.reading.specs.declared.Rest.{Rest}
 use Rattle.scanning.specs.Places.{countAt, wordsOf, afterFrame, frameFits, cursor, frameStep}
-use Rattle.reading.specs.Parts.{framesAt, restOf, partAt, pagesAt}
+use Rattle.reading.specs.Parts.{restOf}
 use Rattle.scanning.proofs.Digits.{number-bound}
 use Rattle.scanning.proofs.Frames.{read-frame}
 

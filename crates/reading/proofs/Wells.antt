@@ -1,26 +1,23 @@
 -- A text that is judged to be well formed: its frames are the words that stand at its places, and the store that they give is what filling
 -- leaves. Then what reading an image answers, by the test of the lengths.
-use Prim.Native.Nat.{ℕ, zero, suc, _+_, _*_, _/_, _^_, _≤_}
+use Prim.Native.Nat.{ℕ, zero, suc, _+_, _*_, _/_, _^_}
 use mathlib.Core.Path.{_≡_, refl, sym, ap, _∙_}
-use mathlib.Core.Bool.{Bool, true, false, _&&_, not}
-use mathlib.Core.Option.{Option, none, some}
+use mathlib.Core.Bool.{Bool, true, false}
 use mathlib.Core.List.{List, [], _∷_, _++_}
 use native.Mathlib.Nat.{mul-mod-left, mul-div-cancel}
 use native.Mathlib.Omega.{arith}
 use borrow.Author.Tests.{eqb-true}
-use lib.Dec.{eqb}
 use lib.Pow.{pow-pos}
 use lib.ListN.{length, drop, getD, replicate}
 use Rattle.laws.specs.Choice.{_⇒_∣_}
-use Rattle.laws.specs.Lists.{at, padded}
+use Rattle.laws.specs.Lists.{at}
 use Rattle.laws.proofs.Padded.{length-padded}
 use Rattle.laws.proofs.Tests.{both}
-use Rattle.rules.specs.declared.Control.{Control}
 use Rattle.rules.specs.declared.Refusal.{Refusal}
 use Rattle.rules.specs.declared.Opened.{Opened}
-use Rattle.rules.specs.Memory.{Store, lent, control}
-use Rattle.rules.specs.Refusals.{Paged, Outcome, outcome}
-use Rattle.rules.specs.Image.{headFits, partFits, Expected, expected, layout, Frames, frames, malformed, withFrame, readFrames, readText, joined, storeOf, sameLengths, readStore, readOn, readImage}
+use Rattle.rules.specs.Memory.{Store, lent}
+use Rattle.rules.specs.Refusals.{Paged, outcome}
+use Rattle.rules.specs.Image.{headFits, partFits, Expected, expected, layout, Frames, frames, malformed, withFrame, readFrames, readText, joined, storeOf, sameLengths, readStore, readImage}
 use Rattle.reading.specs.declared.Rest.{Rest}
 use Rattle.reading.specs.declared.Head.{Head}
 use Rattle.reading.specs.declared.Judged.{Judged}

@@ -2,10 +2,10 @@
 // Each call on a heap is one call of the library; the rest reads lines and writes answers.
 mod state;
 
-use carrying_out::parts::first_bytes;
 use script::lines::beginning;
 use script::lines::left;
 use script::lines::next_line;
+use script::parts::first_bytes;
 use state::nothing_lent;
 use state::run_line;
 

@@ -2,10 +2,9 @@
 use answers::Outcome;
 use answers::tell;
 use answers::unknown;
-use carrying_out::ask;
+use asking::ask;
 use carrying_out::change;
 use carrying_out::make;
-use carrying_out::parts::within;
 use requests::Lending;
 use requests::Lengths;
 use requests::Request;
@@ -14,6 +13,7 @@ use requests::read_request;
 use rules::Control;
 use script::lines::is_skipped;
 use script::output::flush;
+use script::parts::within;
 
 // How many words are lent of each part, and the record.
 pub struct State {

@@ -1,17 +1,16 @@
 -- Digits and numbers by places: a byte's value by its range, and one turn of reading a number. A number of m digits is below 16 ^ m,
 -- since each digit is below 16.
-use Prim.Native.Nat.{ℕ, zero, suc, _+_, _-_, _*_, _/_, _%_, _^_, _≤_, _<_}
+use Prim.Native.Nat.{ℕ, zero, suc, _+_, _-_, _*_, _^_, _≤_, _<_}
 use mathlib.Core.Path.{_≡_, refl, sym, ap, _∙_}
-use mathlib.Core.Bool.{Bool, true, false, _&&_}
-use mathlib.Core.Option.{Option, none, some}
-use mathlib.Core.List.{List, [], _∷_}
-use native.Mathlib.Nat.{pow-succ', mul-le-mul-right, mul-le-mul-left, mul-comm, mul-assoc, mul-one, one-le-pow, le-trans}
+use mathlib.Core.Bool.{Bool, true, false}
+use mathlib.Core.Option.{none, some}
+use mathlib.Core.List.{List}
+use native.Mathlib.Nat.{pow-succ', mul-le-mul-right, mul-le-mul-left, mul-assoc, mul-one, one-le-pow}
 use native.Mathlib.Numerals.{sub-one}
 use native.Mathlib.Omega.{arith}
 use native.Mathlib.Decide.{decLt}
 use borrow.Author.Tests.{lt-ltb, le-ltb, ltb-true, ltb-false}
 use lib.Dec.{ltb}
-use Rattle.laws.specs.Choice.{_⇒_∣_}
 use Rattle.laws.specs.Lists.{at}
 use Rattle.rules.specs.Image.{valueOf}
 use Rattle.scanning.specs.Places.{isDigit, digitValue, numberAt}

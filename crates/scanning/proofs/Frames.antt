@@ -1,23 +1,23 @@
 -- The frames of document 01, by places: reading digits, words or a frame from the bytes at a place gives what stands at that place, or
 -- nothing. By recursion on the number of digits and of words.
 use Prim.Native.Nat.{ℕ, zero, suc, _+_, _-_, _*_, _≤_, _<_}
-use mathlib.Core.Path.{_≡_, refl, sym, ap, _∙_}
+use mathlib.Core.Path.{_≡_, refl, ap, _∙_}
 use mathlib.Core.Bool.{Bool, true, false, _&&_, not}
 use mathlib.Core.Option.{Option, none, some}
-use mathlib.Core.List.{List, [], _∷_}
+use mathlib.Core.List.{List}
 use native.Mathlib.Nat.{add-zero}
-use native.Mathlib.Numerals.{sub-one, add-one}
+use native.Mathlib.Numerals.{add-one}
 use native.Mathlib.Omega.{arith}
 use native.Mathlib.Decide.{decLt}
 use borrow.Author.Tests.{le-leb, lt-leb}
-use lib.Dec.{leb, eqb}
-use lib.ListN.{length, drop, getD, drop-of-length-le, List·getD-eq-default}
-use lib.Seq.{drop-cons, drop-drop}
+use lib.Dec.{eqb}
+use lib.ListN.{length, drop, drop-of-length-le, List·getD-eq-default}
+use lib.Seq.{drop-cons}
 use Rattle.laws.specs.Choice.{_⇒_∣_}
 use Rattle.laws.specs.Lists.{at, allFrom}
 use Rattle.laws.proofs.Tests.{from-add, from-end}
 use Rattle.rules.specs.Image.{valueOf, digits, words, endFrame, readWords, readFrame, trimmed, partFits}
-use Rattle.scanning.specs.Places.{isDigit, digitValue, allDigits, numberAt, wordsAt, countAt, wordsOf, afterFrame, frameShape, frameFits}
+use Rattle.scanning.specs.Places.{isDigit, allDigits, numberAt, wordsAt, countAt, wordsOf, afterFrame, frameShape, frameFits}
 use Rattle.scanning.proofs.Digits.{below-digits, no-digit, has-value}
 
 -- ---- digits

@@ -5,4 +5,5 @@ pub mod lines;
 pub mod lists;
 pub mod numbers;
 pub mod output;
+pub mod parts;
 pub mod tokens;

@@ -1,5 +1,5 @@
 -- `allocation::good_words` meets its contract: each word passed is good, and the test over the words from i on is still the whole answer.
-use Prim.Native.Nat.{_+_, _-_, _<_, _≤_}
+use Prim.Native.Nat.{_-_, _≤_}
 use mathlib.Core.Path.{_≡_, sym, _∙_}
 use mathlib.Core.Bool.{true, _&&_}
 use native.Mathlib.Omega.{arith}

@@ -1,4 +1,4 @@
--- `access::assign` meets its contract: the first tests, and then what `assign_into` does.
+-- `assignment::assign` meets its contract: the first tests, and then what `assign_into` does.
 use Rattle.rules.specs.Calls.{assign}
 use Rattle.rules.specs.Memory.{lent}
 use Rattle.rules.specs.Refusals.{refused}

@@ -1,4 +1,4 @@
--- `access::assign_into` meets its contract: its tests are the definition's, in its order, and a field of a good record lies inside the heap.
+-- `assignment::assign_into` meets its contract: its tests are the definition's, in its order, and a field of a good record lies inside the heap.
 use native.Mathlib.Omega.{arith}
 use borrow.Author.Needs.{needs}
 use Rattle.assignment.proofs.Assigning.{Lies, lies, to-number, to-no-const, to-const, to-no-heap, to-raw, to-no-field, no-word, assigned}

@@ -1,9 +1,7 @@
 -- `chains::opens` meets its contract: the two tests are those of the definition.
-use mathlib.Core.Path.{_≡_, sym, ap, _∙_}
-use mathlib.Core.Bool.{_&&_}
-use Prim.Native.Nat.{_/_, _%_, _^_, _<_, _≤_}
+use mathlib.Core.Path.{sym}
+use Prim.Native.Nat.{_<_}
 use native.Mathlib.Omega.{arith}
-use borrow.Author.Needs.{needs}
 use Rattle.rules.proofs.Limits.{page-size}
 use Rattle.chains.proofs.Turns.{opens-off, opens-at}
 use Rattle.chains.proofs.opens.Statement.{statement}

@@ -1,9 +1,9 @@
 -- `chains::regions_chained` meets its contract. At each level what is left to test, with what the outer level has left, is the whole test, and
 -- the pages passed with those that are left are all pages.
-use mathlib.Core.Path.{_≡_, refl, sym, ap, _∙_}
+use mathlib.Core.Path.{_≡_, refl, sym, _∙_}
 use mathlib.Core.Bool.{true, _&&_}
 use mathlib.Core.Logic.{⊎-elim}
-use Prim.Native.Nat.{suc, _+_, _-_, _*_, _^_, _<_, _≤_}
+use Prim.Native.Nat.{suc, _+_, _-_, _^_, _≤_}
 use native.Mathlib.Omega.{arith}
 use borrow.Author.Tests.{not-true, not-false}
 use lib.Dec.{eqb}

@@ -1,5 +1,5 @@
--- `contents::const_field` meets its contract: each way in which the code decides is what the definition decides.
-use mathlib.Core.Path.{_≡_, sym, ap, _∙_}
+-- `constants::const_field` meets its contract: each way in which the code decides is what the definition decides.
+use mathlib.Core.Path.{sym, ap, _∙_}
 use borrow.Author.Needs.{needs}
 use Rattle.rules.specs.Words.{goodConst}
 use Rattle.constants.proofs.Constants.{field-heap, field-const, field-number}

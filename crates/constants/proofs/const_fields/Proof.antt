@@ -1,7 +1,7 @@
--- `contents::const_fields` meets its contract: at each level what is left to test, with what the outer level has left, is the whole test.
+-- `constants::const_fields` meets its contract: at each level what is left to test, with what the outer level has left, is the whole test.
 use mathlib.Core.Path.{_≡_, refl, sym, _∙_}
 use mathlib.Core.Bool.{true, _&&_}
-use Prim.Native.Nat.{_+_, _-_, _/_, _*_, _^_, _<_, _≤_}
+use Prim.Native.Nat.{_+_, _-_, _/_, _≤_}
 use native.Mathlib.Omega.{arith}
 use borrow.Author.Tests.{not-true, not-false}
 use lib.ListN.{length, getD}

@@ -1,11 +1,9 @@
--- `contents::consts_filled` meets its contract: the zeros after the values that are left are those after all values.
+-- `constants::consts_filled` meets its contract: the zeros after the values that are left are those after all values.
 use mathlib.Core.Path.{_≡_, refl, sym, _∙_}
 use mathlib.Core.Logic.{⊎-elim}
-use Prim.Native.Nat.{_+_, _-_, _*_, _^_, _<_, _≤_}
+use Prim.Native.Nat.{_-_}
 use native.Mathlib.Omega.{arith}
 use borrow.Author.Tests.{not-true, not-false}
-use lib.ListN.{length, getD}
-use lib.Seq.{slice}
 use Rattle.laws.specs.Lists.{zeros}
 use Rattle.contents.proofs.Turns.{Zeros, zeros-at-end, zeros-at-stop, zeros-step}
 use Rattle.constants.proofs.Constants.{filled-all}

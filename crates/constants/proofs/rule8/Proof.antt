@@ -1,6 +1,5 @@
--- `contents::rule8` meets its contract: its two parts are the definition's.
-use mathlib.Core.Path.{_≡_, sym, _∙_}
-use borrow.Author.Needs.{needs}
+-- `constants::rule8` meets its contract: its two parts are the definition's.
+use mathlib.Core.Path.{sym, _∙_}
 use borrow.Author.Tests.{not-true, not-false}
 use Rattle.constants.proofs.Constants.{eight-off, eight-at}
 use Rattle.constants.proofs.rule8.Statement.{statement}

@@ -1,4 +1,4 @@
--- `regions::due` meets its contract: the first tests, and then the one comparison.
+-- `due::due` meets its contract: the first tests, and then the one comparison.
 use borrow.Author.Needs.{needs}
 use Rattle.rules.specs.declared.Told.{Told}
 use Rattle.rules.specs.Calls.{due}

@@ -2,15 +2,15 @@
 use mathlib.Core.Path.{_≡_, refl, sym, _∙_}
 use mathlib.Core.Bool.{true, _&&_}
 use mathlib.Core.Logic.{⊎-elim}
-use Prim.Native.Nat.{_+_, _-_, _*_, _^_, _<_, _≤_}
+use Prim.Native.Nat.{_+_, _-_, _^_, _≤_}
 use native.Mathlib.Omega.{arith}
 use borrow.Author.Tests.{not-true, not-false}
-use lib.ListN.{length, getD}
+use lib.ListN.{length}
 use Rattle.laws.specs.Lists.{all, allFrom}
 use Rattle.laws.proofs.Tests.{from-end}
 use Rattle.rules.specs.Memory.{chain}
 use Rattle.rules.specs.Audit.{endsAt}
-use Rattle.rules.proofs.Limits.{Inside, page-here, page-size, pages-few}
+use Rattle.rules.proofs.Limits.{Inside, page-here, pages-few}
 use Rattle.rules.proofs.Nests.{Over, over-fuel, over-none, over-bad, pages-over}
 use Rattle.ends.proofs.Turns.{regionEnds, four-each, four-shut, four-open, four-on, four-at, four-off}
 use Rattle.ends.proofs.rule4.Statement.{statement}

@@ -1,14 +1,14 @@
 -- `ends::rule9` meets its contract: what is left to test from the present page on is the whole rule.
 use mathlib.Core.Path.{_≡_, refl, sym, _∙_}
 use mathlib.Core.Bool.{true, _&&_}
-use Prim.Native.Nat.{_+_, _-_, _*_, _^_, _<_, _≤_}
+use Prim.Native.Nat.{_-_, _^_, _≤_}
 use native.Mathlib.Omega.{arith}
 use borrow.Author.Tests.{not-true, not-false}
-use lib.ListN.{length, getD}
+use lib.ListN.{length}
 use Rattle.laws.specs.Lists.{all}
 use Rattle.rules.specs.Memory.{chain}
 use Rattle.rules.specs.Audit.{clean}
-use Rattle.rules.proofs.Limits.{Inside, page-here, page-size, pages-few}
+use Rattle.rules.proofs.Limits.{Inside, page-here, pages-few}
 use Rattle.rules.proofs.Nests.{over-fuel, over-none, over-bad, pages-over}
 use Rattle.ends.proofs.Turns.{nine-open, nine-go, nine-stop}
 use Rattle.ends.proofs.rule9.Statement.{statement}

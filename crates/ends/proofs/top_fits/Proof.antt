@@ -1,7 +1,6 @@
 -- `ends::top_fits` meets its contract: the two tests are those of the definition, and no sum wraps.
-use mathlib.Core.Path.{_≡_, sym}
+use mathlib.Core.Path.{sym}
 use native.Mathlib.Omega.{arith}
-use borrow.Author.Needs.{needs}
 use Rattle.rules.proofs.Limits.{page-size}
 use Rattle.ends.proofs.Turns.{top-low, top-is}
 use Rattle.ends.proofs.top_fits.Statement.{statement}

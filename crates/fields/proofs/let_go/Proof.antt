@@ -1,5 +1,5 @@
 -- `fields::let_go` meets its contract: the roots, then the fields of the regions below.
-use mathlib.Core.Path.{_≡_, sym, _∙_}
+use mathlib.Core.Path.{sym, _∙_}
 use borrow.Author.Tests.{not-true, not-false}
 use Rattle.fields.proofs.Turns.{go-off, go-at}
 use Rattle.fields.proofs.let_go.Statement.{statement}

@@ -1,5 +1,4 @@
 -- `fields::rule7` meets its contract: the roots are tested for what the rule says.
-use borrow.Author.Needs.{needs}
 use Rattle.rules.specs.Audit.{rule7}
 use Rattle.fields.specs.Passing.{passes}
 use Rattle.fields.proofs.rule7.Statement.{statement}

@@ -1,5 +1,5 @@
 -- `fields::word_passes` meets its contract: each case of what is wanted has its own test.
-use mathlib.Core.Path.{_≡_, sym, ap, _∙_}
+use mathlib.Core.Path.{sym, ap, _∙_}
 use mathlib.Core.Bool.{not}
 use borrow.Author.Needs.{needs}
 use Rattle.fields.proofs.Turns.{pass-good, pass-apart}

@@ -1,4 +1,4 @@
--- `release::give_back` meets its contract: the page is cleared, and where there was a last free page, its link is written.
+-- `giving::give_back` meets its contract: the page is cleared, and where there was a last free page, its link is written.
 use borrow.Author.Needs.{needs}
 use mathlib.Core.Path.{refl}
 use native.Mathlib.Omega.{arith}

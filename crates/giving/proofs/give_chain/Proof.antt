@@ -1,4 +1,4 @@
--- `release::give_chain` meets its contract: the loop goes along the links, and a turn is what `give_back` does.
+-- `giving::give_chain` meets its contract: the loop goes along the links, and a turn is what `give_back` does.
 use mathlib.Core.Path.{ap}
 use native.Mathlib.Omega.{arith}
 use Rattle.laws.specs.Lists.{at}

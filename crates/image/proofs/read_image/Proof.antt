@@ -1,6 +1,6 @@
 -- `image::read_image` meets its contract: the judgement is that of the definition, and a text that is well formed gives what filling leaves.
 use borrow.Author.Needs.{needs}
-use mathlib.Core.Path.{_≡_, sym, ap, _∙_}
+use mathlib.Core.Path.{sym, _∙_}
 use native.Mathlib.Omega.{arith}
 use borrow.Author.Tests.{not-true, not-false}
 use Rattle.reading.proofs.Wells.{judged-well, fit, fit-pages, read-short, read-filled, read-malformed}

@@ -1,4 +1,4 @@
--- `pages::common_test` meets its contract: it makes the tests of `common` one by one.
+-- `limits::common_test` meets its contract: it makes the tests of `common` one by one.
 use borrow.Author.Needs.{needs}
 use Rattle.laws.proofs.Tests.{tests}
 use Rattle.rules.specs.Refusals.{common}

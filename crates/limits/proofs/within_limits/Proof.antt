@@ -1,4 +1,4 @@
--- `pages::within_limits` meets its contract: it makes the tests of `limits` one by one, n before the shift by n.
+-- `limits::within_limits` meets its contract: it makes the tests of `limits` one by one, n before the shift by n.
 use borrow.Author.Needs.{needs}
 use native.Mathlib.Omega.{arith}
 use lib.Pow.{pow-pos}

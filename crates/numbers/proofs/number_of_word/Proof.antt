@@ -1,4 +1,4 @@
--- `values::number_of_word` meets its contract: the laws of Numbers read each answer's bits.
+-- `numbers::number_of_word` meets its contract: the laws of Numbers read each answer's bits.
 use borrow.Author.Needs.{needs}
 use Rattle.numbers.proofs.Numbers.{number-even, number-above, number-below}
 use Rattle.numbers.proofs.number_of_word.Statement.{statement}

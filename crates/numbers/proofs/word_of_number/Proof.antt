@@ -1,4 +1,4 @@
--- `values::word_of_number` meets its contract. On either side of 0 the code has the number n that the definition goes by, and the words
+-- `numbers::word_of_number` meets its contract. On either side of 0 the code has the number n that the definition goes by, and the words
 -- are equal since n is below 2^30.
 use borrow.Author.Needs.{needs}
 use Rattle.numbers.proofs.Numbers.{below, above, casts, word-below, word-too-low, word-above, word-too-high}

@@ -1,4 +1,4 @@
--- `pages::page_by_number` meets its contract: after the tests the page lies inside the heap, and its own words are handed back.
+-- `page_views::page_by_number` meets its contract: after the tests the page lies inside the heap, and its own words are handed back.
 use borrow.Author.Needs.{needs}
 use Prim.Native.Nat.{_*_, _^_}
 use mathlib.Core.Path.{refl}

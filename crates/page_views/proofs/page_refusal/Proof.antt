@@ -1,4 +1,4 @@
--- `pages::page_refusal` meets its contract: the first tests, and then the one test of its own.
+-- `page_views::page_refusal` meets its contract: the first tests, and then the one test of its own.
 use borrow.Author.Needs.{needs}
 use Rattle.laws.proofs.Tests.{tests}
 use Rattle.rules.specs.Calls.{pageRefusal}

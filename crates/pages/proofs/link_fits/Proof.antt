@@ -1,5 +1,4 @@
 -- `pages::link_fits` meets its contract: the page lies inside the heap, so that its link can be read, and the tests are those of `linkFits`.
-use borrow.Author.Needs.{needs}
 use mathlib.Core.Path.{refl}
 use native.Mathlib.Omega.{arith}
 use Rattle.rules.specs.Memory.{link}

@@ -1,6 +1,5 @@
 -- `pages::page_words` meets its contract: n is at most 8, so the shift drops no bit.
 use borrow.Author.Needs.{needs}
-use Prim.Native.Nat.{_≤_, _<_, _+_, _^_}
 use native.Mathlib.Omega.{arith}
 use mathlib.Core.Path.{_∙_}
 use native.Mathlib.Nat.{one-mul}

@@ -1,4 +1,4 @@
--- `allocation::append_page` meets its contract: it makes the three writes of the contract, in their order.
+-- `placing::append_page` meets its contract: it makes the three writes of the contract, in their order.
 use borrow.Author.Needs.{needs}
 use mathlib.Core.Path.{refl}
 use native.Mathlib.Omega.{arith}

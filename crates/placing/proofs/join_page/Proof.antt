@@ -1,4 +1,4 @@
--- `allocation::join_page` meets its contract: the page before is the one that ends at e, and the new one lies inside the heap.
+-- `placing::join_page` meets its contract: the page before is the one that ends at e, and the new one lies inside the heap.
 use mathlib.Core.Path.{refl, _∙_}
 use native.Mathlib.Omega.{arith}
 use Rattle.rules.proofs.Limits.{page-number, page-inside}

@@ -1,4 +1,4 @@
--- `allocation::put_further` meets its contract: there is no page, or one with a link that does not fit; or the page is taken, joined and filled.
+-- `placing::put_further` meets its contract: there is no page, or one with a link that does not fit; or the page is taken, joined and filled.
 use borrow.Author.Needs.{needs}
 use Prim.Native.Nat.{_-_}
 use mathlib.Core.Path.{_≡_, sym, ap, _∙_}

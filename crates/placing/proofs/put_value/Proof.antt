@@ -1,4 +1,4 @@
--- `allocation::put_value` meets its contract: it fits before e, or it goes into a page more.
+-- `placing::put_value` meets its contract: it fits before e, or it goes into a page more.
 use Prim.Native.Nat.{suc, _+_, _≤_}
 use mathlib.Core.Path.{sym}
 use mathlib.Core.List.{_∷_}

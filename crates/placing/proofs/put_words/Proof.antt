@@ -1,4 +1,4 @@
--- `allocation::put_words` meets its contract: i words are copied, and the rest is as it was.
+-- `placing::put_words` meets its contract: i words are copied, and the rest is as it was.
 use Prim.Native.Nat.{_+_, _-_, _<_, _≤_}
 use mathlib.Core.Path.{_≡_, refl, ap, _∙_}
 use native.Mathlib.Omega.{arith}

@@ -1,6 +1,6 @@
--- `allocation::store_value` meets its contract: the header and then the words are the value at a, and a moves past them.
+-- `placing::store_value` meets its contract: the header and then the words are the value at a, and a moves past them.
 use borrow.Author.Needs.{needs}
-use Prim.Native.Nat.{suc, _+_, _≤_, _<_}
+use Prim.Native.Nat.{suc, _+_}
 use mathlib.Core.Path.{_≡_, ap, _∙_}
 use native.Mathlib.Omega.{arith}
 use lib.ListN.{length, length-set}

@@ -2,7 +2,7 @@
 use Prim.Native.Nat.{_+_, _*_, _-_, _^_, _≤_}
 use mathlib.Core.Path.{_≡_, refl, sym, ap, _∙_}
 use native.Mathlib.Omega.{arith}
-use lib.ListN.{length, drop, length-set}
+use lib.ListN.{length}
 use lib.Seq.{sets}
 use native.Mathlib.Nat.{zero-mul, le-trans}
 use Rattle.laws.proofs.Writes.{sets-whole}

@@ -1,10 +1,10 @@
 -- `reading::fill_part` meets its contract: a turn stores the next word, and storing the words that are left makes the whole.
-use Prim.Native.Nat.{_+_, _*_, _-_, _≤_, _<_}
+use Prim.Native.Nat.{_+_, _-_, _≤_, _<_}
 use mathlib.Core.Path.{_≡_, refl, sym, ap, _∙_}
 use native.Mathlib.Omega.{arith}
 use lib.ListN.{length, drop, length-set}
 use lib.Seq.{sets}
-use Rattle.laws.specs.Lists.{at, padded}
+use Rattle.laws.specs.Lists.{padded}
 use Rattle.scanning.specs.Places.{wordsAt}
 use Rattle.reading.proofs.Fills.{part-turn, part-end}
 use Rattle.reading.proofs.fill_part.Statement.{statement}

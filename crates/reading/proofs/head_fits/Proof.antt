@@ -1,6 +1,5 @@
 -- `reading::head_fits` meets its contract: the tests are the definition's, in its order.
 use borrow.Author.Needs.{needs}
-use mathlib.Core.Path.{_≡_, sym, _∙_}
 use Rattle.laws.proofs.Tests.{tests}
 use Rattle.rules.specs.Image.{headFits}
 use Rattle.reading.proofs.head_fits.Statement.{statement}

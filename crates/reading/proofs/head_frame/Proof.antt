@@ -1,7 +1,7 @@
 -- `reading::head_frame` meets its contract: the shape first, then the count, then the limits.
 use borrow.Author.Needs.{needs}
-use mathlib.Core.Path.{_≡_, sym, ap, _∙_}
-use borrow.Author.Tests.{lt-leb, le-leb, eq-eqb, ne-eqb, not-true, not-false}
+use mathlib.Core.Path.{sym, ap, _∙_}
+use borrow.Author.Tests.{not-true, not-false}
 use Rattle.rules.specs.Image.{headFits}
 use Rattle.scanning.specs.Places.{frameFits}
 use Rattle.reading.specs.Parts.{headList}

@@ -1,6 +1,6 @@
 -- `reading::judge` meets its contract: a text is what its first frame is, and then what the frames behind it are.
 use borrow.Author.Needs.{needs}
-use mathlib.Core.Path.{_≡_, sym, ap, _∙_}
+use mathlib.Core.Path.{sym, ap, _∙_}
 use borrow.Author.Tests.{not-true, not-false}
 use Rattle.reading.proofs.Heads.{onRest, head-fits, judged-stop, judged-on}
 use Rattle.reading.proofs.judge.Statement.{statement}

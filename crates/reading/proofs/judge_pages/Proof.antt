@@ -1,9 +1,9 @@
 -- `reading::judge_pages` meets its contract: a turn passes one page's frame, and the frames that are left decide as the whole does.
 use borrow.Author.Needs.{needs}
 use Prim.Native.Nat.{_+_, _*_, _-_, _≤_}
-use mathlib.Core.Path.{_≡_, refl, sym, ap, _∙_}
+use mathlib.Core.Path.{_≡_, refl, sym, _∙_}
 use native.Mathlib.Omega.{arith}
-use lib.ListN.{length, drop, replicate}
+use lib.ListN.{drop, replicate}
 use Rattle.rules.specs.Image.{expected, readFrames}
 use Rattle.reading.specs.Parts.{restOf}
 use Rattle.reading.proofs.Lines.{step-far, page-next, page-stop, pages-more, pages-over}

@@ -1,7 +1,7 @@
 -- `reading::judge_parts` meets its contract: each frame is judged where the last one ends, and the pages follow.
 use borrow.Author.Needs.{needs}
 use Prim.Native.Nat.{_^_}
-use mathlib.Core.Path.{_≡_, sym, ap, _∙_}
+use mathlib.Core.Path.{sym, _∙_}
 use native.Mathlib.Omega.{arith}
 use Rattle.rules.specs.Image.{layout}
 use Rattle.reading.proofs.Lines.{step-far, rest-next, rest-stop, page-sized}

@@ -1,6 +1,5 @@
 -- `reading::lengths_fit` meets its contract: the tests are the definition's, in its order.
 use borrow.Author.Needs.{needs}
-use mathlib.Core.Path.{_≡_, sym, _∙_}
 use Rattle.laws.proofs.Tests.{tests}
 use Rattle.reading.specs.Parts.{lengthsFit}
 use Rattle.reading.proofs.lengths_fit.Statement.{statement}

@@ -1,6 +1,5 @@
 -- `reading::read_head` meets its contract: word i of the first frame begins at place 6 + 8 i.
 use borrow.Author.Needs.{needs}
-use mathlib.Core.Path.{_≡_, sym, _∙_}
 use Rattle.scanning.specs.Places.{wordsAt}
 use Rattle.reading.proofs.read_head.Statement.{statement}
 use Rattle.reading.proofs.read_head.Tie as tie

@@ -1,6 +1,6 @@
 -- `reading::word_at` meets its contract: a word is eight digits from its own place, and there is none behind the last.
 use borrow.Author.Needs.{needs}
-use mathlib.Core.Path.{_≡_, sym, _∙_}
+use mathlib.Core.Path.{sym, _∙_}
 use Rattle.reading.proofs.Fills.{words-outside, words-inside}
 use Rattle.reading.proofs.word_at.Statement.{statement}
 use Rattle.reading.proofs.word_at.Tie as tie

@@ -1,7 +1,6 @@
 -- `regions::push` meets its contract: after the tests a page is there to be taken, it lies inside the heap, and what is taken and written is what
 -- `pushOn` says of it.
 use borrow.Author.Needs.{needs}
-use Prim.Native.Nat.{_+_, _*_, _^_, _<_, _≤_}
 use native.Mathlib.Omega.{arith}
 use native.Mathlib.Numerals.{add-one}
 use borrow.Author.Tests.{lt-leb, ne-eqb}

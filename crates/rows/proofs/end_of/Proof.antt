@@ -1,5 +1,5 @@
 -- `rows::end_of` meets its contract: the row lies inside the table, and a word of it is below 2^32.
-use Prim.Native.Nat.{_+_, _*_}
+use Prim.Native.Nat.{_*_}
 use native.Mathlib.Omega.{arith}
 use mathlib.Core.Path.{refl}
 use borrow.Author.Needs.{needs}

@@ -1,4 +1,4 @@
--- `copying::next_page` meets its contract: each callee is one of the definition's steps.
+-- `scan_stack::next_page` meets its contract: each callee is one of the definition's steps.
 use native.Mathlib.Omega.{arith}
 use borrow.Author.Needs.{needs}
 use Rattle.scan_stack.proofs.next_page.Statement.{statement}

@@ -1,4 +1,4 @@
--- `copying::next_scan` meets its contract: it makes the definition's tests in their order; the bits below the page size are the remainder.
+-- `scan_stack::next_scan` meets its contract: it makes the definition's tests in their order; the bits below the page size are the remainder.
 use Prim.Native.Nat.{_+_, _/_}
 use native.Mathlib.Omega.{arith}
 use borrow.Author.Tests.{eq-eqb, ne-eqb}

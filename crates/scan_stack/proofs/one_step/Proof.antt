@@ -1,4 +1,4 @@
--- `copying::one_step` meets its contract: the test for the region's a comes first, then what it calls is what the definition runs.
+-- `scan_stack::one_step` meets its contract: the test for the region's a comes first, then what it calls is what the definition runs.
 use borrow.Author.Tests.{eq-eqb, ne-eqb, not-true, not-false}
 use Rattle.motion.specs.Run.{stepOn, step as stepDef}
 use borrow.Author.Needs.{needs}

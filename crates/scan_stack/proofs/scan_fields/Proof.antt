@@ -1,4 +1,4 @@
--- `copying::scan_fields` meets its contract: the loop runs `each`, and a turn is what `evacuate` does.
+-- `scan_stack::scan_fields` meets its contract: the loop runs `each`, and a turn is what `evacuate` does.
 use Prim.Native.Nat.{_+_}
 use mathlib.Core.Path.{_≡_, refl, sym, _∙_}
 use native.Mathlib.Omega.{arith}

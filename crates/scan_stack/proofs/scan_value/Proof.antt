@@ -1,4 +1,4 @@
--- `copying::scan_value` meets its contract: only a record's fields are looked at.
+-- `scan_stack::scan_value` meets its contract: only a record's fields are looked at.
 use borrow.Author.Tests.{eq-eqb}
 use Rattle.laws.proofs.Tests.{tests}
 use Rattle.motion.specs.Run.{scanOf}

@@ -1,4 +1,4 @@
--- `copying::work` meets its contract: the loop runs the definition's, and a turn is what `one_step` does.
+-- `scan_stack::work` meets its contract: the loop runs the definition's, and a turn is what `one_step` does.
 use Prim.Native.Nat.{_<_}
 use mathlib.Core.Path.{_≡_, refl, sym, _∙_}
 use native.Mathlib.Omega.{arith}

@@ -1,11 +1,10 @@
 -- `scanning::all_digits` meets its contract: a turn passes one digit, and the digits that are left decide as the whole does.
 use borrow.Author.Needs.{needs}
-use Prim.Native.Nat.{_+_, _≤_}
+use Prim.Native.Nat.{_+_}
 use mathlib.Core.Path.{_≡_, refl, sym, ap, _∙_}
-use mathlib.Core.Bool.{_&&_}
 use native.Mathlib.Omega.{arith}
 use borrow.Author.Tests.{not-true, not-false}
-use Rattle.laws.proofs.Tests.{from-go, from-stop, from-next, from-end}
+use Rattle.laws.proofs.Tests.{from-stop, from-next, from-end}
 use Rattle.scanning.specs.Places.{allDigits, isDigit}
 use Rattle.scanning.proofs.all_digits.Statement.{statement}
 use Rattle.scanning.proofs.all_digits.Tie as tie

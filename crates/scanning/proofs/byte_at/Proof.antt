@@ -1,6 +1,6 @@
 -- `scanning::byte_at` meets its contract: a place outside reads 0.
 use borrow.Author.Needs.{needs}
-use mathlib.Core.Path.{_≡_, sym}
+use mathlib.Core.Path.{sym}
 use lib.ListN.{List·getD-eq-default}
 use Rattle.scanning.proofs.byte_at.Statement.{statement}
 use Rattle.scanning.proofs.byte_at.Tie as tie

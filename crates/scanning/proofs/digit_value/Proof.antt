@@ -1,6 +1,6 @@
 -- `scanning::digit_value` meets its contract: the tests part the bytes into the ranges of the definition.
 use borrow.Author.Needs.{needs}
-use mathlib.Core.Path.{_≡_, sym}
+use mathlib.Core.Path.{sym}
 use native.Mathlib.Omega.{arith}
 use Rattle.scanning.proofs.Digits.{below-digits, a-digit, between-digits, a-letter, above-digits, no-digit, has-value}
 use Rattle.scanning.proofs.digit_value.Statement.{statement}

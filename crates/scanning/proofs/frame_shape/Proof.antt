@@ -1,6 +1,6 @@
 -- `scanning::frame_shape` meets its contract: the tests are the definition's, in its order.
 use borrow.Author.Needs.{needs}
-use mathlib.Core.Path.{_≡_, sym, _∙_}
+use mathlib.Core.Path.{sym, _∙_}
 use borrow.Author.Tests.{eq-eqb, ne-eqb, not-true, not-false}
 use Rattle.scanning.specs.Places.{frameShape}
 use Rattle.scanning.proofs.frame_shape.Statement.{statement}

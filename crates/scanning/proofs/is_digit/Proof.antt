@@ -1,7 +1,5 @@
 -- `scanning::is_digit` meets its contract: the tests part the bytes into the ranges of the definition.
-use borrow.Author.Needs.{needs}
-use mathlib.Core.Path.{_≡_, sym}
-use native.Mathlib.Omega.{arith}
+use mathlib.Core.Path.{sym}
 use Rattle.scanning.proofs.Digits.{below-digits, a-digit, between-digits, no-digit, has-value, last-digits}
 use Rattle.scanning.proofs.is_digit.Statement.{statement}
 use Rattle.scanning.proofs.is_digit.Tie as tie

@@ -1,6 +1,6 @@
 -- `scanning::part_fits` meets its contract: the last word decides, where there is one.
 use borrow.Author.Needs.{needs}
-use mathlib.Core.Path.{_≡_, sym, ap, _∙_}
+use mathlib.Core.Path.{sym, ap, _∙_}
 use mathlib.Core.Bool.{not}
 use lib.Dec.{eqb}
 use Rattle.scanning.proofs.Frames.{fits-long, fits-none, fits-last}

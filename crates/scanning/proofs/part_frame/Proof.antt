@@ -1,6 +1,6 @@
 -- `scanning::part_frame` meets its contract: shape and words are tested as the definition tests them.
 use borrow.Author.Needs.{needs}
-use mathlib.Core.Path.{_≡_, sym, ap, _∙_}
+use mathlib.Core.Path.{sym, _∙_}
 use borrow.Author.Tests.{not-true, not-false}
 use Rattle.scanning.specs.Places.{frameStep, frameFits}
 use Rattle.scanning.proofs.part_frame.Statement.{statement}

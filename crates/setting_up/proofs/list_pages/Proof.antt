@@ -1,5 +1,5 @@
--- `regions::list_pages` meets its contract. The invariant is `Linked`: the pages below k are linked, and from page k on all words are 0.
-use Prim.Native.Nat.{_+_, _*_, _/_, _^_, _<_, _≤_}
+-- `setting_up::list_pages` meets its contract. The invariant is `Linked`: the pages below k are linked, and from page k on all words are 0.
+use Prim.Native.Nat.{_+_, _/_, _^_, _<_}
 use mathlib.Core.Path.{_≡_, refl, sym}
 use native.Mathlib.Omega.{arith}
 use lib.ListN.{length, length-set}

@@ -1,7 +1,7 @@
--- `regions::set_up` meets its contract: within the limits the cleared heap is one that `list_pages` can list, and the last page has number N - 1.
+-- `setting_up::set_up` meets its contract: within the limits the cleared heap is one that `list_pages` can list, and the last page has number N - 1.
 use borrow.Author.Needs.{needs}
-use Prim.Native.Nat.{suc, _+_, _-_, _*_, _/_, _^_, _<_, _≤_}
-use mathlib.Core.Path.{_≡_, refl, sym, ap, _∙_}
+use Prim.Native.Nat.{suc, _-_, _/_, _^_}
+use mathlib.Core.Path.{_≡_, sym, ap, _∙_}
 use native.Mathlib.Omega.{arith}
 use borrow.Author.Tests.{not-false}
 use lib.Pow.{shr-le}

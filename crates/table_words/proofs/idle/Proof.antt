@@ -1,7 +1,6 @@
--- `chains::idle` meets its contract: what is left to test, from the present region on, is the whole test.
-use mathlib.Core.Path.{_≡_, refl, sym, ap, _∙_}
-use mathlib.Core.Bool.{_&&_}
-use Prim.Native.Nat.{_+_, _-_, _*_, _<_, _≤_}
+-- `table_words::idle` meets its contract: what is left to test, from the present region on, is the whole test.
+use mathlib.Core.Path.{_≡_, refl, sym, _∙_}
+use Prim.Native.Nat.{_+_, _-_}
 use native.Mathlib.Omega.{arith}
 use lib.Dec.{eqb}
 use Rattle.laws.specs.Lists.{allFrom}

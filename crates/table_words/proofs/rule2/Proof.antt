@@ -1,5 +1,5 @@
--- `chains::rule2` meets its contract: the two tests are the definition's, and R is at most 64 by the first tests.
-use mathlib.Core.Path.{_≡_, sym, _∙_}
+-- `table_words::rule2` meets its contract: the two tests are the definition's, and R is at most 64 by the first tests.
+use mathlib.Core.Path.{sym, _∙_}
 use native.Mathlib.Omega.{arith}
 use borrow.Author.Tests.{not-true, not-false}
 use Rattle.table_words.proofs.Two.{two-off, two-at}

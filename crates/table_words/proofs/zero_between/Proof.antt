@@ -1,7 +1,7 @@
--- `chains::zero_between` meets its contract: what is left to test, from the present address on, is the whole test.
+-- `table_words::zero_between` meets its contract: what is left to test, from the present address on, is the whole test.
 use mathlib.Core.Path.{_≡_, sym, _∙_}
 use mathlib.Core.Bool.{true, _&&_}
-use Prim.Native.Nat.{_-_, _<_, _≤_}
+use Prim.Native.Nat.{_-_}
 use native.Mathlib.Omega.{arith}
 use lib.Seq.{slice}
 use Rattle.laws.specs.Lists.{zeros}

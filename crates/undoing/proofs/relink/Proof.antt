@@ -1,4 +1,4 @@
--- `ending::relink` meets its contract: the page is cleared, then its link written.
+-- `undoing::relink` meets its contract: the page is cleared, then its link written.
 use Rattle.rules.proofs.Limits.{page-number}
 use borrow.Author.Needs.{needs}
 use Rattle.undoing.proofs.relink.Statement.{statement}

@@ -1,4 +1,4 @@
--- `ending::relink_all` meets its contract: the loop runs `along` over the links that the origin words have kept.
+-- `undoing::relink_all` meets its contract: the loop runs `along` over the links that the origin words have kept.
 use Prim.Native.Nat.{_<_, _^_, _/_}
 use mathlib.Core.Path.{_≡_, refl, sym, _∙_}
 use native.Mathlib.Omega.{arith}

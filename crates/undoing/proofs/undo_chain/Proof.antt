@@ -1,4 +1,4 @@
--- `ending::undo_chain` meets its contract: the loop runs `along`, and a turn is what `undo_page` does.
+-- `undoing::undo_chain` meets its contract: the loop runs `along`, and a turn is what `undo_page` does.
 use Prim.Native.Nat.{suc}
 use mathlib.Core.Path.{_≡_, refl, sym, _∙_}
 use native.Mathlib.Omega.{arith}

@@ -1,4 +1,4 @@
--- `ending::undo_headers` meets its contract: the loop runs `steps`, and a turn is what `undo_chain` does.
+-- `undoing::undo_headers` meets its contract: the loop runs `steps`, and a turn is what `undo_chain` does.
 use Prim.Native.Nat.{_+_}
 use mathlib.Core.Path.{_≡_, refl, sym, _∙_}
 use native.Mathlib.Omega.{arith}

@@ -1,4 +1,4 @@
--- `ending::undo_page` meets its contract: the loop runs the definition's, and a turn is what `undo_value` does.
+-- `undoing::undo_page` meets its contract: the loop runs the definition's, and a turn is what `undo_value` does.
 use mathlib.Core.Path.{_≡_, refl, sym, _∙_}
 use native.Mathlib.Omega.{arith}
 use lib.ListN.{length}

@@ -1,4 +1,4 @@
--- `ending::undo_value` meets its contract: a header is passed, and a forward is replaced by the first word of the copy.
+-- `undoing::undo_value` meets its contract: a header is passed, and a forward is replaced by the first word of the copy.
 use Rattle.laws.proofs.Tests.{tests}
 use Rattle.motion.specs.Whole.{undoOf}
 use borrow.Author.Needs.{needs}

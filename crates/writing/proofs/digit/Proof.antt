@@ -1,6 +1,5 @@
 -- `writing::digit` meets its contract: both make the same test.
 use borrow.Author.Needs.{needs}
-use lib.Dec.{ltb}
 use Rattle.laws.proofs.Tests.{tests}
 use Rattle.rules.specs.Image.{digitOf}
 use Rattle.writing.proofs.digit.Statement.{statement}

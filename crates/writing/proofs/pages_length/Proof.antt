@@ -1,7 +1,6 @@
 -- `writing::pages_length` meets its contract: a turn adds a page's frame, and what was added with what is left is the whole.
-use borrow.Author.Needs.{needs}
-use Prim.Native.Nat.{_+_, _*_, _/_, _^_, _≤_}
-use mathlib.Core.Path.{_≡_, refl, ap, _∙_}
+use Prim.Native.Nat.{_+_, _*_, _^_, _≤_}
+use mathlib.Core.Path.{_≡_, ap}
 use native.Mathlib.Nat.{div-le-self}
 use native.Mathlib.Omega.{arith}
 use lib.ListN.{length}

@@ -1,7 +1,7 @@
 -- `writing::text_length` meets its contract: the text is four frames and the pages', and each is short.
 use borrow.Author.Needs.{needs}
 use Prim.Native.Nat.{_*_, _^_}
-use mathlib.Core.Path.{_≡_, refl, ap, _∙_}
+use mathlib.Core.Path.{ap}
 use native.Mathlib.Nat.{sub-zero, div-le-self}
 use native.Mathlib.Omega.{arith}
 use lib.ListN.{length, take}

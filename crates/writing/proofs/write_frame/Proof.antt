@@ -1,8 +1,7 @@
 -- `writing::write_frame` meets its contract: kind, count, words and newline follow one another, each where the last one ends.
 use borrow.Author.Needs.{needs}
-use mathlib.Core.Path.{_≡_, _∙_}
 use native.Mathlib.Omega.{arith}
-use lib.ListN.{length, length-set}
+use lib.ListN.{length-set}
 use Rattle.rules.proofs.Frames.{frame-sets}
 use Rattle.writing.proofs.write_frame.Statement.{statement}
 use Rattle.writing.proofs.write_frame.Tie as tie

@@ -1,6 +1,5 @@
 -- `writing::write_pages` meets its contract: a turn writes the next page's frame, and writing the frames that are left makes the whole.
-use borrow.Author.Needs.{needs}
-use Prim.Native.Nat.{_+_, _*_, _/_, _^_, _≤_}
+use Prim.Native.Nat.{_+_, _^_, _≤_}
 use mathlib.Core.Path.{_≡_, refl, sym, ap, _∙_}
 use native.Mathlib.Nat.{div-le-self}
 use native.Mathlib.Omega.{arith}

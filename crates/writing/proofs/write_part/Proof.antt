@@ -1,10 +1,10 @@
 -- `writing::write_part` meets its contract: the first words that stay are the part trimmed.
 use borrow.Author.Needs.{needs}
-use mathlib.Core.Path.{_≡_, _∙_, ap}
+use mathlib.Core.Path.{_∙_, ap}
 use native.Mathlib.Omega.{arith}
 use lib.ListN.{length}
 use lib.Seq.{sets}
-use Rattle.rules.specs.Image.{frame, trim}
+use Rattle.rules.specs.Image.{frame}
 use Rattle.rules.proofs.Frames.{length-trim, trim-part}
 use Rattle.writing.proofs.write_part.Statement.{statement}
 use Rattle.writing.proofs.write_part.Tie as tie

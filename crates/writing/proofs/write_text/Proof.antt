@@ -1,7 +1,7 @@
 -- `writing::write_text` meets its contract: each frame begins where the last one ends, and the last ends where the text does.
 use borrow.Author.Needs.{needs}
 use Prim.Native.Nat.{_*_, _^_}
-use mathlib.Core.Path.{_≡_, refl, ap, _∙_}
+use mathlib.Core.Path.{ap}
 use native.Mathlib.Nat.{sub-zero, div-le-self}
 use native.Mathlib.Omega.{arith}
 use lib.ListN.{length, take}

@@ -1,6 +1,6 @@
 -- `writing::write_words` meets its contract: a turn stores the next word's digits, and storing the words that are left makes the whole.
 use Prim.Native.Nat.{_+_, _-_, _*_, _≤_}
-use mathlib.Core.Path.{_≡_, refl, sym, ap, _∙_}
+use mathlib.Core.Path.{_≡_, refl, sym, _∙_}
 use native.Mathlib.Omega.{arith}
 use lib.ListN.{length, drop}
 use lib.Seq.{sets}

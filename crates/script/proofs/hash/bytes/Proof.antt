@@ -1,4 +1,4 @@
--- `hash::bytes` is safe and ends: i counts up to the part's end.
+-- `script::hash::bytes` is safe and ends: i counts up to the part's end.
 use Prim.Native.Nat.{_-_, _≤_}
 use borrow.Author.Needs.{needs}
 use Rattle.script.proofs.hash.bytes.Statement.{statement}

@@ -1,8 +1,8 @@
--- `hash::times_prime` is the product modulo 2^64: with h = high * 2^32 + low, what the upper half carries past 2^64 is dropped.
+-- `script::hash::times_prime` is the product modulo 2^64: with h = high * 2^32 + low, what the upper half carries past 2^64 is dropped.
 use Prim.Native.Nat.{ℕ, _+_, _*_, _/_, _%_, _^_, _<_}
-use mathlib.Core.Path.{_≡_, refl, sym, ap, _∙_}
+use mathlib.Core.Path.{_≡_}
 use native.Mathlib.Omega.{arith}
-use native.Mathlib.Nat.{div-add-mod', mod-lt, mod-eq-of-lt, mul-add-mod-self-right}
+use native.Mathlib.Nat.{mod-eq-of-lt, mul-add-mod-self-right}
 use borrow.Author.Needs.{needs}
 use Rattle.script.proofs.hash.times_prime.Statement.{statement}
 use Rattle.script.proofs.hash.times_prime.Tie as tie

@@ -1,4 +1,4 @@
--- `lines::is_blank` is safe and ends: i nears the line's end.
+-- `script::lines::is_blank` is safe and ends: i nears the line's end.
 use Prim.Native.Nat.{_-_}
 use lib.ListN.{length}
 use borrow.Author.Needs.{needs}

@@ -1,4 +1,4 @@
--- `lines::next_line` is safe and ends: the turns are counted down, and the chunk and the line keep their lengths.
+-- `script::lines::next_line` is safe and ends: the turns are counted down, and the chunk and the line keep their lengths.
 use mathlib.Core.Path.{_≡_}
 use lib.ListN.{length}
 use borrow.Author.Needs.{needs}

@@ -1,4 +1,4 @@
--- `lines::take` is safe and ends: from nears the chunk's end, and the line keeps its length.
+-- `script::lines::take` is safe and ends: from nears the chunk's end, and the line keeps its length.
 use Prim.Native.Nat.{_-_}
 use mathlib.Core.Path.{_≡_}
 use lib.ListN.{length}

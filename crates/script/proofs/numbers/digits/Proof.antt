@@ -1,4 +1,4 @@
--- `numbers::digits` is safe and ends: at nears the line's end, and the number stays at most 2^32.
+-- `script::numbers::digits` is safe and ends: at nears the line's end, and the number stays at most 2^32.
 use Prim.Native.Nat.{_-_, _≤_}
 use lib.ListN.{length}
 use borrow.Author.Needs.{needs}

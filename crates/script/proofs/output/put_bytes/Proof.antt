@@ -1,4 +1,4 @@
--- `output::put_bytes` is safe and ends: i counts up to the text's end, and the buffer keeps its length.
+-- `script::output::put_bytes` is safe and ends: i counts up to the text's end, and the buffer keeps its length.
 use Prim.Native.Nat.{_-_, _≤_}
 use mathlib.Core.Path.{_≡_}
 use lib.ListN.{length}

@@ -1,4 +1,4 @@
--- `output::put_words` is safe and ends: i counts up to the words' end, and the buffer keeps its length.
+-- `script::output::put_words` is safe and ends: i counts up to the words' end, and the buffer keeps its length.
 use Prim.Native.Nat.{_-_, _≤_}
 use mathlib.Core.Path.{_≡_}
 use lib.ListN.{length}

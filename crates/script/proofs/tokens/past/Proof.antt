@@ -1,4 +1,4 @@
--- `tokens::past` is safe and ends: at nears the line's end.
+-- `script::tokens::past` is safe and ends: at nears the line's end.
 use Prim.Native.Nat.{_-_}
 use lib.ListN.{length}
 use borrow.Author.Needs.{needs}

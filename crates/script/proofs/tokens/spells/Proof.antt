@@ -1,4 +1,4 @@
--- `tokens::spells` is safe and ends: what is left of the name falls, and the line is long enough for it.
+-- `script::tokens::spells` is safe and ends: what is left of the name falls, and the line is long enough for it.
 use Prim.Native.Nat.{_≤_}
 use lib.ListN.{length}
 use borrow.Author.Needs.{needs}

@@ -1,9 +1,9 @@
--- `carrying_out::write` is safe: the bytes are lent as many as the array has.
+-- `asking::write` is safe: the bytes are lent as many as the array has.
 use Prim.Native.Nat.{ℕ}
 use mathlib.Core.Path.{sym}
 use lib.ListN.{length-replicate}
-use Rattle.carrying_out.proofs.write.Statement.{statement}
-use Rattle.carrying_out.proofs.write.Tie as tie
+use Rattle.asking.proofs.write.Statement.{statement}
+use Rattle.asking.proofs.write.Tie as tie
 
 slice-aggregate-write-in : tie.Need-slice-aggregate-write-in
 slice-aggregate-write-in c = sym (length-replicate {A = ℕ} 262144 122)

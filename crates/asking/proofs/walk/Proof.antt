@@ -1,10 +1,10 @@
--- `carrying_out::walk` is safe: the words that are read are lent as many as the array has, before and after.
+-- `asking::walk` is safe: the words that are read are lent as many as the array has, before and after.
 use Prim.Native.Nat.{ℕ}
 use mathlib.Core.Path.{sym, _∙_}
 use lib.ListN.{length-replicate}
 use borrow.Author.Needs.{needs}
-use Rattle.carrying_out.proofs.walk.Statement.{statement}
-use Rattle.carrying_out.proofs.walk.Tie as tie
+use Rattle.asking.proofs.walk.Statement.{statement}
+use Rattle.asking.proofs.walk.Tie as tie
 
 slice-aggregate-read-decimals : tie.Need-slice-aggregate-read-decimals
 slice-aggregate-read-decimals c = sym (length-replicate {A = ℕ} 65536 0)
