@@ -1,8 +1,8 @@
 // Compares the collector with a second one, independent in method, on many heaps made at random, and with the answers of outside images.
-mod files;
 mod report;
 
 ghost use Prim.Native.Nat.{_≤_};
+use outside_images::image_of;
 use rules::Control;
 use samples::chance;
 use samples::making::make;
@@ -83,7 +83,7 @@ fn all_samples(most: u32, consts: &[u32], sums: &mut [u32]) {
 fn all_images(sums: &mut [u32]) {
     let mut i: u32 = 0;
     while i < 1000 {
-        if !files::image_of(i, sums) {
+        if !image_of(i, sums) {
             return;
         }
         i += 1;

@@ -10,8 +10,8 @@
 use crate::changing;
 use crate::looking;
 use collection::collect;
+use recipes::heaps;
 use rules::Control;
-use telling::heaps;
 use telling::say;
 
 // The record of the heap that is asked: of the one that a recipe makes, or of that one collected. Parts that are to be set up have none.

@@ -1,7 +1,7 @@
 // Questions that may change the parts: what the call answers, and what it left.
+use recipes::heaps;
 use release::pop;
 use rules::Control;
-use telling::heaps;
 use telling::lent;
 use telling::say;
 

@@ -5,10 +5,10 @@ use due::due;
 use page_views::page_by_number;
 use page_views::page_refusal;
 use paths::walk;
+use recipes::heaps;
 use rules::Control;
 use rules::Page;
 use rules::Region;
-use telling::heaps;
 use telling::say;
 use used::used_words;
 

@@ -11,8 +11,8 @@
 use crate::changing;
 use crate::looking;
 use image::read_image;
+use recipes::heaps;
 use rules::Control;
-use telling::heaps;
 
 // Whether the heap of a question is read from the image's text.
 pub fn reads(letter: u8) -> bool {

@@ -1,8 +1,8 @@
 // Questions that collect.
 use crate::looking;
 use collection::collect;
+use recipes::heaps;
 use rules::Control;
-use telling::heaps;
 use telling::lent;
 use telling::say;
 

@@ -6,8 +6,8 @@
 // number is how many bytes a write is lent, the fifth how many bytes of the text are read, and the sixth the place of a byte that is another: the
 // one that stands where a recipe would.
 use crate::asking;
-use telling::cutting;
-use telling::heaps;
+use recipes::cutting;
+use recipes::heaps;
 use telling::say;
 
 // The question, on parts of these lengths.

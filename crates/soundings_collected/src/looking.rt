@@ -1,9 +1,9 @@
 // Questions that leave the parts as they are.
 use audit::audit;
 use image::write_image;
+use recipes::cutting;
 use rules::Control;
 use rules::Valued;
-use telling::cutting;
 use telling::lent;
 use telling::say;
 

@@ -1,5 +1,3 @@
-// What the programs of soundings share: what they print, and heaps made by the calls. A sounding is one line: what was asked, and what came.
-pub mod cutting;
-pub mod heaps;
+// What the programs of soundings print. A sounding is one line: what was asked, and what came.
 pub mod lent;
 pub mod say;

@@ -1,9 +1,9 @@
--- `telling::heaps::numbers` is safe and ends: the place grows up to the step's length.
+-- `recipes::heaps::numbers` is safe and ends: the place grows up to the step's length.
 use Prim.Native.Nat.{_-_, _≤_}
 use lib.ListN.{length}
 use borrow.Author.Needs.{needs}
-use Rattle.telling.proofs.heaps.numbers.Statement.{statement}
-use Rattle.telling.proofs.heaps.numbers.Tie as tie
+use Rattle.recipes.proofs.heaps.numbers.Statement.{statement}
+use Rattle.recipes.proofs.heaps.numbers.Tie as tie
 
 abbrev Inv-loop : tie.InvT-loop
 Inv-loop step row₀ k₀ i₀ row k i = i ≤ length step

@@ -1,9 +1,9 @@
--- `telling::heaps::end_of` is right and ends: the place starts at from and grows up to the text's length.
+-- `recipes::heaps::end_of` is right and ends: the place starts at from and grows up to the text's length.
 use Prim.Native.Nat.{_+_, _-_, _≤_}
 use lib.ListN.{length}
 use borrow.Author.Needs.{needs}
-use Rattle.telling.proofs.heaps.end_of.Statement.{statement}
-use Rattle.telling.proofs.heaps.end_of.Tie as tie
+use Rattle.recipes.proofs.heaps.end_of.Statement.{statement}
+use Rattle.recipes.proofs.heaps.end_of.Tie as tie
 
 abbrev Inv-loop : tie.InvT-loop
 Inv-loop text from byte e₀ e = (from ≤ e) × (e ≤ from + (length text - from))

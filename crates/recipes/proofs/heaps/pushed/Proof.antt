@@ -1,9 +1,9 @@
--- `telling::heaps::pushed` is safe and ends: the pushes that are left fall, and a push keeps the lengths.
+-- `recipes::heaps::pushed` is safe and ends: the pushes that are left fall, and a push keeps the lengths.
 use mathlib.Core.Path.{_≡_}
 use lib.ListN.{length}
 use borrow.Author.Needs.{needs}
-use Rattle.telling.proofs.heaps.pushed.Statement.{statement}
-use Rattle.telling.proofs.heaps.pushed.Tie as tie
+use Rattle.recipes.proofs.heaps.pushed.Statement.{statement}
+use Rattle.recipes.proofs.heaps.pushed.Tie as tie
 
 abbrev Inv-loop : tie.InvT-loop
 Inv-loop heap₀ table₀ roots consts regions aloud now₀ left₀ heap table now left = (length heap ≡ length heap₀) × (length table ≡ length table₀)

@@ -1,10 +1,10 @@
--- `comparison::files::lend` is safe: the table is lent as long as the array is, the other parts as long as is asked for, and the sums keep their length.
+-- `outside_images::lend` is safe: the table is lent as long as the array is, the other parts as long as is asked for, and the sums keep their length.
 use Prim.Native.Nat.{ℕ}
 use mathlib.Core.Path.{sym}
 use lib.ListN.{length-replicate}
 use borrow.Author.Needs.{needs}
-use Rattle.comparison.proofs.files.lend.Statement.{statement}
-use Rattle.comparison.proofs.files.lend.Tie as tie
+use Rattle.outside_images.proofs.lend.Statement.{statement}
+use Rattle.outside_images.proofs.lend.Tie as tie
 
 sub-through : tie.Need-sub-through
 sub-through c = search needs

@@ -13,7 +13,6 @@
 //   control 1 2 2 1;                         R, free first, free last and free count of the record
 ghost use Prim.Native.Nat.{_+_, _-_, _≤_};
 ghost use lib.ListN.{length};
-use crate::say;
 use access::set_root;
 use allocation::allocate;
 use assignment::assign;
@@ -25,6 +24,7 @@ use rules::Plain;
 use rules::Region;
 use rules::Valued;
 use setting_up::set_up;
+use telling::say;
 
 pub fn record_of(p: Plain) -> Control {
     match p {

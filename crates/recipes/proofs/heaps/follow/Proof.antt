@@ -1,10 +1,10 @@
--- `telling::heaps::follow` is safe and ends: each step ends at or after its start and within the recipe, and keeps the lengths.
+-- `recipes::heaps::follow` is safe and ends: each step ends at or after its start and within the recipe, and keeps the lengths.
 use Prim.Native.Nat.{_-_}
 use mathlib.Core.Path.{_≡_}
 use lib.ListN.{length}
 use borrow.Author.Needs.{needs}
-use Rattle.telling.proofs.heaps.follow.Statement.{statement}
-use Rattle.telling.proofs.heaps.follow.Tie as tie
+use Rattle.recipes.proofs.heaps.follow.Statement.{statement}
+use Rattle.recipes.proofs.heaps.follow.Tie as tie
 
 abbrev Inv-loop : tie.InvT-loop
 Inv-loop heap₀ table₀ roots₀ consts recipe now₀ at₀ heap table roots now at = (length heap ≡ length heap₀) × (length table ≡ length table₀) × (length roots ≡ length roots₀)
