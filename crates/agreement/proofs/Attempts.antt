@@ -16,11 +16,9 @@ use Rattle.rules.specs.Collection.{finished, freshen, evacuateAll, workStack, e
 use Rattle.rules.specs.Refusals.{refused}
 use Rattle.rules.specs.Seen.{root}
 use Rattle.facts.proofs.Sound.{Sound}
-use Rattle.rules.specs.Wanted.{freshenFor, unbounded}
-use Rattle.working.proofs.Wanting.{follows-some, ends-finished, fresh-follows, roots-follow, stack-ends}
 use Rattle.working.proofs.Fresh.{Fresh, fresh-start}
-use Rattle.working.proofs.Roots.{rel-grows, AllBecame}
-use Rattle.working.proofs.Running.{none-total, first, first-inv, Ran}
+use Rattle.working.proofs.Roots.{AllBecame}
+use Rattle.working.proofs.Running.{first, first-inv, Ran, ran, rooted-cost}
 use Rattle.working.proofs.Work.{Finished}
 use Rattle.motion.specs.declared.Step.{Step}
 use Rattle.motion.specs.Leaves.{Desk, desk, begunNotes}
@@ -77,12 +75,9 @@ module _ (s : Store) (S : Sound s) where
       (ap (λ y. writtenRoots (y .heap) (s .roots)) t ∙ roots-written s S (A .end .ghost) r (A .end .inv) d M (s .roots) roots (A .count) (A .rels))
 
   pub attempts : Attempted s S
-  unfolding collected ending unbounded
+  unfolding collected ending ran
   attempts = freshened (freshens s S R 0 (begun s) (omega arith) (fresh-start s S) d₀ (starts s S))
     where
-      fresh-is : (r : Run) → freshen n R 0 (begun s) ≡ some r → freshenFor n R 0 (begun s) ≡ r
-      fresh-is r e = follows-some r (fresh-follows n R 0 (begun s)) e
-
       worked : (r : Run) (F : Fresh s S R r) (d₁ : Desk) → freshen n R 0 (begun s) ≡ some r → each R (fresh n) 0 d₀ ≡ after true d₁
           → (roots : List ℕ) (r₁ : Run) → evacuateAll n (s .roots) r ≡ some (roots, r₁) → (A : AllBecame s S (first s S r F) r (s .roots) roots r₁)
           → (d₂ : Desk) → moveRoots n (s .roots) d₁ ≡ after true d₂ → WorksStack s S (A .ghost) r₁ d₂ → Attempted s S
@@ -95,23 +90,13 @@ module _ (s : Store) (S : Sound s) where
           let G : Finished s S (A .ghost) (u .0) = u .2 in
           let t : Y.workStack n f d₂ ≡ after Step.Finished (u .3) = ap (λ x. Y.workStack n (2 * x) d₂) (sym l) ∙ u .4 in
           ending-with (u .3) (work-ends d₁ d₂ (u .3) w w₁ t) roots (u .0) (rw (e, collected, e₁, u .1))
-          (record {
-            start = A .ghost;
-            end = G;
-            count = A .count;
-            unbound = rw (fresh-is r e, roots-follow n (s .roots) roots r r₁ e₁) (ends-finished (u .0) (stack-ends n r₁) (u .1));
-            rels = λ i b. rel-grows (A .ghost .log) (G .ghost .log) (G .log) (A .rels i b);
-          })
-          (u .5)
+          (ran s S r F e roots r₁ A e₁ (u .0) (u .1) G) (u .5)
 
       rooted : (r : Run) (F : Fresh s S R r) (d₁ : Desk) → freshen n R 0 (begun s) ≡ some r → each R (fresh n) 0 d₀ ≡ after true d₁ → Rooted s S (first s S r F) r d₁ (s .roots) → Attempted s S
       rooted r F d₁ e w (inl u) = lacking (u .1) (roots-lack d₁ (u .1) w (u .2)) (rw (e, collected, u .0)) (u .3)
       rooted r F d₁ e w (inr u) =
           let A : AllBecame s S (first s S r F) r (s .roots) (u .0) (u .1) = u .3 in
-          let cost = A .later .cost in
-          let z = none-total R in
-          let y : length (r .stack) ≡ 0 = ap length (F .stack) in
-          worked r F d₁ e w (u .0) (u .1) (u .2) A (u .4) (u .5) (works-stack s S (A .ghost) (u .1) (A .inv) (A .later .cur) (A .later .half) (omega arith) (u .4) (u .6))
+          worked r F d₁ e w (u .0) (u .1) (u .2) A (u .4) (u .5) (works-stack s S (A .ghost) (u .1) (A .inv) (A .later .cur) (A .later .half) (rooted-cost s S r F e (u .0) (u .1) A) (u .4) (u .6))
 
       freshened : Freshens s S R 0 (begun s) d₀ → Attempted s S
       freshened (inl u) = lacking (u .1) (fresh-lacks (u .1) (u .2)) (rw (u .0, collected)) (u .3)

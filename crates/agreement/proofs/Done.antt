@@ -1,6 +1,6 @@
 -- A collection that is done ends as the plain one: the taken pages have their origins, the old pages are given back, and table, roots and
 -- record are written by the notes and the forwards, which hold what the run holds.
-use Prim.Native.Nat.{ℕ, _+_, _-_, _*_, _/_, _%_, _≤_, _<_, zero-le}
+use Prim.Native.Nat.{ℕ, _+_, _-_, _*_, _/_, _%_, _≤_, _<_}
 use native.Mathlib.Nat.{mod-eq-of-lt}
 use native.Mathlib.Omega.{arith}
 use native.Mathlib.Decide.{decLt}
@@ -10,13 +10,12 @@ use lib.ListN.{length, take, length-append}
 use lib.Seq.{length-take-le, getD-take, ext-getD}
 use Rattle.laws.specs.Lists.{at}
 use Rattle.laws.proofs.Lists.{length-put, at-put-in, at-put-above}
-use Rattle.laws.proofs.Once.{last-in, once-most}
-use Rattle.rules.specs.Memory.{Store, pageCount, regionPages}
+use Rattle.laws.proofs.Once.{last-in}
+use Rattle.rules.specs.Memory.{Store, pageCount}
 use Rattle.rules.specs.Pages.{Run, giveBackAll}
 use Rattle.rules.specs.Collection.{finished, fromSpace, leaves, ending}
-use Rattle.rules.proofs.Whole.{of-pages}
-use Rattle.facts.proofs.Laid.{spare≢beyond}
-use Rattle.facts.proofs.Passing.{pages-are}
+use Rattle.facts.proofs.Laid.{free-few}
+use Rattle.facts.proofs.Passing.{of-from}
 use Rattle.facts.proofs.Sound.{Sound}
 use Rattle.working.proofs.Invariant.{Ghost, Inv}
 use Rattle.working.proofs.Running.{Ran}
@@ -24,7 +23,8 @@ use Rattle.motion.specs.Leaves.{Desk, desk, low, freeFirst, taken, freeLast, gi
 use Rattle.motion.specs.Whole.{giveAll, writtenRoots, writtenTable, doneAs, done}
 use Rattle.agreement.proofs.Matching.{Matching}
 use Rattle.agreement.proofs.Origins.{origins-set}
-use Rattle.agreement.proofs.GivenBack.{N-small, Giving, given-back}
+use Rattle.agreement.proofs.GivenBack.{Giving, given-back}
+use Rattle.agreement.proofs.Took.{few-pages}
 
 -- table, roots and record by the notes
 pub as-leaves : (s : Store) (roots : List ℕ) (d d′ : Desk) (r : Run) → at (d′ .notes) freeFirst ≡ r .first → at (d′ .notes) freeLast ≡ r .last
@@ -90,8 +90,7 @@ module _ (s : Store) (S : Sound s) (g : Ghost) (r : Run) (I : Inv s S g r) (d : 
       go (no q) = omega arith
       go (yes q) =
           let t = S .laid .mine-top 0 q in
-          let m : List·Memᴰ (t .0) (regionPages n (s .heap) (s .table) 0) = rw (pages-are s S 0 q) (last-in (t .1)) in
-          absurd (List·Memᴰ·not-nil (subst (List·Memᴰ (t .0)) e (of-pages n (s .heap) (s .table) R 0 0 (t .0) zero-le (omega arith) m)))
+          absurd (List·Memᴰ·not-nil (subst (List·Memᴰ (t .0)) e (of-from s S 0 (t .0) q (last-in (t .1)))))
 
   none-taken : R ≡ 0 → M .took ≡ []
   none-taken e = go (M .took) refl
@@ -120,8 +119,8 @@ module _ (s : Store) (S : Sound s) (g : Ghost) (r : Run) (I : Inv s S g r) (d : 
       let f = length-append (M .took) (g .free) in
       let e : s .ctl .count - at (d′ .notes) taken + at (d′ .notes) given ≡ K .run .count = omega arith in
       let u = K .laid .free-count in
-      let v = once-most N (λ l m. K .laid .known l (spare≢beyond (K .laid .free-own l m))) (K .laid .free-once) in
-      let w = N-small s S g r I d M in
+      let v = free-few (K .laid) in
+      let w = few-pages s S in
       mod-eq-of-lt {n = s .ctl .count - at (d′ .notes) taken + at (d′ .notes) given} {m = 4294967296} (omega arith) ∙ e
 
   module _ (roots : List ℕ) (written : writtenRoots (d .heap) (s .roots) ≡ roots) where

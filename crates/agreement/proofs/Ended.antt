@@ -33,7 +33,3 @@ pub ends-alike : (s : Store) (S : Sound s) → Attempted s S → workingCollect 
 unfolding workingCollect ended
 ends-alike s S (lacks e q K) = rw (workingCollect, ended, q) (lacking-is s S (tried s .state) K ∙ sym e)
 ends-alike s S (scanned roots r e A q M w) = rw (workingCollect, ended, q) (done-is s S roots r A (tried s .state) M w ∙ sym e)
-
--- the two agree on every sound store, if their attempts do
-pub agree-by : ((s : Store) (S : Sound s) → Attempted s S) → (s : Store) → Sound s → workingCollect s ≡ collected s
-agree-by f s S = ends-alike s S (f s S)

@@ -18,13 +18,12 @@ use Rattle.facts.proofs.Laid.{mine≢beyond, page-in}
 use Rattle.facts.proofs.Sound.{Sound}
 use Rattle.working.proofs.Log.{Copy}
 use Rattle.working.proofs.Invariant.{Ghost, Kept, Inv, Became}
-use Rattle.working.proofs.Scanning.{Ready, field-good, field-reached, kind, len-is, unscanned, stepped}
+use Rattle.working.proofs.Scanning.{Ready, field-good, field-reached, kind, len-is, unscanned, stepped, field-lacks, field-scans}
 use Rattle.motion.specs.Leaves.{Desk}
 use Rattle.motion.specs.Run as X
 use Rattle.agreement.proofs.Matching.{Matching}
-use Rattle.agreement.proofs.Frames.{by-owners}
+use Rattle.agreement.proofs.Frames.{by-owners, body-plain}
 use Rattle.agreement.proofs.Stuck.{Stuck, stuck-moving}
-use Rattle.agreement.proofs.Moves.{body-plain}
 use Rattle.agreement.proofs.Words.{Evacuates, evacuates, field-stops, field-goes}
 
 -- ---- the fields of the copy at b of the record at c
@@ -51,15 +50,6 @@ module _ (s : Store) (S : Sound s) (g₀ : Ghost) (r₀ : Run) (c b l : ℕ) (he
       (field-good s S (Q .ghost) r (Q .inv) c b (Q .entry) (kind s S g₀ r₀ c b l head) i (omega arith))
       (field-reached s S (Q .ghost) r (Q .inv) c b (Q .entry) (kind s S g₀ r₀ c b l head) i (omega arith)))
     where
-      w : ℕ
-      w = at (s .heap) (c + suc i)
-
-      x : ℕ
-      x = b + suc i
-
-      w-is : at (r .heap) (b + suc i) ≡ at (s .heap) (c + suc i)
-      w-is = unscanned s S g₀ r₀ c b l head (omega arith) Q
-
       C : Copy n s (Kept s) (Q .ghost .own) (Q .ghost .fin) (r .heap) (Q .ghost .log) (Q .ghost .count) c b
       C = Q .inv .logged .copies (Q .entry)
 
@@ -70,7 +60,7 @@ module _ (s : Store) (S : Sound s) (g₀ : Ghost) (r₀ : Run) (c b l : ℕ) (he
       x-hi = let hi = C .into-stands .ends in let z = len-is s S g₀ r₀ c b l head Q in omega arith
 
       here : at (d .heap) (b + suc i) ≡ at (s .heap) (c + suc i)
-      here = M .words (b + suc i) (body-plain s S (Q .ghost) (C .into) (b + suc i) x-lo x-hi) ∙ w-is
+      here = M .words (b + suc i) (body-plain s S (Q .ghost) (C .into) (b + suc i) x-lo x-hi) ∙ unscanned s S g₀ r₀ c b l head (omega arith) Q
 
       inside : (g′ : Ghost) (r′ : Run) → Inv s S g′ r′ → b + suc i < length (r′ .heap)
       inside g′ r′ I′ =
@@ -79,13 +69,6 @@ module _ (s : Store) (S : Sound s) (g₀ : Ghost) (r₀ : Run) (c b l : ℕ) (he
           let p = page-in (Q .inv .laid) (C .into) (λ q. mine≢beyond (C .into-mine) q) in
           let hi = x-hi in
           omega arith
-
-      step : (v : ℕ) (r′ : Run) → evacuate n (at (s .heap) (c + suc i)) r ≡ some (v, r′)
-          → scanFields n (suc m) (b + suc i) r ≡ scanFields n m (b + suc (suc i)) (withHeap r′ (set (r′ .heap) (b + suc i) v))
-      step v r′ q =
-          let q′ : evacuate n (at (r .heap) (b + suc i)) r ≡ some (v, r′) = ap (λ y. evacuate n y r) w-is ∙ q in
-          let t : suc (b + suc i) ≡ b + suc (suc i) = omega arith in
-          rw (q′, scanFields) (ap (λ y. scanFields n m y (withHeap r′ (set (r′ .heap) (b + suc i) v))) t)
 
       step-at-work : (d′ : Desk) → X.evacuate n (b + suc i) d ≡ after true d′ → each (suc m) (X.evacuate n) (b + suc i) d ≡ each m (X.evacuate n) (b + suc (suc i)) d′
       step-at-work d′ q = let t : suc (b + suc i) ≡ b + suc (suc i) = omega arith in rw q (ap (λ y. each m (X.evacuate n) y d′) t)
@@ -98,9 +81,8 @@ module _ (s : Store) (S : Sound s) (g₀ : Ghost) (r₀ : Run) (c b l : ℕ) (he
       go : ((r′ : Run) (Q′ : Ready s S g₀ r₀ c b l r′ (suc i)) (d′ : Desk) → Matching s S (Q′ .ghost) r′ d′ → Scans r′ d′ m (suc i))
           → Evacuates s S (Q .ghost) r (Q .inv) d M (at (s .heap) (c + suc i)) → Scans r d (suc m) i
       go rest (inl u) =
-          let q′ : evacuate n (at (r .heap) (b + suc i)) r ≡ none = ap (λ y. evacuate n y r) w-is ∙ u .0 in
           let t = field-stops s S (Q .ghost) r (Q .inv) d M (b + suc i) (at (s .heap) (c + suc i)) here (u .1) (u .2) in
-          inl (rw (q′, scanFields), d, rw t, stuck-moving s S (Q .ghost) r d (Q .inv) M (u .3))
+          inl (field-lacks s S g₀ r₀ c b l head m (omega arith) Q (u .0), d, rw t, stuck-moving s S (Q .ghost) r d (Q .inv) M (u .3))
       go rest (inr u) =
           let v : ℕ = u .0 in
           let r′ : Run = u .1 in
@@ -109,4 +91,4 @@ module _ (s : Store) (S : Sound s) (g₀ : Ghost) (r₀ : Run) (c b l : ℕ) (he
           (body-plain s S (B .ghost) (C .into) (b + suc i) x-lo x-hi) (u .6) in
           let r″ : Run = withHeap r′ (set (r′ .heap) (b + suc i) v) in
           let Q′ = stepped s S g₀ r₀ c b l head (omega arith) Q v r′ B in
-          up r″ (F .0) (step v r′ (u .2)) (step-at-work (F .0) (F .1)) (rest r″ Q′ (F .0) (by-owners s S (B .ghost) r″ (F .0) (F .2) (Q′ .ghost) refl refl))
+          up r″ (F .0) (field-scans s S g₀ r₀ c b l head m (omega arith) Q v r′ (u .2)) (step-at-work (F .0) (F .1)) (rest r″ Q′ (F .0) (by-owners s S (B .ghost) r″ (F .0) (F .2) (Q′ .ghost) refl refl))

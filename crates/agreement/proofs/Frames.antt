@@ -10,10 +10,11 @@ use mathlib.Core.List.{List, List·Memᴰ}
 use lib.ListN.{length, set, length-set}
 use lib.Seq.{getD-set-same, getD-set-other}
 use Rattle.laws.specs.Lists.{at}
-use Rattle.rules.specs.Memory.{Store, endOf, topOf, statusOf}
+use Rattle.laws.proofs.Lists.{one-part, begins-none, second-none}
+use Rattle.rules.specs.Memory.{Store, link, endOf, topOf, statusOf}
 use Rattle.rules.specs.Pages.{Scan, Run, withHeap, withTable}
-use Rattle.facts.proofs.Laid.{Owner, mine}
-use Rattle.facts.proofs.Sound.{Sound}
+use Rattle.facts.proofs.Laid.{Owner, old, mine, old-mine-apart}
+use Rattle.facts.proofs.Sound.{Sound, descriptor-fits}
 use Rattle.working.proofs.Invariant.{Ghost}
 use Rattle.motion.specs.Leaves.{Desk, desk, entry}
 use Rattle.agreement.proofs.Matching.{Noted, bare, above, Matching}
@@ -41,6 +42,24 @@ set-alike g h x v y a b same = go (ℕ-discrete y x)
 -- x is the origin of no page that is taken
 abbrev pub Plain : Store → Ghost → ℕ → Type 0
 Plain s g x = (k j : ℕ) → g .own k ≡ mine j → x ≢ k * 2 ^ s .ctl .n + 1
+
+module _ (s : Store) (S : Sound s) (g : Ghost) where
+  abbrev P : ℕ
+  P = 2 ^ s .ctl .n
+
+  -- a link is none
+  pub link-plain : (k : ℕ) → Plain s g (k * P)
+  link-plain k l j o e = second-none P k l (descriptor-fits s S) (sym e)
+
+  -- nor is a word behind a page's descriptor
+  pub body-plain : (k x : ℕ) → k * P + 2 ≤ x → x < k * P + P → Plain s g x
+  body-plain k x lo hi l j o e = begins-none P k l (x - 1) (omega arith) (omega arith) (omega arith)
+
+  -- nor one in an old page
+  pub old-plain : (k x : ℕ) → g .own k ≡ old → k * P ≤ x → x < k * P + P → Plain s g x
+  old-plain k x own lo hi l j o e =
+      let b = descriptor-fits s S in
+      one-part P l k x (λ q. old-mine-apart (g .own) own o (sym q)) (omega arith) (omega arith) lo hi
 
 -- the same ghost, but for whose each page is and the free list
 abbrev pub owning : Ghost → (ℕ → Owner) → List ℕ → Ghost
@@ -100,6 +119,11 @@ module _ (s : Store) (S : Sound s) (g : Ghost) (r : Run) (d : Desk) (M : Matchin
         deep = M .deep;
         noted = M .noted;
       }
+
+  -- the links are the same
+  pub link-same : (k : ℕ) → at (d .heap) (k * 2 ^ s .ctl .n) ≡ link (s .ctl .n) (r .heap) k
+  unfolding link
+  link-same k = M .words (k * 2 ^ s .ctl .n) (link-plain s S g k)
 
   not-origin : (x : ℕ) → Plain s g x → (k : ℕ) → List·Memᴰ k (M .took) → k * 2 ^ s .ctl .n + 1 ≢ x
   not-origin x plain k m e = let t = M .owned k .0 m in plain k (t .0) (t .1) (sym e)

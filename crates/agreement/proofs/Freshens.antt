@@ -18,7 +18,7 @@ use Rattle.rules.specs.Memory.{Store, pageCount, link, pageEnd, pageAddress, bo
 use Rattle.rules.specs.Pages.{Run, begun, withTable}
 use Rattle.rules.specs.Collection.{freshen}
 use Rattle.rules.proofs.Rows.{row-width, row-else}
-use Rattle.facts.proofs.Laid.{mine, Layout, upd, spare≢beyond}
+use Rattle.facts.proofs.Laid.{mine, Layout, upd, free-known, rows-laid}
 use Rattle.facts.proofs.Sound.{Sound}
 use Rattle.working.proofs.Taken as K
 use Rattle.working.proofs.Fresh.{Fresh, fresh-start, start-own, start-free}
@@ -101,24 +101,7 @@ module _ (s : Store) (S : Sound s) where
   module _ (j : ℕ) (r : Run) (F : Fresh s S j r) (jR : j < R) (d : Desk) (H : Fresher s S j r F d) where
     -- no region counts: only the free list does
     free-laid : Layout n N 0 (F .own) (F .fin) (F .pages) (F .free) (withTable r (d .notes))
-    free-laid =
-        record {
-          size = F .laid .size;
-          big = F .laid .big;
-          rows = zero-le;
-          known = F .laid .known;
-          free-own = F .laid .free-own;
-          free-once = F .laid .free-once;
-          free-links = F .laid .free-links;
-          free-last = F .laid .free-last;
-          free-count = F .laid .free-count;
-          free-clean = F .laid .free-clean;
-          mine-own = λ i k b m. absurd (omega arith);
-          mine-once = λ i b. absurd (omega arith);
-          mine-links = λ i b. absurd (omega arith);
-          mine-body = F .laid .mine-body;
-          mine-top = λ i b. absurd (omega arith);
-        }
+    free-laid = rows-laid (F .laid) 0 zero-le (d .notes) (r .stack) zero-le (λ i x b lo hi. absurd (omega arith))
 
     fresh-stops : F .free ≡ [] → fresh n j d ≡ after false d
     unfolding fresh freshOn
@@ -144,7 +127,7 @@ module _ (s : Store) (S : Sound s) where
       M₀ = T.took-matches s S (unmoved F) (withTable r (d .notes)) d (H .matches) 0 (F .fin) (F .pages) k ks free L j
 
       k-known : k < N
-      k-known = L .known k (λ q. spare≢beyond (L .free-own k (List·Memᴰ·head refl)) q)
+      k-known = free-known L k (List·Memᴰ·head refl)
 
       abbrev d₁ : Desk
       d₁ = desk (d₀ .heap) (setRow (d₀ .notes) j (k * P + P) (k * P) (k * P + 2) 0)
@@ -157,18 +140,14 @@ module _ (s : Store) (S : Sound s) where
       abbrev r₁ : Run
       r₁ = withTable r₀ (setRow (r₀ .table) j (pageEnd n k) (pageAddress n k) (bodyAddress n k) 0)
 
-      same-table : r₀ .table ≡ r .table
-      unfolding K.taken
-      same-table = refl
-
       wide : length (d₀ .notes) ≡ 400
       wide = M₀ .notes-length
 
       table-wide : length (r₀ .table) ≡ 256
-      table-wide = ap length same-table ∙ F .width
+      table-wide = ap length (K.taken-table n j k r) ∙ F .width
 
       below : (i c : ℕ) → i < j → c < 4 → at (d₀ .notes) (4 * i + c) ≡ at (r₀ .table) (4 * i + c)
-      below i c b c4 = M₀ .rows i c (omega arith) c4 ∙ H .rows i c b c4 ∙ ap (λ t. at t (4 * i + c)) (sym same-table)
+      below i c b c4 = M₀ .rows i c (omega arith) c4 ∙ H .rows i c b c4 ∙ ap (λ t. at t (4 * i + c)) (sym (K.taken-table n j k r))
 
       abbrev F₁ : Fresh s S (suc j) r₁
       F₁ = fresh-step s S j r F jR k ks free

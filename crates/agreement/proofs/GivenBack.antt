@@ -1,33 +1,33 @@
 -- The old pages given back, by the notes and by the plain run: both clear the page and set it behind the last free one. The old chains are
 -- still as they were, since a page's link is read before the page is given back. So both end with the same heap and free list.
 use Prim.Native.Nat.{ℕ, zero, suc, _+_, _-_, _*_, _^_, _≤_, _<_}
-use native.Mathlib.Nat.{le-refl, mul-le-mul-left, mod-eq-of-lt}
+use native.Mathlib.Nat.{le-refl, mod-eq-of-lt}
 use native.Mathlib.Omega.{arith}
 use mathlib.Core.Path.{_≡_, refl, sym, ap, _∙_, subst}
 use mathlib.Core.Logic.{_≢_}
-use mathlib.Core.List.{List, [], _∷_, _++_, List·Memᴰ, List·Memᴰ·head, List·Memᴰ·tail}
+use mathlib.Core.List.{List, [], _∷_, _++_, List·Memᴰ, List·Memᴰ·head, List·Memᴰ·tail, cons≢nil}
 use lib.ListN.{length, set, length-set, length-append}
 use lib.Seq.{append-snoc, getD-set-same, getD-set-other, set-comm}
 use borrow.Author.Tests.{le-leb, eq-eqb, ne-eqb}
-use Rattle.laws.proofs.Lists.{one-part}
+use Rattle.laws.proofs.Lists.{starts-differ, begins-none}
 use Rattle.laws.specs.Lists.{at, lastOr}
-use Rattle.laws.proofs.Once.{Once, once-tail, once-head, once-most, Last, later as further, last-in, Linked, linked-none, linked-first}
-use Rattle.rules.specs.Memory.{Store, pageCount, link, origin, firstLink, pagesFrom}
+use Rattle.laws.proofs.Once.{Once, once-tail, once-head, Last, later as further, last-in, Linked, linked-none, linked-first}
+use Rattle.rules.specs.Memory.{Store, pageCount, link, firstLink, pagesFrom}
 use Rattle.rules.specs.Audit.{lastLink}
 use Rattle.rules.specs.Pages.{Run, withFree, clearPage, giveBack, giveBackAll}
 use Rattle.rules.specs.Collection.{fromSpace}
-use Rattle.rules.proofs.Whole.{pages-of, pages-once}
-use Rattle.facts.proofs.Laid.{upd, upd-other, old≢spare, old≢beyond, spare≢beyond, mine≢beyond, Owner, old, spare, Layout, chain-body, page-in}
+use Rattle.facts.proofs.Laid.{upd, upd-other, old≢spare, old≢beyond, spare≢beyond, Owner, old, spare, Layout, page-in, chain-known, chain-few, free-few}
 use Rattle.facts.proofs.Given.{last-link, link-last, given as given-page}
-use Rattle.facts.proofs.Passing.{pages-are}
+use Rattle.facts.proofs.Passing.{pages-are, from-once}
 use Rattle.facts.proofs.Steps.{steps-le}
 use Rattle.facts.proofs.Sound.{Sound}
-use Rattle.working.proofs.Invariant.{Ghost, Inv}
+use Rattle.working.proofs.Invariant.{Ghost, Inv, from-old}
 use Rattle.motion.specs.Leaves.{Desk, desk, low, freeFirst, taken, freeLast, given, pageStart}
 use Rattle.motion.specs.Whole.{giveOn, giveBack as giveDesk, linkOn, giveChain, giveAll}
 use Rattle.agreement.proofs.Matching.{Matching}
 use Rattle.facts.proofs.Cleared.{clear-else, first-link}
 use Rattle.agreement.proofs.Walked.{steps-keep, along-all}
+use Rattle.agreement.proofs.Took.{few-pages}
 
 -- ---- one page, both ways: it is the only free page, or it follows page z
 
@@ -73,13 +73,6 @@ module _ (s : Store) (S : Sound s) (g : Ghost) (r : Run) (I : Inv s S g r) (d : 
   abbrev R : ℕ
   R = s .ctl .regions
 
-  pub N-small : N ≤ 65536
-  N-small =
-      let a = mul-le-mul-left N (S .laid .big) in
-      let b = S .laid .size in
-      let c = S .within .paged .size in
-      omega arith
-
   -- what is given back so far: the pages `left` are still to be
   pub record Giving (left : List ℕ) (e : Desk) : Type 0 where
     pub run : Run
@@ -121,9 +114,9 @@ module _ (s : Store) (S : Sound s) (g : Ghost) (r : Run) (I : Inv s S g r) (d : 
     more-given =
         let a = K .count in
         let b = K .laid .free-count in
-        let c = once-most N (λ l m. L′ .known l (spare≢beyond (L′ .free-own l m))) (L′ .free-once) in
+        let c = free-few L′ in
         let f = length-append (K .free) (k ∷ []) in
-        let f′ = N-small in
+        let f′ = few-pages s S in
         mod-eq-of-lt {n = at (e .notes) given + 1} {m = 4294967296} (omega arith)
 
     at-given : at (counted n k (e .notes)) given ≡ at (e .notes) given + 1
@@ -195,16 +188,13 @@ module _ (s : Store) (S : Sound s) (g : Ghost) (r : Run) (I : Inv s S g r) (d : 
             (ap (λ (x : Run). x .count) B)
             (λ l m. ap (λ (x : Run). link n (x .heap) l) B ∙ clear-else n (K .run .heap) k k-in l (l * P) (new l m) (le-refl _) (omega arith))
         go (f ∷ fs) q = later (lastOr f fs) (K .laid .free-own (lastOr f fs) (last-in (subst (λ ks. Last ks (lastOr f fs)) (sym q) (last-link f fs)))) (K .laid .free-last ∙ ap lastLink q)
-            (λ e. let z : f ∷ fs ≡ [] = sym q ∙ e in nil-not f fs z)
+            (λ e. cons≢nil (sym q ∙ e))
             (λ e. let z = linked-first (subst (λ fs. Linked (link n (K .run .heap)) (K .run .first) fs) q (K .laid .free-links)) .0 in omega arith)
           where
-            nil-not : (f : ℕ) (fs : List ℕ) → f ∷ fs ≡ [] → ⊥
-            nil-not f fs q = let z = ap length q in omega arith
-
             later : (z : ℕ) → K .own z ≡ spare → K .run .last ≡ suc z → K .free ≢ [] → K .run .first ≢ 0 → Giving ls (giveDesk n k e)
             later z own-z l some-free not-none =
                 let a = K .first in
-                let A = desk-later n k e z (λ (w : at (e .notes) freeFirst ≡ 0). not-none (omega arith)) (K .last (λ q. absurd (some-free q)) ∙ l) (let v = K .laid .known z (spare≢beyond own-z) in let u = N-small in omega arith) in
+                let A = desk-later n k e z (λ (w : at (e .notes) freeFirst ≡ 0). not-none (omega arith)) (K .last (λ q. absurd (some-free q)) ∙ l) (let v = K .laid .known z (spare≢beyond own-z) in let u = few-pages s S in omega arith) in
                 let B = plain-later n k (K .run) z l in
                 let t = counted n k (e .notes) in
                 let y = counted-size in
@@ -224,7 +214,7 @@ module _ (s : Store) (S : Sound s) (g : Ghost) (r : Run) (I : Inv s S g r) (d : 
                 not-last : (l : ℕ) → List·Memᴰ l ls → l * P ≡ z * P → ⊥
                 not-last l m w =
                     let b = S .laid .big in
-                    one-part (2 ^ n) l z (l * P) (λ q. old≢spare (K .olds l (List·Memᴰ·tail m)) (ap (K .own) q ∙ own-z)) (le-refl _) (omega arith) (omega arith) (omega arith)
+                    starts-differ P l z (omega arith) (λ q. old≢spare (K .olds l (List·Memᴰ·tail m)) (ap (K .own) q ∙ own-z)) w
 
     pub give : (linkOn n e k ≡ link n (s .heap) k) × Giving ls (giveDesk n k e)
     give = (ap (λ h. link n h k) (K .heap) ∙ K .links k (List·Memᴰ·head refl), gives)
@@ -232,14 +222,11 @@ module _ (s : Store) (S : Sound s) (g : Ghost) (r : Run) (I : Inv s S g r) (d : 
   -- ---- all pages
 
   module _ (j : ℕ) (jR : j < R) (ms : List ℕ) where
-    small : (k : ℕ) → List·Memᴰ k (S .pages j) → k < N
-    small k m = S .laid .known k (mine≢beyond (S .laid .mine-own j k jR m))
-
     region : (e : Desk) → Giving (S .pages j ++ ms) e → Giving ms (giveChain n N (firstLink n (s .table) j) e)
     region e K =
         rw (first-link n (s .table) j (S .laid .mine-links j jR .0) (S .laid .big) (S .laid .mine-links j jR .1))
         (along-all N (linkOn n) (giveDesk n) (link n (s .heap)) (λ ks x. Giving (ks ++ ms) x) (λ k ks x K. give k (ks ++ ms) x K) N (S .pages j)
-        (suc (S .laid .mine-links j jR .0)) e (S .laid .mine-links j jR .2) small (once-most N small (S .laid .mine-once j jR)) K)
+        (suc (S .laid .mine-links j jR .0)) e (S .laid .mine-links j jR .2) (chain-known (S .laid) j jR) (chain-few (S .laid) j jR) K)
 
   -- the regions below j are done
   abbrev Below : ℕ → Desk → Type 0
@@ -258,20 +245,6 @@ module _ (s : Store) (S : Sound s) (g : Ghost) (r : Run) (I : Inv s S g r) (d : 
             (subst (λ ks. Giving (ks ++ pagesFrom n (s .heap) (s .table) m (suc j)) e) (pages-are s S j jR) K),
       )
 
-  -- the old pages
-  pub from-once : Once (fromSpace s)
-  unfolding origin
-  from-once =
-      pages-once n (s .heap) (s .table) R (λ j b. rw (pages-are s S j b) (S .laid .mine-once j b))
-      (λ j k b m. chain-body (S .laid) j k b (rw (pages-are s S j b) at m) .whose)
-      R 0 (omega arith)
-
-  pub from-old : (k : ℕ) → List·Memᴰ k (fromSpace s) → g .own k ≡ old
-  from-old k m =
-      let t = pages-of n (s .heap) (s .table) R 0 k m in
-      let b : t .0 < R = (let c = t .2 in omega arith) in
-      I .from-space k .1 (t .0, b, rw (pages-are s S (t .0) b) at (t .3))
-
   -- the link of an old page is as before
   old-link : (k : ℕ) → g .own k ≡ old → link n (r .heap) k ≡ link n (s .heap) k
   unfolding link
@@ -282,10 +255,7 @@ module _ (s : Store) (S : Sound s) (g : Ghost) (r : Run) (I : Inv s S g r) (d : 
       let C = I .logged .copies m in
       let lo = steps-le (C .from-steps) in
       let hi = C .from-stands .ends in
-      in-other (C .from) lo (omega arith))
-    where
-      in-other : (f : ℕ) → f * P + 2 ≤ k * P → k * P < f * P + P → ⊥
-      in-other f lo hi = let b = S .laid .big in one-part (2 ^ n) f k (k * P) (λ q. let w : f * P ≡ k * P = ap (λ y. y * P) q in omega arith) (omega arith) (omega arith) (le-refl _) (omega arith)
+      begins-none P (C .from) k (k * P) (omega arith) (omega arith) refl)
 
   -- the free list's last, where a page is free or none was taken
   last-free : (g .free ≡ [] → M .took ≡ []) → s .ctl .last ≡ r .last
@@ -307,9 +277,9 @@ module _ (s : Store) (S : Sound s) (g : Ghost) (r : Run) (I : Inv s S g r) (d : 
         own = g .own;
         free = g .free;
         laid = I .laid;
-        once = from-once;
-        olds = from-old;
-        links = λ k m. old-link k (from-old k m);
+        once = from-once s S;
+        olds = from-old I;
+        links = λ k m. old-link k (from-old I k m);
         heap = refl;
         table = refl;
         size = M .notes-length;

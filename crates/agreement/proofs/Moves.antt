@@ -5,67 +5,47 @@ use native.Mathlib.Omega.{arith}
 use native.Mathlib.Decide.{ℕ-discrete, decLt}
 use mathlib.Core.Path.{_≡_, refl, sym, ap, _∙_}
 use mathlib.Core.Logic.{_≢_, _⊎_, inl, inr}
-use mathlib.Core.Bool.{Bool, true, false, _||_}
+use mathlib.Core.Bool.{true, false, _||_}
 use mathlib.Core.Option.{none, some}
-use mathlib.Core.List.{List, [], _∷_, List·Memᴰ, List·Memᴰ·head}
-use lib.ListN.{length, take, drop, set, length-set, length-drop}
-use lib.Seq.{getD-set-same, length-take-le}
+use mathlib.Core.List.{List, [], _∷_, List·Memᴰ}
+use lib.ListN.{length, take, drop, set, length-set}
+use lib.Seq.{getD-set-same}
 use lib.Dec.{leb}
 use borrow.Author.Tests.{le-leb, eq-eqb, ne-eqb}
 use Rattle.laws.specs.Lists.{at, put}
 use Rattle.laws.specs.Each.{after}
-use Rattle.laws.proofs.Facts.{and-of}
-use Rattle.laws.proofs.Lists.{apart as pages-apart, one-part, put-elsewhere, part-same, length-put, at-put-below, at-put-in, at-put-above}
+use Rattle.laws.proofs.Facts.{and-of, or-left, or-right}
+use Rattle.laws.proofs.Lists.{apart as pages-apart, put-elsewhere, part-same, length-put, at-put-below, at-put-in, at-put-above}
 use Rattle.rules.specs.Memory.{Store, pageCount, origin, endOf, topOf, statusOf, setTop}
-use Rattle.rules.specs.Words.{headOf}
 use Rattle.rules.specs.Pages.{Run, withHeap, store}
 use Rattle.rules.specs.Pages as Q
 use Rattle.rules.specs.Collection.{regionAt, evacuateAt, moveTo, wake}
 use Rattle.rules.proofs.Chains.{page-of}
+use Rattle.rules.proofs.Headers.{header-odd}
 use Rattle.rules.specs.Seen.{seen, Reached}
 use Rattle.facts.proofs.Steps.{steps-le}
-use Rattle.facts.proofs.Laid.{old, mine, old≢spare, old≢mine, old≢beyond, mine≢beyond, page-in}
+use Rattle.facts.proofs.Laid.{old, old≢spare, old≢beyond, mine≢beyond, page-in, old-mine-apart}
 use Rattle.facts.proofs.Copied.{to, went}
 use Rattle.facts.proofs.Sound.{InHeap, Sound}
 use Rattle.working.proofs.Placed.{Roomed}
-use Rattle.working.proofs.Invariant.{Ghost, Inv, later-refl, Became}
-use Rattle.working.proofs.Evacuating.{in-log, in-pointers, room-or}
+use Rattle.working.proofs.Invariant.{Ghost, Inv, Became}
+use Rattle.working.proofs.Evacuating.{room-or}
 use Rattle.working.proofs.Evacuation as E
 use Rattle.working.proofs.Evacuation.{value}
 use Rattle.working.proofs.Copying.{Uncopied, Made, fin₂, made, made-moves}
 use Rattle.working.proofs.Copying as C
-use Rattle.working.proofs.CopyPending.{copied-later, copied-count}
 use Rattle.working.proofs.CopyPending as G
-use Rattle.working.proofs.CopyInv.{copied-inv}
 use Rattle.working.proofs.Waking.{entry}
+use Rattle.working.proofs.Log.{in-log, in-pointers}
 use Rattle.motion.specs.Leaves as W
 use Rattle.motion.specs.Leaves.{Desk, desk, low, regionOn, apart, copied, forwarded}
 use Rattle.motion.specs.Run as X
 use Rattle.motion.specs.Run.{room, move, moveOf, moveOn}
 use Rattle.agreement.proofs.Matching.{Matching}
-use Rattle.agreement.proofs.Frames.{Plain, owning, by-owners, heap-on, word-on, row-on, top-same}
-use Rattle.agreement.proofs.Heads.{header-odd}
+use Rattle.agreement.proofs.Frames.{owning, by-owners, heap-on, word-on, row-on, top-same, old-plain}
 use Rattle.agreement.proofs.Took.{low-is, start-is}
 use Rattle.agreement.proofs.Rooms.{no-room, Room, rooms}
 use Rattle.agreement.proofs.Wakes.{stack-few, wakes}
-
--- ---- words that are no origins of taken pages
-
-module _ (s : Store) (S : Sound s) (g : Ghost) where
-  abbrev P : ℕ
-  P = 2 ^ s .ctl .n
-
-  -- behind a page's descriptor
-  pub body-plain : (k x : ℕ) → k * P + 2 ≤ x → x < k * P + P → Plain s g x
-  body-plain k x lo hi l j o e = go (ℕ-discrete l k)
-    where
-      go : Dec (l ≡ k) → ⊥
-      go (yes q) = let w : l * P ≡ k * P = ap (λ y. y * P) q in omega arith
-      go (no ne) = let b = S .laid .big in one-part P l k x ne (omega arith) (omega arith) (omega arith) hi
-
-  -- in an old page
-  pub old-plain : (k x : ℕ) → g .own k ≡ old → k * P ≤ x → x < k * P + P → Plain s g x
-  old-plain k x own lo hi l j o e = let b = S .laid .big in one-part P l k x (λ q. old≢mine own (ap (g .own) (sym q) ∙ o)) (omega arith) (omega arith) lo hi
 
 -- the same words put into two lists
 put-alike : (g h : List ℕ) (b : ℕ) (ws : List ℕ) (x : ℕ) → b + length ws ≤ length g → b + length ws ≤ length h → at g x ≡ at h x → at (put g b ws) x ≡ at (put h b ws) x
@@ -79,13 +59,6 @@ put-alike g h b ws x p q e = go (decLt x b) (decLt x (b + length ws))
         let c : i < length ws = omega arith in
         ap (at (put g b ws)) (sym z) ∙ at-put-in g b ws i p c ∙ sym (at-put-in h b ws i q c) ∙ ap (at (put h b ws)) z
     go (no t) (no u) = at-put-above g b ws x p (omega arith) ∙ e ∙ sym (at-put-above h b ws x q (omega arith))
-
-or-left : (a b : Bool) → a ≡ true → (a || b) ≡ true
-or-left a b e = rw e
-
-or-right : (a b : Bool) → b ≡ true → (a || b) ≡ true
-or-right true b e = refl
-or-right false b e = e
 
 module _ (s : Store) (S : Sound s) (g : Ghost) (r : Run) (I : Inv s S g r) (d : Desk) (M : Matching s S g r d) where
   abbrev n : ℕ
@@ -117,12 +90,6 @@ module _ (s : Store) (S : Sound s) (g : Ghost) (r : Run) (I : Inv s S g r) (d : 
     own-f : g .own f ≡ old
     own-f = E.old-page s S g r I a x
 
-    a-lo : f * 2 ^ n + 2 ≤ a
-    a-lo = steps-le (x .steps)
-
-    a-hi : a + suc l ≤ f * 2 ^ n + 2 ^ n
-    a-hi = x .stands .ends
-
     f-in : f * 2 ^ n + 2 ^ n ≤ length (r .heap)
     f-in = page-in (I .laid) f (λ q. old≢beyond own-f q)
 
@@ -133,18 +100,18 @@ module _ (s : Store) (S : Sound s) (g : Ghost) (r : Run) (I : Inv s S g r) (d : 
     in-a y p q = M .words y (old-plain s S g f y own-f p q)
 
     head-here : at (d .heap) a ≡ at (r .heap) a
-    head-here = let p = a-lo in let q = a-hi in in-a a (omega arith) (omega arith)
+    head-here = let p = steps-le (x .steps) in let q = x .stands .ends in in-a a (omega arith) (omega arith)
 
     region-here : regionOn n a (d .heap) ≡ regionAt n (r .heap) a
     unfolding regionAt origin
     region-here =
-        let p = a-lo in
-        let q = a-hi in
+        let p = steps-le (x .steps) in
+        let q = x .stands .ends in
         rw (page-of n f a (omega arith) (omega arith), start-is s S f f-known, in-a (f * 2 ^ n + 1) (omega arith) (omega arith))
 
     -- it was moved before
     again : (b : ℕ) → List·Memᴰ (to a b) (g .log) → Moves a
-    unfolding moveOf
+    unfolding moveOf E.stays
     again b m =
         let e : at (d .heap) a ≡ 4 * b = head-here ∙ I .logged .copies m .forward in
         let even : (4 * b) % 2 ≡ 0 = omega arith in
@@ -152,7 +119,7 @@ module _ (s : Store) (S : Sound s) (g : Ghost) (r : Run) (I : Inv s S g r) (d : 
           4 * b,
           r,
           E.again s S g r I a x reached b m .0,
-          record { ghost = g; inv = I; later = later-refl R g r; rel = went (in-pointers (g .log) m); count = λ q. refl },
+          E.stays s S g r I (4 * a) (4 * b) (went (in-pointers (g .log) m)),
           d,
           rw (e, eq-eqb ((4 * b) % 2) 0 even),
           M,
@@ -166,19 +133,14 @@ module _ (s : Store) (S : Sound s) (g : Ghost) (r : Run) (I : Inv s S g r) (d : 
       head-is : at (d .heap) a ≡ at (s .heap) a
       head-is = head-here ∙ E.header s S g r I a x reached new
 
-      odd : ((at (d .heap) a) % 2 ≢ 0) × ((at (d .heap) a) / 8 ≡ l)
-      odd = rw head-is (header-odd (at (s .heap) a) l (x .stands .head))
-
       moves-is : move n a d ≡ moveOn a (suc l) j (room n j (suc l) d)
       unfolding moveOf
       moves-is =
-          let w = odd in
+          let w : ((at (d .heap) a) % 2 ≡ 1) × ((at (d .heap) a) / 8 ≡ l) = rw head-is (header-odd (at (s .heap) a) l (x .stands .head)) in
+          let o = w .0 in
           let e : (at (d .heap) a) / 8 + 1 ≡ suc l = ap (λ y. y + 1) (w .1) ∙ omega arith in
           let q : regionOn n a (d .heap) ≡ j = region-here ∙ E.region s S g r I a x reached new in
-          rw (ne-eqb ((at (d .heap) a) % 2) 0 (w .0), e, q)
-
-      head : evacuateAt n a r ≡ moveTo n j a l r
-      head = E.by-head s S g r I a x reached new (headOf (at (s .heap) a)) refl (x .stands .head)
+          rw (ne-eqb ((at (d .heap) a) % 2) 0 (omega arith), e, q)
 
       -- ---- there is room
       module _ (r₁ : Run) (K : Roomed n N R (g .own) (g .fin) (g .pages) (g .free) r j (suc l) r₁) (q : Q.room n j (suc l) r ≡ some r₁) where
@@ -206,49 +168,32 @@ module _ (s : Store) (S : Sound s) (g : Ghost) (r : Run) (I : Inv s S g r) (d : 
         mk : Made s g r u b p (K .own₁) (fin₂ s S g r I u r₁ K) (K .pages₁) (K .free₁) (C.after s S g r I u r₁ K)
         mk = made s S g r I u r₁ K
 
-        len : length ws ≡ suc l
-        len = let z = f-in in let w = a-hi in let t = length-drop a (r .heap) in length-take-le (suc l) (drop a (r .heap)) (omega arith)
-
-        b-lo : p * 2 ^ n + 2 ≤ b
-        b-lo = steps-le (mk .moved .b-steps)
-
-        b-hi : b + suc l ≤ p * 2 ^ n + 2 ^ n
-        b-hi = mk .moved .b-stands .ends
-
-        own-p : K .own₁ p ≡ mine j
-        own-p = mk .moved .b-mine
-
-        p-in : p * 2 ^ n + 2 ^ n ≤ length (r₁ .heap)
-        p-in = page-in (K .laid) p (λ q. mine≢beyond own-p q)
-
         same-size : length (r₁ .heap) ≡ length (r .heap)
         same-size = K .laid .size ∙ sym (I .laid .size)
 
         own₁-f : K .own₁ f ≡ old
         own₁-f = K .old-kept f .0 own-f
 
-        f≢p : f ≢ p
-        f≢p e = old≢mine own₁-f (ap (K .own₁) e ∙ own-p)
-
         clear : (a + suc l ≤ b) ⊎ (b + suc l ≤ a)
-        clear = go (pages-apart (2 ^ n) f p f≢p)
+        clear = go (pages-apart (2 ^ n) f p (old-mine-apart (K .own₁) own₁-f (mk .moved .b-mine)))
           where
             go : (f * 2 ^ n + 2 ^ n ≤ p * 2 ^ n) ⊎ (p * 2 ^ n + 2 ^ n ≤ f * 2 ^ n) → (a + suc l ≤ b) ⊎ (b + suc l ≤ a)
-            go (inl t) = let y = a-hi in let z = b-lo in inl (omega arith)
-            go (inr t) = let y = a-lo in let z = b-hi in inr (omega arith)
+            go (inl t) = let y = x .stands .ends in let z = steps-le (mk .moved .b-steps) in inl (omega arith)
+            go (inr t) = let y = steps-le (x .steps) in let z = mk .moved .b-stands .ends in inr (omega arith)
 
         small : length (r .heap) ≤ 65536
         small = let z = I .laid .size in let y = S .laid .size in let w = S .within .paged .size in omega arith
 
+        -- the value and its copy lie in the heap
+        value-in : a + suc l ≤ length (d₁ .heap)
+        value-in = let z = M₁ .heap-length in let y = same-size in let t = f-in in let v = x .stands .ends in omega arith
+
+        copy-in : b + suc l ≤ length (r₁ .heap)
+        copy-in = let w = page-in (K .laid) p (mine≢beyond (mk .moved .b-mine)) in let o = mk .moved .b-stands .ends in omega arith
+
         apart-is : apart (suc l) a b (length (d₁ .heap)) ≡ true
         apart-is =
-            let z = M₁ .heap-length in
-            let y = same-size in
-            let t = f-in in
-            let v = a-hi in
-            let w = p-in in
-            let o = b-hi in
-            and-of (and-of (le-leb (a + suc l) (length (d₁ .heap)) (omega arith)) (le-leb (b + suc l) (length (d₁ .heap)) (omega arith))) (go clear)
+            and-of (and-of (le-leb (a + suc l) (length (d₁ .heap)) value-in) (le-leb (b + suc l) (length (d₁ .heap)) (let z = M₁ .heap-length in let c = copy-in in omega arith))) (go clear)
           where
             go : (a + suc l ≤ b) ⊎ (b + suc l ≤ a) → (leb (a + suc l) b || leb (b + suc l) a) ≡ true
             go (inl t) = or-left _ _ (le-leb (a + suc l) b t)
@@ -260,8 +205,8 @@ module _ (s : Store) (S : Sound s) (g : Ghost) (r : Run) (I : Inv s S g r) (d : 
             let z = M₁ .heap-length in
             let y = same-size in
             let t = f-in in
-            let v = a-hi in
-            let w = a-lo in
+            let v = x .stands .ends in
+            let w = steps-le (x .steps) in
             part-same (d₁ .heap) (r .heap) a (suc l) (omega arith)
             (λ i lo hi.
             M₁ .words i (old-plain s S g₁ f i own₁-f (omega arith) (omega arith))
@@ -281,9 +226,8 @@ module _ (s : Store) (S : Sound s) (g : Ghost) (r : Run) (I : Inv s S g r) (d : 
         M₂ : Matching s S g₁ r₂ d₂
         M₂ =
             let z = M₁ .heap-length in
-            let y = len in
-            let w = p-in in
-            let o = b-hi in
+            let y = C.value-length s S g r I u in
+            let c = copy-in in
             heap-on s S g₁ r₁ d₁ M₁ (put (r₁ .heap) b ws) (put (d₁ .heap) b ws)
             (length-put (d₁ .heap) b ws (omega arith) ∙ z ∙ sym (length-put (r₁ .heap) b ws (omega arith)))
             (λ i pl. put-alike (d₁ .heap) (r₁ .heap) b ws i (omega arith) (omega arith) (M₁ .words i pl))
@@ -293,17 +237,17 @@ module _ (s : Store) (S : Sound s) (g : Ghost) (r : Run) (I : Inv s S g r) (d : 
             kept k = go (ℕ-discrete k p)
               where
                 fits : b + length ws ≤ length (d₁ .heap)
-                fits = let z = M₁ .heap-length in let y = len in let w = p-in in let o = b-hi in omega arith
+                fits = let z = M₁ .heap-length in let y = C.value-length s S g r I u in let c = copy-in in omega arith
 
                 go : Dec (k ≡ p) → at (put (d₁ .heap) b ws) (k * 2 ^ n + 1) ≡ at (d₁ .heap) (k * 2 ^ n + 1)
                 go (yes e) =
-                    let c = b-lo in
+                    let c = steps-le (mk .moved .b-steps) in
                     let t : k * 2 ^ n ≡ p * 2 ^ n = ap (λ y. y * 2 ^ n) e in
                     at-put-below (d₁ .heap) b ws (k * 2 ^ n + 1) fits (omega arith)
                 go (no ne) =
-                    let c = b-lo in
-                    let d = b-hi in
-                    let y = len in
+                    let c = steps-le (mk .moved .b-steps) in
+                    let d = mk .moved .b-stands .ends in
+                    let y = C.value-length s S g r I u in
                     let g = I .laid .big in
                     put-elsewhere (2 ^ n) (d₁ .heap) p b ws k (k * 2 ^ n + 1) fits (omega arith) (omega arith) ne (omega arith) (omega arith)
 
@@ -328,18 +272,11 @@ module _ (s : Store) (S : Sound s) (g : Ghost) (r : Run) (I : Inv s S g r) (d : 
         r′ = C.after s S g r I u r₁ K
 
         B : Became s S g r (4 * a) (4 * b) r′
-        B =
-            record {
-              ghost = end;
-              inv = copied-inv s S g r I u _ _ _ _ _ _ _ mk;
-              later = copied-later s S g r I u _ _ _ _ _ _ _ mk;
-              rel = went (List·Memᴰ·head refl);
-              count = copied-count s S g r I u _ _ _ _ _ _ _ mk;
-            }
+        B = E.copied-became s S g r I a x reached new r₁ K
 
         -- the region is woken: there is room on the stack
         deep : statusOf (store n j ws r₁ .table) j ≡ 0 → length (store n j ws r₁ .stack) < 64
-        unfolding store B
+        unfolding store B E.copied-became
         deep e = go (mk .how)
           where
             go : ((statusOf (r .table) j ≡ 0) × (r′ .stack ≡ entry j b ∷ r .stack)) ⊎ ((statusOf (r .table) j ≢ 0) × (r′ .stack ≡ r .stack)) → length (r₁ .stack) < 64
@@ -362,12 +299,9 @@ module _ (s : Store) (S : Sound s) (g : Ghost) (r : Run) (I : Inv s S g r) (d : 
         a-in : a < length (d₄ .heap)
         a-in =
             let z = M₁ .heap-length in
-            let y = same-size in
-            let t = f-in in
-            let v = a-hi in
-            let w = p-in in
-            let o = b-hi in
-            let c = len in
+            let v = value-in in
+            let w = copy-in in
+            let c = C.value-length s S g r I u in
             rw (length-put (d₁ .heap) b ws (omega arith)) (omega arith)
 
         abbrev d₅ : Desk
@@ -377,37 +311,36 @@ module _ (s : Store) (S : Sound s) (g : Ghost) (r : Run) (I : Inv s S g r) (d : 
         M₅ =
             let z = M₄ .heap-length in
             let y = a-in in
-            let lo = a-lo in
-            let hi = a-hi in
+            let lo = steps-le (x .steps) in
+            let hi = x .stands .ends in
             by-owners s S g₁ r′ d₅ (word-on s S g₁ r₄ d₄ M₄ a (4 * b) (omega arith) (old-plain s S g₁ f a own₁-f (omega arith) (omega arith))) end refl refl
 
         goes : move n a d ≡ after true d₅
         unfolding moveOn X.moveTo forwarded
         goes =
-            let w = p-in in
-            let o = b-hi in
+            let w = copy-in in
             let y = same-size in
             let c = small in
             let t : topOf (d₁ .notes) j ≡ b = top-same s S g₁ r₁ d₁ M₁ j (x .known) in
-            let e : low (b + suc l) ≡ b + length ws = low-is (b + suc l) (omega arith) ∙ ap (λ i. b + i) (sym len) in
+            let e : low (b + suc l) ≡ b + length ws = low-is (b + suc l) (omega arith) ∙ ap (λ i. b + i) (sym (C.value-length s S g r I u)) in
             moves-is ∙ rw (Z .goes, t, copied-is, le-leb b 65536 (omega arith), e)
 
         copies : Moves a
-        unfolding B
-        copies = inr (4 * b, r′, head ∙ made-moves s S g r I u r₁ K q, B, d₅, goes, M₅, getD-set-same (d₄ .heap) a (4 * b) 0 a-in)
+        unfolding B E.copied-became
+        copies = inr (4 * b, r′, E.head s S g r I a x reached new ∙ made-moves s S g r I u r₁ K q, B, d₅, goes, M₅, getD-set-same (d₄ .heap) a (4 * b) 0 a-in)
 
       stops : room n j (suc l) d ≡ after false d → moveOn a (suc l) j (room n j (suc l) d) ≡ after false d
       unfolding moveOn
       stops e = rw e
 
       now : Moves a
-      now = go (room-or n N R (g .own) (g .fin) (g .pages) (g .free) r (I .laid) j (suc l) (x .known) (let lo = a-lo in let hi = a-hi in omega arith))
+      now = go (room-or n N R (g .own) (g .fin) (g .pages) (g .free) r (I .laid) j (suc l) (x .known) (let lo = steps-le (x .steps) in let hi = x .stands .ends in omega arith))
         where
           go : ((Q.room n j (suc l) r ≡ none) × (g .free ≡ []) × (endOf (r .table) j < topOf (r .table) j + suc l))
               ⊎ ((r₁ : Run) × (Q.room n j (suc l) r ≡ some r₁) × Roomed n N R (g .own) (g .fin) (g .pages) (g .free) r j (suc l) r₁) → Moves a
           go (inl t) =
               inl (
-                head ∙ E.no-room s S g r I a x reached new (t .0),
+                E.head s S g r I a x reached new ∙ E.no-room s S g r I a x reached new (t .0),
                 moves-is ∙ stops (no-room s S g r d M (g .fin) (g .pages) (I .laid) j (suc l) (x .known) (t .1) (t .2)),
                 t .1,
               )

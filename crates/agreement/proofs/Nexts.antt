@@ -5,7 +5,7 @@ use native.Mathlib.Nat.{mul-le-mul-right, mul-mod-left}
 use native.Mathlib.Omega.{arith}
 use native.Mathlib.Decide.{ℕ-discrete}
 use mathlib.Core.Path.{_≡_, refl, sym, ap, _∙_, subst}
-use mathlib.Core.Logic.{_≢_, _⊎_, inl, inr}
+use mathlib.Core.Logic.{_⊎_, inl, inr}
 use mathlib.Core.Bool.{Bool, true, false, _||_}
 use mathlib.Core.List.{List, [], _∷_, List·Memᴰ, List·Memᴰ·head, List·Memᴰ·tail, List·Memᴰ·cases-cons}
 use lib.Dec.{eqb}
@@ -18,8 +18,9 @@ use Rattle.rules.specs.Pages.{Run}
 use Rattle.rules.specs.Collection.{nextFrom, nextScan}
 use Rattle.rules.proofs.Chains.{page-of}
 use Rattle.rules.proofs.Pointers.{words-of}
+use Rattle.rules.proofs.Headers.{header-odd}
 use Rattle.facts.proofs.Steps.{steps-le}
-use Rattle.facts.proofs.Laid.{mine≢beyond}
+use Rattle.facts.proofs.Laid.{chain-known}
 use Rattle.facts.proofs.Sound.{Sound}
 use Rattle.working.proofs.Rows.{InRow}
 use Rattle.working.proofs.Invariant.{Ghost, Inv}
@@ -27,10 +28,8 @@ use Rattle.motion.specs.Leaves.{Desk}
 use Rattle.motion.specs.Run as X
 use Rattle.motion.specs.Run.{nextOf, nextPage}
 use Rattle.agreement.proofs.Matching.{Matching}
-use Rattle.agreement.proofs.Frames.{top-same}
-use Rattle.agreement.proofs.Heads.{header-odd}
-use Rattle.agreement.proofs.Took.{start-is, link-plain}
-use Rattle.agreement.proofs.Moves.{body-plain}
+use Rattle.agreement.proofs.Frames.{top-same, body-plain, link-same}
+use Rattle.agreement.proofs.Took.{start-is}
 
 -- a link of a chain names one of its pages, or ends it
 linked-next : {l : ℕ → ℕ} {x : ℕ} {k : ℕ} (ks : List ℕ) → Linked l x ks → List·Memᴰ k ks → (l k ≡ 0) ⊎ ((k′ : ℕ) × (l k ≡ suc k′) × List·Memᴰ k′ ks)
@@ -73,35 +72,28 @@ module _ (s : Store) (S : Sound s) (g : Ghost) (r : Run) (I : Inv s S g r) (d : 
   hi : t ≤ k * P + P
   hi = F .stands .ends
 
-  page-known : (l : ℕ) → List·Memᴰ l (g .pages j) → l < N
-  page-known l m = I .laid .known l (λ q. mine≢beyond (I .laid .mine-own j l jR m) q)
-
   small : N * P ≤ 65536
   small = let a = S .laid .size in let c = S .within .paged .size in omega arith
 
   in-heap : (l : ℕ) → List·Memᴰ l (g .pages j) → l * P + P ≤ N * P
-  in-heap l m = let q = mul-le-mul-right P (page-known l m) in omega arith
+  in-heap l m = let q = mul-le-mul-right P (chain-known (I .laid) j jR l m) in omega arith
 
   here : at (d .heap) b ≡ at (r .heap) b
   here = let p = lo in let q = hi in M .words b (body-plain s S g k b (omega arith) (omega arith))
 
-  -- the link, and the page that it names
-  link-same : at (d .heap) (k * P) ≡ link n (r .heap) k
-  unfolding link
-  link-same = M .words (k * P) (link-plain s S g k)
-
+  -- the page that the link names
   link-known : link n (r .heap) k - 1 < N
   link-known = go (linked-next (g .pages j) (I .laid .mine-links j jR .2) (F .here))
     where
       go : (link n (r .heap) k ≡ 0) ⊎ ((k′ : ℕ) × (link n (r .heap) k ≡ suc k′) × List·Memᴰ k′ (g .pages j)) → link n (r .heap) k - 1 < N
-      go (inl e) = let p = page-known k (F .here) in omega arith
-      go (inr u) = let p = page-known (u .0) (u .2) in let q = u .1 in omega arith
+      go (inl e) = let p = chain-known (I .laid) j jR k (F .here) in omega arith
+      go (inr u) = let p = chain-known (I .laid) j jR (u .0) (u .2) in let q = u .1 in omega arith
 
   next-page : nextPage n b (d .heap) ≡ (link n (r .heap) k - 1) * P + 2
   next-page =
       let p = lo in
       let q = hi in
-      rw (page-of n k b (omega arith) (omega arith), start-is s S k (page-known k (F .here)), link-same, start-is s S (link n (r .heap) k - 1) link-known)
+      rw (page-of n k b (omega arith) (omega arith), start-is s S k (chain-known (I .laid) j jR k (F .here)), link-same s S g r d M k, start-is s S (link n (r .heap) k - 1) link-known)
 
   end-is : b + ((at (d .heap) b) / 8 + 1) ≡ t
   end-is =

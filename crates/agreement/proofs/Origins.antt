@@ -4,18 +4,17 @@ use Prim.Native.Nat.{ℕ, suc, _+_, _*_, _^_, _<_, zero-le}
 use native.Mathlib.Nat.{mul-le-mul-right}
 use native.Mathlib.Omega.{arith}
 use native.Mathlib.Decide.{ℕ-discrete}
-use mathlib.Core.Path.{_≡_, refl, sym, ap, _∙_}
+use mathlib.Core.Path.{_≡_, refl, sym, _∙_}
 use mathlib.Core.Logic.{_≢_, _⊎_, inl, inr}
 use mathlib.Core.List.{List, [], _∷_, List·Memᴰ, List·Memᴰ·head, List·Memᴰ·tail, List·Memᴰ·cases-cons}
 use lib.ListN.{length, set, length-set}
 use lib.Seq.{getD-set-same, getD-set-other, ext-getD}
-use Rattle.laws.proofs.Lists.{one-part}
+use Rattle.laws.proofs.Lists.{second-none}
 use Rattle.laws.specs.Lists.{at}
-use Rattle.laws.proofs.Once.{once-most}
 use Rattle.rules.specs.Memory.{Store, pageCount, link, firstLink}
 use Rattle.rules.specs.Pages.{Run}
-use Rattle.facts.proofs.Laid.{mine≢beyond, chain-body}
-use Rattle.facts.proofs.Sound.{Sound}
+use Rattle.facts.proofs.Laid.{chain-body, chain-known, chain-few}
+use Rattle.facts.proofs.Sound.{Sound, descriptor-fits}
 use Rattle.working.proofs.Invariant.{Ghost, Inv}
 use Rattle.motion.specs.Leaves.{Desk}
 use Rattle.motion.specs.Whole.{own, ownChain, ownAll}
@@ -44,18 +43,7 @@ module _ (s : Store) (S : Sound s) (g : Ghost) (r : Run) (I : Inv s S g r) (d : 
   half-more : {left left′ : ℕ → Type 0} {h : List ℕ} → ((k : ℕ) → left k → left′ k) → Half left h → Half left′ h
   half-more f H = record { size = H .size; words = λ x ne. H .words x (λ k q. ne k (f k q)) }
 
-  -- no link is an origin
-  link-apart : (k l : ℕ) → k * P ≢ l * P + 1
-  link-apart k l e = go (ℕ-discrete k l)
-    where
-      go : Dec (k ≡ l) → ⊥
-      go (yes q) = let w : k * P ≡ l * P = ap (λ y. y * P) q in omega arith
-      go (no ne) = let c = S .laid .big in one-part (2 ^ n) k l (k * P) ne (omega arith) (omega arith) (omega arith) (omega arith)
-
   module _ (j : ℕ) (jR : j < R) where
-    small : (k : ℕ) → List·Memᴰ k (g .pages j) → k < N
-    small k m = I .laid .known k (mine≢beyond (I .laid .mine-own j k jR m))
-
     pub record Chain (ks : List ℕ) (h : List ℕ) : Type 0 where
       pub half : Half (Before R (g .pages) ks (suc j)) h
       pub theirs : (k : ℕ) → List·Memᴰ k ks → List·Memᴰ k (g .pages j)
@@ -63,7 +51,7 @@ module _ (s : Store) (S : Sound s) (g : Ghost) (r : Run) (I : Inv s S g r) (d : 
     turn : (k : ℕ) (ks : List ℕ) (h : List ℕ) → Chain (k ∷ ks) h → (link n h k ≡ link n (r .heap) k) × Chain ks (own n j k h)
     unfolding link own
     turn k ks h K = (
-      K .half .words (k * P) (λ l q. link-apart k l),
+      K .half .words (k * P) (λ l q e. second-none P k l (descriptor-fits s S) (sym e)),
       record {
         half = record { size = length-set h (k * P + 1) (suc j) ∙ K .half .size; words = λ x ne. words x ne (ℕ-discrete x (k * P + 1)) };
         theirs = λ l q. K .theirs l (List·Memᴰ·tail q);
@@ -75,7 +63,7 @@ module _ (s : Store) (S : Sound s) (g : Ghost) (r : Run) (I : Inv s S g r) (d : 
 
         words : (x : ℕ) → ((l : ℕ) → Before R (g .pages) ks (suc j) l → x ≢ l * P + 1) → Dec (x ≡ k * P + 1) → at (set h (k * P + 1) (suc j)) x ≡ at (r .heap) x
         words x ne (yes e) =
-            let a = mul-le-mul-right P (small k m) in
+            let a = mul-le-mul-right P (chain-known (I .laid) j jR k m) in
             let b = I .laid .size in
             let c = I .laid .big in
             let f = K .half .size in
@@ -94,8 +82,8 @@ module _ (s : Store) (S : Sound s) (g : Ghost) (r : Run) (I : Inv s S g r) (d : 
     region h H =
         let start : Chain (g .pages j) h = record { half = half-more (from-split R (g .pages) j) H; theirs = λ k p. p } in
         let end : Chain [] (ownChain n N j (suc (I .laid .mine-links j jR .0)) h)
-        = along-all N (link n) (own n j) (link n (r .heap)) Chain turn N (g .pages j) (suc (I .laid .mine-links j jR .0)) h (I .laid .mine-links j jR .2) small
-        (once-most N small (I .laid .mine-once j jR)) start in
+        = along-all N (link n) (own n j) (link n (r .heap)) Chain turn N (g .pages j) (suc (I .laid .mine-links j jR .0)) h (I .laid .mine-links j jR .2) (chain-known (I .laid) j jR)
+        (chain-few (I .laid) j jR) start in
         rw (first-link n (d .notes) j (I .laid .mine-links j jR .0) (I .laid .big) (M .rows j 1 jR (omega arith) ∙ I .laid .mine-links j jR .1)) (half-more (before-none R (g .pages) (suc j)) (end .half))
 
   begin : Half (From R (g .pages) 0) (d .heap)

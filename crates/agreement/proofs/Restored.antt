@@ -1,14 +1,13 @@
 -- The headers put back: stepping through each old page, a header that is a forward is replaced by the first word of its copy, which is the
 -- header that was moved. So all old pages have their words of before, and no other word changes.
 use Prim.Native.Nat.{ℕ, zero, suc, _+_, _*_, _/_, _%_, _^_, _≤_, _<_, zero-le}
-use native.Mathlib.Nat.{le-refl, mul-le-mul-right}
+use native.Mathlib.Nat.{le-refl}
 use native.Mathlib.Omega.{arith}
 use native.Mathlib.Decide.{ℕ-discrete, decLt}
 use native.Mathlib.Numerals.{sub-one}
 use mathlib.Core.Path.{_≡_, refl, sym, ap, _∙_, subst}
 use mathlib.Core.Logic.{_≢_, _⊎_, inl, inr}
 use mathlib.Core.Bool.{true, false}
-use mathlib.Core.Option.{some}
 use mathlib.Core.List.{List, [], _∷_, List·Memᴰ, List·Memᴰ·head, List·Memᴰ·tail, List·Memᴰ·cases-cons}
 use lib.ListN.{length, set, length-set}
 use lib.Seq.{getD-set-same, getD-set-other}
@@ -19,37 +18,23 @@ use Rattle.laws.specs.Lists.{at}
 use Rattle.laws.specs.Each.{after}
 use Rattle.laws.specs.Loop.{more, over}
 use Rattle.laws.proofs.Loops.{loop-more, loop-over, loop-end}
-use Rattle.laws.proofs.Once.{once-most, member?}
 use Rattle.rules.specs.Memory.{Store, pageCount, link, firstLink}
-use Rattle.rules.specs.Words.{headOf, lengthBy, headBy}
-use Rattle.facts.proofs.Laid.{old≢mine, old≢beyond, mine≢beyond, old, mine, Body, chain-body}
-use Rattle.facts.proofs.Steps.{Stands, Steps, here, over as passes, steps-le, steps-then, apart}
+use Rattle.facts.proofs.Laid.{old≢mine, old≢beyond, old, Body, chain-body, chain-known, chain-few}
+use Rattle.facts.proofs.Steps.{Stands, Steps, here, over as passes, steps-le, steps-then, not-header}
 use Rattle.facts.proofs.Copied.{to}
 use Rattle.facts.proofs.Sound.{Sound}
+use Rattle.facts.proofs.Goods.{page-ends}
 use Rattle.rules.specs.Pages.{Run}
+use Rattle.rules.proofs.Headers.{header-odd}
 use Rattle.working.proofs.Invariant.{Ghost, Kept}
-use Rattle.working.proofs.Log.{olds, in-olds, olds-in, Copy}
+use Rattle.working.proofs.Log.{in-log, Copy}
 use Rattle.motion.specs.Leaves.{Desk}
 use Rattle.motion.specs.Whole.{undoOf, undoTurn, undoVals, undoPage, undoChain, undoHeaders}
 use Rattle.agreement.proofs.Matching.{Matching}
+use Rattle.agreement.proofs.Frames.{body-plain, old-plain}
 use Rattle.agreement.proofs.Stuck.{Stuck}
 use Rattle.facts.proofs.Cleared.{first-link}
 use Rattle.agreement.proofs.Walked.{steps-keep, along-all, From, Before, from-split, before-none, from-none}
-
--- ---- headers and forwards as numbers
-
--- a header is odd and says its length
-pub head-odd : (w l : ℕ) → lengthBy (headOf w) ≡ some l → (w % 2 ≡ 1) × (w / 8 ≡ l)
-unfolding headOf
-head-odd w l e = go (w % 8) refl
-  where
-    go : (x : ℕ) → w % 8 ≡ x → (w % 2 ≡ 1) × (w / 8 ≡ l)
-    go zero q = let t : lengthBy (headBy 0 (w / 8)) ≡ some l = rw q at e in let z : _≡_ {A = ℕ} 0 1 = cc in absurd (omega arith)
-    go (suc zero) q = let t : some (w / 8) ≡ some l = rw q at e in (omega arith, cc)
-    go (suc (suc zero)) q = let t : lengthBy (headBy 2 (w / 8)) ≡ some l = rw q at e in let z : _≡_ {A = ℕ} 0 1 = cc in absurd (omega arith)
-    go (suc (suc (suc zero))) q = let t : some (w / 8) ≡ some l = rw q at e in (omega arith, cc)
-    go (suc (suc (suc (suc zero)))) q = let t : lengthBy (headBy 4 (w / 8)) ≡ some l = rw q at e in let z : _≡_ {A = ℕ} 0 1 = cc in absurd (omega arith)
-    go (suc (suc (suc (suc (suc x))))) q = let t : lengthBy (headBy (suc (suc (suc (suc (suc x))))) (w / 8)) ≡ some l = rw q at e in let z : _≡_ {A = ℕ} 0 1 = cc in absurd (omega arith)
 
 module _ (s : Store) (S : Sound s) (d : Desk) (A : Stuck s S d) where
   abbrev g : Ghost
@@ -90,15 +75,8 @@ module _ (s : Store) (S : Sound s) (d : Desk) (A : Stuck s S d) where
   half-more : {left left′ : ℕ → Type 0} {h : List ℕ} → ((k : ℕ) → left k → left′ k) → Half left h → Half left′ h
   half-more f H = record { size = H .size; others = H .others; either = H .either; back = λ k x o ne p. H .back k x o (λ q. ne (f k q)) p }
 
-  size-N : length (s .heap) ≡ N * P
-  size-N = S .laid .size
-
   inside : (k x : ℕ) → g .own k ≡ old → In k x → x < length (s .heap)
-  inside k x o p =
-      let a = mul-le-mul-right P (A .known k (old≢beyond o)) in
-      let e = size-N in
-      let hi = p .1 in
-      omega arith
+  inside k x o p = let a = page-ends n (s .heap) (S .within .paged) k (A .known k (old≢beyond o)) in let hi = p .1 in omega arith
 
   -- a logged value stands in its page
   module _ (k x b : ℕ) (p : In k x) (m : List·Memᴰ (to x b) (g .log)) where
@@ -170,15 +148,8 @@ module _ (s : Store) (S : Sound s) (d : Desk) (A : Stuck s S d) where
       let hi = D .into-stands .ends in
       let p : In (D .into) b = (omega arith, omega arith) in
       H .others (D .into) b (λ o. old≢mine o (D .into-mine)) p
-      ∙ M .words b (λ k j o q. origin-apart k b q (D .into) lo hi)
+      ∙ M .words b (body-plain s S g (D .into) b lo (p .1))
       ∙ D .head
-    where
-      origin-apart : (k b : ℕ) → b ≡ k * P + 1 → (i : ℕ) → i * P + 2 ≤ b → b + suc (A .logged .copies m .len) ≤ i * P + P → ⊥
-      origin-apart k b q i lo hi = go (ℕ-discrete k i)
-        where
-          go : Dec (k ≡ i) → ⊥
-          go (yes e) = let w : k * P ≡ i * P = ap (λ y. y * P) e in omega arith
-          go (no ne) = let c = S .laid .big in one-part (2 ^ n) k i b ne (omega arith) (omega arith) (omega arith) (omega arith)
 
   -- ---- one page
 
@@ -198,7 +169,7 @@ module _ (s : Store) (S : Sound s) (d : Desk) (A : Stuck s S d) where
         same-if left h H k y own-k (omega arith, up)
         (λ l t st.
         let z = body .rest y lo up in
-        let u = head-odd (at (s .heap) y) l (st .head) .0 in
+        let u = header-odd (at (s .heap) y) l (st .head) .0 in
         omega arith)
 
     -- inside a value no other stands
@@ -207,11 +178,7 @@ module _ (s : Store) (S : Sound s) (d : Desk) (A : Stuck s S d) where
     between h H x l t st y lo up =
         let q = steps-le t in
         let e = st .ends in
-        same-if left h H k y own-k (omega arith, omega arith) (λ m u v. go (apart t st u))
-      where
-        go : (y ≤ x) ⊎ (x + suc l ≤ y) → ⊥
-        go (inl p) = omega arith
-        go (inr p) = omega arith
+        same-if left h H k y own-k (omega arith, omega arith) (λ m u v. not-header t st lo up u refl)
 
     -- one value: the next one's address, and the heap with its header back
     pub record Stepped (h : List ℕ) (x l : ℕ) : Type 0 where
@@ -229,10 +196,10 @@ module _ (s : Store) (S : Sound s) (d : Desk) (A : Stuck s S d) where
         p = let a = steps-le t in let b = st .ends in (omega arith, omega arith)
 
         odd : at (s .heap) x % 2 ≡ 1
-        odd = head-odd (at (s .heap) x) l (st .head) .0
+        odd = header-odd (at (s .heap) x) l (st .head) .0
 
         len : at (s .heap) x / 8 ≡ l
-        len = head-odd (at (s .heap) x) l (st .head) .1
+        len = header-odd (at (s .heap) x) l (st .head) .1
 
         not-past : leb hi x ≡ false
         not-past = let b = st .ends in lt-leb hi x (omega arith)
@@ -369,40 +336,30 @@ module _ (s : Store) (S : Sound s) (d : Desk) (A : Stuck s S d) where
                 go (inl e) = absurd (f e)
                 go (inr m) = inl m
 
-    small : (k : ℕ) → List·Memᴰ k (S .pages j) → k < N
-    small k m = S .laid .known k (mine≢beyond (S .laid .mine-own j k jR m))
-
     region : (h : List ℕ) → Half (From R (S .pages) j) h → Half (From R (S .pages) (suc j)) (undoChain n N (firstLink n (s .table) j) h)
     region h H =
         let start : Chain (S .pages j) h = record { half = half-more (from-split R (S .pages) j) H; theirs = λ k m. m } in
         let end : Chain [] (undoChain n N (suc (S .laid .mine-links j jR .0)) h)
-        = along-all N (link n) (undoPage n) (link n (s .heap)) Chain turn N (S .pages j) (suc (S .laid .mine-links j jR .0)) h (S .laid .mine-links j jR .2) small
-        (once-most N small (S .laid .mine-once j jR)) start in
+        = along-all N (link n) (undoPage n) (link n (s .heap)) Chain turn N (S .pages j) (suc (S .laid .mine-links j jR .0)) h (S .laid .mine-links j jR .2) (chain-known (S .laid) j jR)
+        (chain-few (S .laid) j jR) start in
         rw (first-link n (s .table) j (S .laid .mine-links j jR .0) (S .laid .big) (S .laid .mine-links j jR .1)) (half-more (before-none R (S .pages) (suc j)) (end .half))
 
   -- at the start every old page is left
   begin : Half (From R (S .pages) 0) (d .heap)
   begin =
       record {
-        size = M .heap-length ∙ A .size ∙ sym size-N;
+        size = M .heap-length ∙ A .size ∙ sym (S .laid .size);
         others = λ k x ne p. refl;
-        either = λ k x o p. rw (same k x o p) (either k x o p);
+        either = λ k x o p. rw (M .words x (old-plain s S g k x o (p .0) (p .1))) (either k x o p);
         back = λ k x o ne p. let t = A .from-space k .0 o in absurd (ne (t .0, zero-le, t .1, t .2));
       }
     where
-      same : (k x : ℕ) → g .own k ≡ old → In k x → at (d .heap) x ≡ at (r .heap) x
-      same k x o p = M .words x (λ l j w q. go l j w q (ℕ-discrete l k))
-        where
-          go : (l j : ℕ) → g .own l ≡ mine j → x ≡ l * P + 1 → Dec (l ≡ k) → ⊥
-          go l j w q (yes e) = old≢mine (ap (g .own) e ∙ o) w
-          go l j w q (no ne) = let c = S .laid .big in one-part (2 ^ n) l k x ne (omega arith) (omega arith) (p .0) (p .1)
-
       either : (k x : ℕ) → g .own k ≡ old → In k x → Either (r .heap) x
-      either k x o p = go (member? x (olds (g .log)))
+      either k x o p = go (in-log x (g .log))
         where
-          go : Dec (List·Memᴰ x (olds (g .log))) → Either (r .heap) x
-          go (yes m) = let t = in-olds (g .log) m in inr (t .0, t .1, A .logged .copies (t .1) .forward)
-          go (no ne) = inl (A .logged .unmoved k x o (p .0) (p .1) (λ b m. ne (olds-in m)))
+          go : ((b : ℕ) × List·Memᴰ (to x b) (g .log)) ⊎ ((b : ℕ) → List·Memᴰ (to x b) (g .log) → ⊥) → Either (r .heap) x
+          go (inl t) = inr (t .0, t .1, A .logged .copies (t .1) .forward)
+          go (inr new) = inl (A .logged .unmoved k x o (p .0) (p .1) new)
 
   pub headers-back : Half (From R (S .pages) R) (undoHeaders n N R (s .table) (d .heap))
   headers-back = steps-keep (λ j. undoChain n N (firstLink n (s .table) j)) R (λ j h. Half (From R (S .pages) j) h) (λ j h jR H. region j jR h H) R 0 (d .heap) (omega arith) begin

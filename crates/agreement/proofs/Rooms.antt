@@ -3,25 +3,25 @@ use Prim.Native.Nat.{ℕ, suc, _+_, _-_, _*_, _^_, _≤_, _<_}
 use native.Mathlib.Numerals.{sub-one}
 use native.Mathlib.Omega.{arith}
 use mathlib.Core.Path.{_≡_, refl, sym, ap, _∙_, subst}
-use mathlib.Core.Logic.{_≢_, _⊎_, inl, inr}
+use mathlib.Core.Logic.{_⊎_, inl, inr}
 use mathlib.Core.Bool.{true, false}
 use mathlib.Core.List.{List, [], _∷_, List·Memᴰ·head}
 use lib.ListN.{length, set, length-set}
 use lib.Dec.{leb}
 use borrow.Author.Tests.{ne-eqb, lt-leb}
 use Rattle.laws.specs.Each.{after}
-use Rattle.laws.proofs.Once.{linked-none, last-in, Linked}
+use Rattle.laws.proofs.Once.{linked-none, Linked}
 use Rattle.rules.specs.Memory.{Store, pageCount, link, endOf, topOf}
 use Rattle.rules.specs.Pages.{Run, withHeap, withTable, join}
-use Rattle.facts.proofs.Laid.{mine, Layout, upd, mine≢beyond, spare≢beyond, page-in}
+use Rattle.facts.proofs.Laid.{mine, Layout, upd, last-in-heap, free-known, last-start}
 use Rattle.facts.proofs.Sound.{Sound}
-use Rattle.working.proofs.Taken.{taken}
+use Rattle.working.proofs.Taken.{taken, taken-table, taken-long}
 use Rattle.working.proofs.Placed.{Roomed}
 use Rattle.working.proofs.Invariant.{Ghost}
 use Rattle.motion.specs.Leaves.{Desk, desk}
 use Rattle.motion.specs.Run.{joinAt, joinOn, room}
 use Rattle.agreement.proofs.Matching.{Matching}
-use Rattle.agreement.proofs.Frames.{owning, by-owners, word-on, row-on, end-same, top-same}
+use Rattle.agreement.proofs.Frames.{owning, by-owners, word-on, row-on, end-same, top-same, link-plain}
 use Rattle.agreement.proofs.Took as T
 
 module _ (s : Store) (S : Sound s) (g : Ghost) (r : Run) (d : Desk) (M : Matching s S g r d) (fin : ℕ → ℕ) (pages : ℕ → List ℕ)
@@ -67,14 +67,6 @@ module _ (s : Store) (S : Sound s) (g : Ghost) (r : Run) (d : Desk) (M : Matchin
     M₀ : Matching s S g₀ r₀ d₀
     M₀ = T.took-matches s S g r d M R fin pages k ks free L′ j
 
-    same-table : r₀ .table ≡ r .table
-    unfolding taken
-    same-table = refl
-
-    same-size : length (r₀ .heap) ≡ length (r .heap)
-    unfolding taken
-    same-size = length-set (set (r .heap) (k * P) 0) (k * P + 1) (suc j) ∙ length-set (r .heap) (k * P) 0
-
     -- the page that was last
     abbrev z : ℕ
     z = L .mine-top j jR .0
@@ -83,10 +75,7 @@ module _ (s : Store) (S : Sound s) (g : Ghost) (r : Run) (d : Desk) (M : Matchin
     x = endOf (r₀ .table) j - P
 
     x-is : x ≡ z * P
-    x-is = let e = L .mine-top j jR .2 in let q : endOf (r₀ .table) j ≡ endOf (r .table) j = ap (λ t. endOf t j) same-table in omega arith
-
-    z-in : z * P + P ≤ length (r .heap)
-    z-in = page-in L z (λ q. mine≢beyond (L .mine-own j z jR (last-in (L .mine-top j jR .1))) q)
+    x-is = ap (λ t. endOf t j - P) (taken-table n j k r) ∙ last-start L j jR
 
     abbrev r₁ : Run
     r₁ = withHeap r₀ (set (r₀ .heap) x (suc k))
@@ -96,14 +85,14 @@ module _ (s : Store) (S : Sound s) (g : Ghost) (r : Run) (d : Desk) (M : Matchin
 
     M₁ : Matching s S g₀ r₁ d₁
     M₁ =
-        let a = z-in in
+        let a = last-in-heap L j jR in
         let b = L .big in
-        let c = same-size in
+        let c = taken-long n j k r in
         let e = x-is in
-        word-on s S g₀ r₀ d₀ M₀ x (suc k) (omega arith) (rw x-is (T.link-plain s S g₀ z))
+        word-on s S g₀ r₀ d₀ M₀ x (suc k) (omega arith) (rw x-is (link-plain s S g₀ z))
 
     wide : 4 * R ≤ length (r₀ .table)
-    wide = rw same-table (L .rows)
+    wide = rw (taken-table n j k r) (L .rows)
 
     abbrev r₂ : Run
     r₂ = withTable r₁ (set (r₀ .table) (4 * j) (k * P + P))
@@ -125,14 +114,14 @@ module _ (s : Store) (S : Sound s) (g : Ghost) (r : Run) (d : Desk) (M : Matchin
         row-on s S g₀ r₂ d₂ M₂ (4 * j + 2) (k * P + 2) (omega arith) (omega arith)
 
     k-known : k < N
-    k-known = L′ .known k (λ q. spare≢beyond (L′ .free-own k (List·Memᴰ·head refl)) q)
+    k-known = free-known L′ k (List·Memᴰ·head refl)
 
     makes : leb (topOf (r .table) j + m) (endOf (r .table) j) ≡ false → room n j m d ≡ after true d₃
     unfolding room joinOn joinAt
     makes e =
         let q : leb (topOf (d .notes) j + m) (endOf (d .notes) j) ≡ false = test ∙ e in
         let b = T.start-is s S k k-known in
-        let x : endOf (d .notes) j ≡ endOf (r₀ .table) j = end-same s S g r d M j jR ∙ ap (λ t. endOf t j) (sym same-table) in
+        let x : endOf (d .notes) j ≡ endOf (r₀ .table) j = end-same s S g r d M j jR ∙ ap (λ t. endOf t j) (sym (taken-table n j k r)) in
         rw (q, T.takes s S g r d M R fin pages k ks free L′ j, ne-eqb (suc k) 0 (omega arith), sub-one (suc k), b, x)
 
   -- ---- room, as the plain run has it

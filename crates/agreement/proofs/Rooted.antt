@@ -21,9 +21,8 @@ use Rattle.rules.specs.Seen.{seen, Reached}
 use Rattle.facts.proofs.Steps.{steps-le}
 use Rattle.facts.proofs.Copied.{to, Rel, num, stay, went}
 use Rattle.facts.proofs.Sound.{Good, Sound}
-use Rattle.working.proofs.Log.{pointers}
+use Rattle.working.proofs.Log.{pointers, of-pointers}
 use Rattle.working.proofs.Invariant.{Ghost, Kept, Inv, Became}
-use Rattle.working.proofs.Evacuating.{of-pointers}
 use Rattle.working.proofs.Roots.{all-none, all-more, AllBecame}
 use Rattle.motion.specs.Leaves.{Desk}
 use Rattle.motion.specs.Run.{move}
@@ -31,8 +30,8 @@ use Rattle.motion.specs.Whole.{moveRoot, rootWord, writtenRoots}
 use Rattle.agreement.proofs.Matching.{Matching}
 use Rattle.agreement.proofs.Stuck.{Stuck, stuck-moving}
 use Rattle.agreement.proofs.Heads.{pointer-rest, number-rest, const-rest}
-use Rattle.agreement.proofs.Moves.{old-plain}
 use Rattle.agreement.proofs.Words.{Handled, Evacuates, evacuates}
+use Rattle.agreement.proofs.Frames.{old-plain}
 
 -- ---- the words at the end
 

@@ -1,7 +1,7 @@
 -- A page taken at work and in the plain run: the same page, with link 0 in both. At work its origin word keeps its free link, which is the one that
 -- it had at the start, since the free list is what is left of that list.
 use Prim.Native.Nat.{ℕ, suc, _+_, _-_, _*_, _^_, _≤_, _<_}
-use native.Mathlib.Nat.{mul-le-mul-left, mul-le-mul-right, mod-eq-of-lt}
+use native.Mathlib.Nat.{mul-le-mul-left, mod-eq-of-lt}
 use native.Mathlib.Numerals.{sub-one}
 use native.Mathlib.Omega.{arith}
 use native.Mathlib.Decide.{ℕ-discrete}
@@ -13,18 +13,18 @@ use lib.Seq.{getD-set-same, getD-set-other}
 use borrow.Author.Tests.{le-leb, ne-eqb}
 use Rattle.laws.specs.Lists.{at}
 use Rattle.laws.specs.Each.{after}
-use Rattle.laws.proofs.Lists.{starts-differ, begins-none}
-use Rattle.laws.proofs.Once.{Linked, linked-first, linked-none, in-snoc, once-most}
+use Rattle.laws.proofs.Lists.{starts-differ, second-none}
+use Rattle.laws.proofs.Once.{Linked, linked-first, linked-none, in-snoc}
 use Rattle.rules.specs.Memory.{Store, pageCount, link}
 use Rattle.rules.specs.Pages.{Run}
-use Rattle.facts.proofs.Laid.{Owner, spare, mine, Layout, upd, upd-same, upd-other, spare≢mine, spare≢beyond}
+use Rattle.facts.proofs.Laid.{Owner, spare, mine, Layout, upd, upd-same, upd-other, spare≢mine, spare≢beyond, page-in, free-few, free-known}
 use Rattle.facts.proofs.Sound.{Sound}
 use Rattle.working.proofs.Taken as T
 use Rattle.working.proofs.Invariant.{Ghost}
 use Rattle.motion.specs.Leaves.{Desk, desk, low, freeFirst, taken, pageStart}
 use Rattle.motion.specs.Run.{takeAt, takeOn, takeFree}
 use Rattle.agreement.proofs.Matching.{Matching}
-use Rattle.agreement.proofs.Frames.{noted-same, set-alike, Plain, owning}
+use Rattle.agreement.proofs.Frames.{noted-same, set-alike, Plain, owning, link-same}
 
 -- a small number is its 32 bits
 pub low-is : (v : ℕ) → v < 4294967296 → low v ≡ v
@@ -61,13 +61,6 @@ module _ (s : Store) (S : Sound s) where
   unfolding pageStart
   start-is k b = let c = few-pages in rw (le-leb k 65536 (omega arith))
 
-  pub free-few : length (S .free) ≤ N
-  free-few = once-most N (λ k m. S .laid .known k (λ q. spare≢beyond (S .laid .free-own k m) q)) (S .laid .free-once)
-
-  -- a link is no page's origin
-  pub link-plain : (g : Ghost) (k : ℕ) → Plain s g (k * P)
-  link-plain g k l j o e = let b = S .laid .big in begins-none P l k (l * P + 1) (omega arith) (omega arith) (sym e)
-
   -- ---- a page that can be taken
   module _ (g : Ghost) (r : Run) (d : Desk) (M : Matching s S g r d) (R : ℕ) (fin : ℕ → ℕ) (pages : ℕ → List ℕ) (k : ℕ) (ks : List ℕ) (free : g .free ≡ k ∷ ks)
       (L : Layout n N R (g .own) fin pages (k ∷ ks) r) (j : ℕ) where
@@ -75,10 +68,10 @@ module _ (s : Store) (S : Sound s) where
     own-k = L .free-own k (List·Memᴰ·head refl)
 
     k-known : k < N
-    k-known = L .known k (λ q. spare≢beyond own-k q)
+    k-known = free-known L k (List·Memᴰ·head refl)
 
     k-in : k * P + P ≤ length (r .heap)
-    k-in = let a = L .size in let b = mul-le-mul-right P k-known in omega arith
+    k-in = page-in L k (spare≢beyond own-k)
 
     first-is : r .first ≡ suc k
     first-is = linked-first (L .free-links) .0
@@ -91,10 +84,6 @@ module _ (s : Store) (S : Sound s) where
     link-was =
         let p : Linked (link n (s .heap)) (s .ctl .first) (M .took ++ k ∷ ks) = rw front at (S .laid .free-links) in
         same-start ks (linked-first (L .free-links) .1) (linked-on (M .took) p)
-
-    link-here : at (d .heap) (k * P) ≡ link n (r .heap) k
-    unfolding link
-    link-here = M .words (k * P) (link-plain g k)
 
     abbrev pub d′ : Desk
     d′ =
@@ -120,11 +109,8 @@ module _ (s : Store) (S : Sound s) where
     long : length (d .heap) ≡ length (r .heap)
     long = M .heap-length
 
-    heap₁ : List ℕ
-    heap₁ = set (d .heap) (k * P) 0
-
     far : (l : ℕ) → l ≢ k → (l * P + 1 ≢ k * P) × (l * P + 1 ≢ k * P + 1)
-    far l ne = let b = L .big in (begins-none P l k (l * P + 1) (omega arith) (omega arith), λ q. starts-differ P l k (omega arith) ne (omega arith))
+    far l ne = let b = L .big in (second-none P k l (omega arith), λ q. starts-differ P l k (omega arith) ne (omega arith))
 
     words : (x : ℕ) → Plain s g′ x → at (d′ .heap) x ≡ at (T.taken n j k r .heap) x
     unfolding T.taken
@@ -172,7 +158,7 @@ module _ (s : Store) (S : Sound s) where
             let e : l * P + 1 ≡ k * P + 1 = ap (λ x. x * P + 1) q in
             ap (at (d′ .heap)) e
             ∙ getD-set-same (set (d .heap) (k * P) 0) (k * P + 1) (at (d .heap) (k * P)) 0 (rw (length-set (d .heap) (k * P) 0) (omega arith))
-            ∙ link-here ∙ link-was ∙ ap (link n (s .heap)) (sym q)
+            ∙ link-same s S g r d M k ∙ link-was ∙ ap (link n (s .heap)) (sym q)
         go (no ne) = by ne (in-snoc (M .took) m)
 
     abbrev notes₁ : List ℕ
@@ -188,7 +174,7 @@ module _ (s : Store) (S : Sound s) where
     counted : low (at (d .notes) taken + 1) ≡ length took′
     counted =
         let a = few-pages in
-        let b = free-few in
+        let b = free-few (S .laid) in
         let c : length (S .free) ≡ length (M .took) + suc (length ks) = ap length front ∙ length-append (M .took) (k ∷ ks) in
         let t = M .taken-count in
         low-is (at (d .notes) taken + 1) (omega arith) ∙ ap (λ x. x + 1) t ∙ sym (length-append (M .took) (k ∷ []))
@@ -201,7 +187,7 @@ module _ (s : Store) (S : Sound s) where
         record {
           heap-length =
               length-set (set (d .heap) (k * P) 0) (k * P + 1) (at (d .heap) (k * P)) ∙ length-set (d .heap) (k * P) 0 ∙ long
-              ∙ sym (length-set (set (r .heap) (k * P) 0) (k * P + 1) (suc j) ∙ length-set (r .heap) (k * P) 0);
+              ∙ sym (T.taken-long n j k r);
           notes-length = length-set notes₁ taken (low (at (d .notes) taken + 1)) ∙ notes-wide;
           words = words;
           took = took′;
@@ -211,7 +197,7 @@ module _ (s : Store) (S : Sound s) where
           rows = λ i c iR c4. else-notes (4 * i + c) (omega arith) (omega arith) ∙ M .rows i c iR c4;
           free-first =
               getD-set-other notes₁ taken freeFirst (low (at (d .notes) taken + 1)) 0 (omega arith)
-              ∙ getD-set-same (d .notes) freeFirst (at (d .heap) (k * P)) 0 (omega arith) ∙ link-here;
+              ∙ getD-set-same (d .notes) freeFirst (at (d .heap) (k * P)) 0 (omega arith) ∙ link-same s S g r d M k;
           taken-count = getD-set-same notes₁ taken (low (at (d .notes) taken + 1)) 0 (let w = notes-wide in omega arith) ∙ counted;
           free-last = else-notes _ (omega arith) (omega arith) ∙ M .free-last;
           given-none = else-notes _ (omega arith) (omega arith) ∙ M .given-none;

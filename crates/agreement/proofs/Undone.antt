@@ -1,7 +1,7 @@
 -- A collection that lacks a page is undone: the headers are put back, and each taken page, in the order of taking, is cleared and gets its
 -- link of before, which its origin has kept. No page is still free. So the heap is as it was.
 use Prim.Native.Nat.{ℕ, _+_, _*_, _/_, _^_, _≤_, _<_}
-use native.Mathlib.Nat.{mul-le-mul-right, div-add-mod', mod-lt, div-lt-iff-lt-mul}
+use native.Mathlib.Nat.{div-add-mod', mod-lt, div-lt-iff-lt-mul}
 use native.Mathlib.Omega.{arith}
 use native.Mathlib.Decide.{ℕ-discrete}
 use mathlib.Core.Path.{_≡_, refl, sym, ap, _∙_, subst}
@@ -18,6 +18,7 @@ use Rattle.rules.specs.Refusals.{refused}
 use Rattle.rules.specs.Pages.{clearPage}
 use Rattle.facts.proofs.Laid.{old≢mine, spare≢beyond, Owner, old, spare, beyond, mine}
 use Rattle.facts.proofs.Sound.{Sound}
+use Rattle.facts.proofs.Goods.{page-ends}
 use Rattle.working.proofs.Invariant.{Ghost}
 use Rattle.motion.specs.Leaves.{Desk, taken}
 use Rattle.motion.specs.Whole.{undoHeaders, relink, relinkAll, undo, lacking}
@@ -57,9 +58,6 @@ module _ (s : Store) (S : Sound s) (d : Desk) (A : Stuck s S d) where
   was-free : (k : ℕ) → List·Memᴰ k (M .took) → S .own k ≡ spare
   was-free k m = S .laid .free-own k (subst (List·Memᴰ k) (sym (M .front)) (Memᴰ·append-left (g .free) m))
 
-  inside : (k : ℕ) → k < N → k * P + P ≤ length (s .heap)
-  inside k b = let a = mul-le-mul-right P b in let e = S .laid .size in omega arith
-
   -- the pages ks are still to be linked; all others are as before
   pub record Linking (ks : List ℕ) (h : List ℕ) : Type 0 where
     pub size : length h ≡ length (s .heap)
@@ -94,7 +92,7 @@ module _ (s : Store) (S : Sound s) (d : Desk) (A : Stuck s S d) where
       there = S .laid .known k (spare≢beyond own-k)
 
       k-in : k * P + P ≤ length h
-      k-in = let a = inside k there in let b = L .size in omega arith
+      k-in = let a = page-ends n (s .heap) (S .within .paged) k there in let b = L .size in omega arith
 
       -- another page
       else-same : (l x : ℕ) → l ≢ k → l * P ≤ x → x < l * P + P → at (set h₂ (k * P) w) x ≡ at h x

@@ -3,8 +3,8 @@ use Prim.Native.Nat.{ℕ, suc, _+_, _/_, _%_}
 use native.Mathlib.Omega.{arith}
 use mathlib.Core.Path.{_≡_, refl, sym, ap, _∙_}
 use mathlib.Core.Logic.{_≢_, _⊎_, inl, inr}
-use mathlib.Core.Bool.{true, false}
-use mathlib.Core.Option.{none, some}
+use mathlib.Core.Bool.{true, false, false≢true}
+use mathlib.Core.Option.{none, some, Option·none-ne-some}
 use mathlib.Core.List.{List, _∷_, List·Memᴰ}
 use borrow.Author.Tests.{eq-eqb, ne-eqb}
 use Rattle.laws.specs.Lists.{at}
@@ -25,10 +25,9 @@ use Rattle.motion.specs.Leaves.{Desk}
 use Rattle.motion.specs.Run as X
 use Rattle.motion.specs.Run.{scanOf}
 use Rattle.agreement.proofs.Matching.{Matching}
-use Rattle.agreement.proofs.Frames.{by-owners}
+use Rattle.agreement.proofs.Frames.{by-owners, body-plain}
 use Rattle.agreement.proofs.Stuck.{Stuck}
 use Rattle.agreement.proofs.Heads.{record-rest, raw-rest}
-use Rattle.agreement.proofs.Moves.{body-plain}
 use Rattle.agreement.proofs.Fields.{Scans, scans-fields}
 
 module _ (s : Store) (S : Sound s) (g : Ghost) (r : Run) (I : Inv s S g r) (j b : ℕ) (ts : List ℕ) (cur : g .cur ≡ some j) (todo : g .todo j ≡ b ∷ ts) (none-open : g .half ≡ none)
@@ -56,15 +55,12 @@ module _ (s : Store) (S : Sound s) (g : Ghost) (r : Run) (I : Inv s S g r) (j b 
       ((scanValue n b r ≡ none) × (d′ : Desk) × (X.scanValue n b d ≡ after false d′) × Stuck s S d′)
       ⊎ ((r′ : Run) × (scanValue n b r ≡ some r′) × (Z : Turned s S g r j b r′) × (d′ : Desk) × (X.scanValue n b d ≡ after true d′) × Matching s S (Z .ghost) r′ d′)
 
-  no-head : {A : Type 0} {l : ℕ} → none ≡ some l → A
-  no-head z = let z′ : _≡_ {A = ℕ} 0 1 = cc in absurd (omega arith)
-
   by-head : (y : Head) → headOf (at (r .heap) b) ≡ y → Values
   unfolding scanValue scanOf turned T.ready
   by-head (raw l) e =
       let w : (at (d .heap) b) % 8 ≢ 1 = rw here (raw-rest (at (r .heap) b) l e) in
       let Z = turned s S g r I j b ts cur todo none-open (T.start s S g r I j b ts cur todo none-open) (later-refl _ _ _)
-      (λ k q. let z : raw l ≡ rec k = sym e ∙ q in let z′ : _≡_ {A = ℕ} 0 1 = cc in absurd (omega arith)) in
+      (λ k q. let z : raw l ≡ rec k = sym e ∙ q in absurd (false≢true cc)) in
       inr (r, rw (e, scanValue), Z, d, rw (ne-eqb ((at (d .heap) b) % 8) 1 w), by-owners s S g r d M (Z .ghost) refl refl)
   by-head (rec l) e = go (scans-fields s S (opened g j b ts) r c b l (ap headOf (sym header) ∙ e) l r 0 (omega arith) (T.ready s S g r I j b ts cur todo none-open l e) d (by-owners s S g r d M (opened g j b ts) refl refl))
     where
@@ -84,8 +80,8 @@ module _ (s : Store) (S : Sound s) (g : Ghost) (r : Run) (I : Inv s S g r) (j b 
           let Q : Ready s S (opened g j b ts) r c b l r′ l = u .2 in
           let Z = turned s S g r I j b ts cur todo none-open (Q .inv) (Q .later) (T.full s S g r I j b ts cur todo none-open l e r′ Q) in
           inr (r′, is ∙ u .1, Z, u .3, is-at-work ∙ u .4, by-owners s S (Q .ghost) r′ (u .3) (u .5) (Z .ghost) refl refl)
-  by-head (moved k) e = no-head (sym (ap lengthBy e) ∙ C .into-stands .head)
-  by-head wrong e = no-head (sym (ap lengthBy e) ∙ C .into-stands .head)
+  by-head (moved k) e = absurd (Option·none-ne-some _ (sym (ap lengthBy e) ∙ C .into-stands .head))
+  by-head wrong e = absurd (Option·none-ne-some _ (sym (ap lengthBy e) ∙ C .into-stands .head))
 
   pub scans-value : Values
   scans-value = by-head (headOf (at (r .heap) b)) refl

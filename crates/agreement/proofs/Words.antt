@@ -12,12 +12,13 @@ use Rattle.laws.specs.Lists.{at}
 use Rattle.laws.specs.Each.{after}
 use Rattle.rules.specs.Memory.{Store}
 use Rattle.rules.specs.Pages.{Run, withHeap}
-use Rattle.rules.specs.Collection.{evacuateAt, evacuate}
-use Rattle.rules.proofs.Pointers.{pointer, pointer-is}
+use Rattle.rules.specs.Collection.{evacuate}
+use Rattle.rules.proofs.Pointers.{pointer-is}
 use Rattle.rules.specs.Seen.{seen, Reached}
 use Rattle.facts.proofs.Copied.{num, stay}
 use Rattle.facts.proofs.Sound.{Good, a-number, to-heap, to-const, Sound}
-use Rattle.working.proofs.Invariant.{Ghost, Inv, later-refl, Became}
+use Rattle.working.proofs.Invariant.{Ghost, Inv, Became}
+use Rattle.working.proofs.Evacuation.{evacuate-pointer, stays}
 use Rattle.motion.specs.Leaves.{Desk, desk}
 use Rattle.motion.specs.Run as X
 use Rattle.motion.specs.Run.{move, evacuated, evacuateOf}
@@ -42,13 +43,13 @@ module _ (s : Store) (S : Sound s) (g : Ghost) (r : Run) (I : Inv s S g r) (d : 
       ⊎ ((v : ℕ) × (r′ : Run) × (evacuate n w r ≡ some (v, r′)) × (B : Became s S g r w v r′) × (d′ : Desk) × Matching s S (B .ghost) r′ d′ × Handled w v d′)
 
   pub evacuates : (w : ℕ) → Good n (s .ctl .regions) (s .heap) (s .consts) w → Reached (seen s) (s .roots) w → Evacuates w
-  unfolding evacuate
+  unfolding evacuate stays
   evacuates w (a-number e) q =
       inr (
         w,
         r,
         rw (e, evacuate),
-        record { ghost = g; inv = I; later = later-refl _ g r; rel = num {v = w} (rw e); count = λ t. refl },
+        stays s S g r I w w (num (rw e)),
         d,
         M,
         inr (number-rest w e, refl, refl),
@@ -58,7 +59,7 @@ module _ (s : Store) (S : Sound s) (g : Ghost) (r : Run) (I : Inv s S g r) (d : 
         w,
         r,
         rw (e, evacuate),
-        record { ghost = g; inv = I; later = later-refl _ g r; rel = stay (record { address = a; word = e; good = k }); count = λ t. refl },
+        stays s S g r I w w (stay (record { address = a; word = e; good = k })),
         d,
         M,
         inr (const-rest w a e, refl, refl),
@@ -67,13 +68,10 @@ module _ (s : Store) (S : Sound s) (g : Ghost) (r : Run) (I : Inv s S g r) (d : 
       let p : w ≡ 4 * a = pointer-is w a e in
       rw p (go (moves s S g r I d M a x (rw p at q)))
     where
-      by : evacuate n (4 * a) r ≡ evacuateAt n a r
-      by = rw (pointer a, evacuate)
-
       go : Moves s S g r I d M a → Evacuates (4 * a)
-      go (inl u) = inl (by ∙ u .0, pointer-rest a .0, rw (pointer-rest a .1) (u .1), u .2)
+      go (inl u) = inl (evacuate-pointer n a r ∙ u .0, pointer-rest a .0, rw (pointer-rest a .1) (u .1), u .2)
       go (inr u) =
-          inr (u .0, u .1, by ∙ u .2, u .3, u .4, u .6, inl (pointer-rest a .0, rw (pointer-rest a .1) (u .5), rw (pointer-rest a .1) (u .7)))
+          inr (u .0, u .1, evacuate-pointer n a r ∙ u .2, u .3, u .4, u .6, inl (pointer-rest a .0, rw (pointer-rest a .1) (u .5), rw (pointer-rest a .1) (u .7)))
 
   -- ---- the field at x
   module _ (x w : ℕ) (here : at (d .heap) x ≡ w) where

@@ -5,7 +5,7 @@ use native.Mathlib.Numerals.{sub-one}
 use native.Mathlib.Omega.{arith}
 use mathlib.Core.Path.{_≡_, refl, sym, ap, _∙_, subst}
 use mathlib.Core.Logic.{_≢_, _⊎_, inl, inr}
-use mathlib.Core.Bool.{true, false}
+use mathlib.Core.Bool.{true, false, false≢true}
 use mathlib.Core.Option.{none, some}
 use mathlib.Core.List.{List, [], _∷_, List·Memᴰ, List·Memᴰ·head, Memᴰ·append-left, Memᴰ·append-right}
 use lib.ListN.{length, set, length-set}
@@ -25,9 +25,9 @@ use Rattle.working.proofs.Next.{headOr}
 use Rattle.working.proofs.Rows.{InRow, row-in}
 use Rattle.working.proofs.Invariant.{Ghost, Inv, Enough}
 use Rattle.working.proofs.Turn.{Turned}
-use Rattle.working.proofs.Leaving.{scanning, left, left-last, left-next}
-use Rattle.working.proofs.Work.{Finished, log-bound, not-top, next}
-use Rattle.working.proofs.Roots.{begin, begins-at, begins-work, entered-enough, entered-finished, ends-work, ends-finished, entered-inv}
+use Rattle.working.proofs.Leaving.{scanning, left, left-empty, left-next}
+use Rattle.working.proofs.Work.{Finished, finished-from, log-bound, work-done, left-finished, next-begins, work-leaves, left-enough, at-copy, work-lacks, next-copy, work-scans, scanned-enough}
+use Rattle.working.proofs.Roots.{begin, begins-at, begins-work, entered-enough, ends-work, ends-finished, entered-inv}
 use Rattle.motion.specs.declared.Step.{Step}
 use Rattle.motion.specs.Leaves.{Desk, desk, low, entry, depth, goOn, popOn, pop}
 use Rattle.motion.specs.Run as X
@@ -56,7 +56,7 @@ module _ (s : Store) (S : Sound s) (g : Ghost) (r : Run) (d : Desk) (M : Matchin
 
     top-is : {us : List Scan} → Noted (d .notes) us → us ≡ t ∷ ts
         → (at (d .notes) (entry (length ts)) ≡ t .address) × (at (d .notes) (entry (length ts) + 1) ≡ t .region) × Noted (d .notes) ts
-    top-is bare q = let z : _≡_ {A = ℕ} 0 1 = cc in absurd (omega arith)
+    top-is bare q = absurd (false≢true cc)
     top-is (above {t = t′} {ts = ts′} a b rest) q =
         let p : t′ ≡ t = cc in
         let p′ : ts′ ≡ ts = cc in
@@ -142,7 +142,7 @@ module _ (s : Store) (S : Sound s) where
 
   pub works : (f : ℕ) (g : Ghost) (r : Run) (j : ℕ) → Inv s S g r → g .cur ≡ some j → g .half ≡ none → Enough s g r f → (d : Desk) → Matching s S g r d
       → Works g r d f j (headOr (topOf (r .table) j) (g .todo j))
-  unfolding work
+  unfolding work finished-from left-finished
   works zero g r j I cur shut enough d M = let a = log-bound s S g r I in let b = enough .steps in absurd (omega arith)
   works (suc f) g r j I cur shut enough d M = go (g .todo j) refl (λ g′ r′ i. works f g′ r′ i)
     where
@@ -164,7 +164,7 @@ module _ (s : Store) (S : Sound s) where
           inr (
             u .0,
             e ∙ u .1,
-            record { ghost = F .ghost; inv = F .inv; no-cur = F .no-cur; none-open = F .none-open; stack = F .stack; log = λ x m. F .log x (grew x m) },
+            finished-from grew F,
             u .3,
             t ∙ u .4,
             u .5,
@@ -182,62 +182,49 @@ module _ (s : Store) (S : Sound s) where
 
       leave : g .todo j ≡ [] → (st : List Scan) → r .stack ≡ st → Rest → Works g r d (suc f) j (topOf (r .table) j)
       leave e [] q rest =
-          let t : eqb (topOf (r .table) j) (topOf (r .table) j) ≡ true = eq-eqb (topOf (r .table) j) (topOf (r .table) j) refl in
-          let w : left j [] r ≡ withTable r (setStatus (r .table) j 0) = ap (λ x. withStack (withTable r (setStatus (r .table) j 0)) x) (sym q) in
           let d₁ : Desk = desk (d .heap) (setStatus (d .notes) j 0) in
           let p = pops-none s S g (withTable r (setStatus (r .table) j 0)) d₁ M₁ q in
           inr (
             left j [] r,
-            rw (t, work, q) (ap finished (sym w)),
-            record { ghost = scanning g none; inv = left-last s S g r I j cur e q; no-cur = refl; none-open = shut; stack = refl; log = λ x m. m },
+            work-done s S g r I j cur f q,
+            left-finished s S g r I j cur f e shut q,
             d₁,
             ends n f j (topOf (r .table) j) d d₁ (leaves n f j (topOf (r .table) j) d at-top (after Step.Finished (d₁ .notes)) p),
-            rw w (by-owners s S g (withTable r (setStatus (r .table) j 0)) d₁ M₁ (scanning g none) refl refl),
+            rw (left-empty j r q) (by-owners s S g (withTable r (setStatus (r .table) j 0)) d₁ M₁ (scanning g none) refl refl),
           )
       leave e (t ∷ ts) q rest =
-          let p : eqb (topOf (r .table) j) (topOf (r .table) j) ≡ true = eq-eqb (topOf (r .table) j) (topOf (r .table) j) refl in
-          let W = I .pending .stacked t (rw q (List·Memᴰ·head refl)) in
           let g′ : Ghost = scanning g (some (t .region)) in
           let r′ : Run = left j ts r in
-          let b = enough .steps in
-          let c : length (r .stack) ≡ suc (length ts) = ap length q in
-          let a : t .address ≡ headOr (topOf (r′ .table) (t .region)) (g .todo (t .region)) = rw (W .begins) in
           let r₁ : Run = withTable r (setStatus (r .table) j 0) in
           let d₁ : Desk = desk (d .heap) (setStatus (d .notes) j 0) in
           let d′ : Desk = popped s S g r₁ d₁ M₁ t ts q in
           let o = pops s S g r₁ d₁ M₁ t ts q in
           let z = goes-on n f j (topOf (r .table) j) d (t .region) (t .address) d′ (leaves n f j (topOf (r .table) j) d at-top (after (goOn (t .region) (t .address)) (d′ .notes)) o) in
           up g′ r′ d′ (t .region) (topOf (r .table) j) (headOr (topOf (r′ .table) (t .region)) (g .todo (t .region))) (λ x m. m)
-          (rw (p, work, q) (ap (λ x. work n f (t .region) x r′) a))
-          (z ∙ ap (λ x. X.work n f (X.scanning (t .region) x d′)) a)
-          (rest g′ r′ (t .region) (left-next s S g r I j cur e t ts q) refl shut (record { steps = omega arith }) d′
+          (work-leaves s S g r I j cur f t ts q)
+          (z ∙ ap (λ x. X.work n f (X.scanning (t .region) x d′)) (next-begins s S g r I j cur f t ts q))
+          (rest g′ r′ (t .region) (left-next s S g r I j cur e t ts q) refl shut (left-enough s S g r I j cur f t ts q enough) d′
           (by-owners s S g r′ d′ (popped-matches s S g r₁ d₁ M₁ t ts q) g′ refl refl))
 
       -- a copy is scanned
       scan : (b : ℕ) (ts : List ℕ) (e : g .todo j ≡ b ∷ ts) → Rest → Values s S g r I j b ts cur e shut d M → Works g r d (suc f) j b
       scan b ts e rest (inl u) =
-          let ne : b ≢ topOf (r .table) j = not-top s S g r I j jR b (rw e (List·Memᴰ·head refl)) in
-          let p : eqb b (topOf (r .table) j) ≡ false = ne-eqb b (topOf (r .table) j) ne in
-          let p′ : eqb b (topOf (d .notes) j) ≡ false = rw same-top p in
-          inl (rw (p, work, u .0), u .1, stops n f j b d (u .1) (lacks n f j b d p′ (u .1) (u .2)), u .3)
+          let p′ : eqb b (topOf (d .notes) j) ≡ false = rw same-top (at-copy s S g r I j cur f b ts e) in
+          inl (work-lacks s S g r I j cur f b ts e (u .0), u .1, stops n f j b d (u .1) (lacks n f j b d p′ (u .1) (u .2)), u .3)
       scan b ts e rest (inr u) =
-          let ne : b ≢ topOf (r .table) j = not-top s S g r I j jR b (rw e (List·Memᴰ·head refl)) in
-          let p : eqb b (topOf (r .table) j) ≡ false = ne-eqb b (topOf (r .table) j) ne in
-          let p′ : eqb b (topOf (d .notes) j) ≡ false = rw same-top p in
+          let p′ : eqb b (topOf (d .notes) j) ≡ false = rw same-top (at-copy s S g r I j cur f b ts e) in
           let r₁ : Run = u .0 in
           let T : Turned s S g r j b r₁ = u .2 in
           let d₁ : Desk = u .3 in
-          let a : nextScan n j b r₁ ≡ headOr (topOf (r₁ .table) j) (T .ghost .todo j) = next s S (T .ghost) r₁ (T .inv) j jR (g .past j) b (T .past) in
+          let a = next-copy s S g r I j cur f b ts e r₁ (u .1) T in
           let in-past : List·Memᴰ b (T .ghost .past j) = rw (T .past) (Memᴰ·append-right (g .past j) (List·Memᴰ·head refl)) in
           let F : InRow n (r₁ .heap) (T .ghost .fin) (T .ghost .pages j) b = row-in (T .inv .pending .rows j jR) (Memᴰ·append-left (T .ghost .todo j) in-past) in
           let nx = nexts s S (T .ghost) r₁ (T .inv) d₁ (u .5) j jR b F in
           let sm = next-small s S (T .ghost) r₁ (T .inv) d₁ (u .5) j jR b F in
           let lw : low (X.nextScan n j b d₁) ≡ headOr (topOf (r₁ .table) j) (T .ghost .todo j) = ap low nx ∙ low-is (nextScan n j b r₁) sm ∙ a in
-          let c = T .cost in
-          let k = enough .steps in
           let z = goes-on n f j b d j (headOr (topOf (r₁ .table) j) (T .ghost .todo j)) d₁ (scans n f j b d p′ d₁ (u .4) (headOr (topOf (r₁ .table) j) (T .ghost .todo j)) lw) in
-          up (T .ghost) r₁ d₁ j b (headOr (topOf (r₁ .table) j) (T .ghost .todo j)) (T .log) (rw (p, work, u .1) (ap (λ x. work n f j x r₁) a)) z
-          (rest (T .ghost) r₁ j (T .inv) (T .cur) (T .none-open) (record { steps = omega arith }) d₁ (u .5))
+          up (T .ghost) r₁ d₁ j b (headOr (topOf (r₁ .table) j) (T .ghost .todo j)) (T .log) (work-scans s S g r I j cur f b ts e r₁ (u .1) T) z
+          (rest (T .ghost) r₁ j (T .inv) (T .cur) (T .none-open) (scanned-enough s S g r I j cur f b ts e r₁ (u .1) T enough) d₁ (u .5))
 
       go : (xs : List ℕ) → g .todo j ≡ xs → Rest → Works g r d (suc f) j (headOr (topOf (r .table) j) xs)
       go [] e rest = leave e (r .stack) refl rest
@@ -252,7 +239,7 @@ module _ (s : Store) (S : Sound s) where
 
   pub works-stack : (g : Ghost) (r : Run) → Inv s S g r → g .cur ≡ none → g .half ≡ none → total (g .todo) R + length (r .stack) ≤ 2 * length (g .log)
       → (d : Desk) → Matching s S g r d → WorksStack g r d
-  unfolding workStack Y.workFrom ends-finished entered-finished
+  unfolding workStack Y.workFrom ends-finished finished-from
   works-stack g r I none-cur none-open cost d M = go (r .stack) refl
     where
       go : (st : List Scan) → r .stack ≡ st → WorksStack g r d
@@ -270,14 +257,11 @@ module _ (s : Store) (S : Sound s) where
           a : ℕ
           a = begin s S g r I none-cur t ts e
 
-          is : workStack n r ≡ work n f (t .region) a (withStack r ts)
-          is = begins-work s S g r I none-cur t ts e
-
           is-at-work : Y.workStack n f d ≡ X.work n f (X.scanning (t .region) a d′)
           is-at-work = rw (pops s S g r d M t ts e) (ap (λ x. X.work n f (X.scanning (t .region) x d′)) (begins-at s S g r I none-cur t ts e))
 
           by : Works (scanning g (some (t .region))) (withStack r ts) d′ f (t .region) a → WorksStack g r d
-          by (inl u) = inl (is ∙ u .0, u .1, is-at-work ∙ u .2, u .3)
+          by (inl u) = inl (begins-work s S g r I none-cur t ts e ∙ u .0, u .1, is-at-work ∙ u .2, u .3)
           by (inr u) =
               let F : Finished s S (scanning g (some (t .region))) (u .0) = u .2 in
-              inr (u .0, is ∙ u .1, entered-finished s S g r I none-cur t ts e F, u .3, is-at-work ∙ u .4, u .5)
+              inr (u .0, begins-work s S g r I none-cur t ts e ∙ u .1, finished-from (λ x m. m) F, u .3, is-at-work ∙ u .4, u .5)

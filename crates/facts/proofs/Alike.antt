@@ -4,7 +4,7 @@ use Prim.Native.Nat.{ℕ, suc, _-_, _<_, zero-le, suc-le-suc}
 use native.Mathlib.Omega.{arith}
 use mathlib.Core.Path.{_≡_, refl, sym, ap, _∙_}
 use mathlib.Core.Logic.{_↔_}
-use mathlib.Core.Bool.{Bool, true, false}
+use mathlib.Core.Bool.{Bool, true, false, false≢true}
 use mathlib.Core.List.{List, [], _∷_}
 use lib.ListN.{length, drop}
 use lib.Dec.{leb}
@@ -154,35 +154,31 @@ pub record MeetIn (X : View) (roots : List ℕ) (i : ℕ) (fs : List ℕ) (j : �
 
 pub alike-end : {R : ℕ → ℕ → Type 0} {a b : Walked} (v : ℕ) → AlikeWalks R a b → a ≡ ends v → (w : ℕ) × (b ≡ ends w) × R v w
 alike-end {R} v (both-end {v = v′} {w} r) e = let q : v′ ≡ v = cc in (w, refl, rw q at r)
-alike-end v (both-stop {k}) e = let z : _≡_ {A = ℕ} 0 1 = cc in absurd (omega arith)
+alike-end v (both-stop {k}) e = absurd (false≢true cc)
 
-pub alike-back : {R : ℕ → ℕ → Type 0} {a b : Walked} (w : ℕ) → AlikeWalks R a b → b ≡ ends w → (v : ℕ) × (a ≡ ends v) × R v w
-alike-back {R} w (both-end {v} {w = w′} r) e = let q : w′ ≡ w = cc in (v, refl, rw q at r)
-alike-back w (both-stop {k}) e = let z : _≡_ {A = ℕ} 0 1 = cc in absurd (omega arith)
+-- the other way round
+flipped : {R : ℕ → ℕ → Type 0} {a b : Walked} → AlikeWalks R a b → AlikeWalks (λ w v. R v w) b a
+flipped (both-end r) = both-end r
+flipped both-stop = both-stop
+
+-- what two paths meet on, they meet on in the other view, where R keeps numbers and what is one
+meets-on : (X Y : View) (R : ℕ → ℕ → Type 0) (rx ry : List ℕ) (i : ℕ) (fs : List ℕ) (j : ℕ) (gs : List ℕ) → ((v w : ℕ) → R v w → isNumber (wordOf v) ≡ isNumber (wordOf w))
+    → ((v w v′ w′ : ℕ) → R v w → R v′ w′ → v ≡ v′ → w ≡ w′) → AlikeWalks R (path X rx i fs) (path Y ry i fs) → AlikeWalks R (path X rx j gs) (path Y ry j gs)
+    → MeetIn X rx i fs j gs → MeetIn Y ry i fs j gs
+meets-on X Y R rx ry i fs j gs numbers once P Q m =
+    let p = alike-end (m .word) P (m .one) in
+    let q = alike-end (m .word) Q (m .other) in
+    let e : p .0 ≡ q .0 = once _ _ _ _ (p .2) (q .2) refl in
+    record { word = p .0; one = p .1; other = q .1 ∙ ap ends (sym e); pointer = sym (numbers _ _ (p .2)) ∙ m .pointer }
 
 module _ (X Y : View) (R : ℕ → ℕ → Type 0) (same : Same X Y R) (rx ry : List ℕ) (len : length rx ≡ length ry) (roots : (i : ℕ) → i < length rx → R (at rx i) (at ry i)) where
   pub meetings : (i : ℕ) (fs : List ℕ) (j : ℕ) (gs : List ℕ) → MeetIn X rx i fs j gs ↔ MeetIn Y ry i fs j gs
-  meetings i fs j gs = (there, back)
-    where
-      P : AlikeWalks R (path X rx i fs) (path Y ry i fs)
-      P = paths X Y R same rx ry len roots i fs
-
-      Q : AlikeWalks R (path X rx j gs) (path Y ry j gs)
-      Q = paths X Y R same rx ry len roots j gs
-
-      there : MeetIn X rx i fs j gs → MeetIn Y ry i fs j gs
-      there m =
-          let p = alike-end (m .word) P (m .one) in
-          let q = alike-end (m .word) Q (m .other) in
-          let e : p .0 ≡ q .0 = same .once _ _ _ _ (p .2) (q .2) .0 refl in
-          record { word = p .0; one = p .1; other = q .1 ∙ ap ends (sym e); pointer = sym (same .numbers _ _ (p .2)) ∙ m .pointer }
-
-      back : MeetIn Y ry i fs j gs → MeetIn X rx i fs j gs
-      back m =
-          let p = alike-back (m .word) P (m .one) in
-          let q = alike-back (m .word) Q (m .other) in
-          let e : p .0 ≡ q .0 = same .once _ _ _ _ (p .2) (q .2) .1 refl in
-          record { word = p .0; one = p .1; other = q .1 ∙ ap ends (sym e); pointer = same .numbers _ _ (p .2) ∙ m .pointer }
+  meetings i fs j gs =
+      let P = paths X Y R same rx ry len roots i fs in
+      let Q = paths X Y R same rx ry len roots j gs in (
+        meets-on X Y R rx ry i fs j gs (same .numbers) (λ v w v′ w′ r r′. same .once v w v′ w′ r r′ .0) P Q,
+        meets-on Y X (λ w v. R v w) ry rx i fs j gs (λ w v r. sym (same .numbers v w r)) (λ w v w′ v′ r r′. same .once v w v′ w′ r r′ .1) (flipped P) (flipped Q),
+      )
 
   -- what a root reaches has its like
   pub reached-like : {v : ℕ} → Reached X rx v → (w : ℕ) × R v w

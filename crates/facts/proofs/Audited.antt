@@ -2,16 +2,14 @@
 use Prim.Native.Nat.{ℕ, zero, suc, _+_}
 use native.Mathlib.Nat.{add-zero}
 use native.Mathlib.Omega.{arith}
-use mathlib.Core.Path.{_≡_, refl, sym, ap, _∙_, subst}
+use mathlib.Core.Path.{_≡_, refl, sym, subst}
 use mathlib.Core.Option.{Option, none, some}
 use mathlib.Core.List.{List, [], _∷_}
 use lib.ListN.{length, take}
 use lib.Seq.{length-take-le}
-use Rattle.rules.specs.Words.{headOf, lengthBy, fit, vals, usedOf}
-use Rattle.laws.specs.Lists.{all}
-use Rattle.facts.proofs.Steps.{Stands, Steps, here, over, Holds, holds-head, holds-tail}
+use Rattle.rules.specs.Words.{fit, vals, usedOf}
+use Rattle.facts.proofs.Steps.{Stands, Steps, here, over, Holds, holds-tail, fit-stands}
 use Rattle.rules.proofs.Headers.{fit-some}
-use Rattle.facts.proofs.Laid.{goes}
 
 pub steps-at : {h : List ℕ} {hi a b a′ b′ : ℕ} → a ≡ a′ → b ≡ b′ → Steps h hi a b → Steps h hi a′ b′
 steps-at p q t = rw (← p, ← q) t
@@ -29,9 +27,7 @@ module _ (h : List ℕ) (hi : ℕ) where
       go : ((l : ℕ) → Steps h hi (suc a + l) (suc a + l + usedOf (vals (suc a) l ws))) → (o : Option ℕ) → fit w (length ws) ≡ o → Steps h hi (a + 0) (a + 0 + usedOf (vals a 0 (w ∷ ws)))
       go rest none q = let u : usedOf (vals a 0 (w ∷ ws)) ≡ 0 = rw (q, vals) in steps-at refl (omega arith) here
       go rest (some l) q =
-          let f = fit-some w (length ws) l q in
-          let f1 = f .1 in
-          let st : Stands h hi a l = record { head = ap (λ v. lengthBy (headOf v)) (holds-head agree) ∙ f .0; ends = omega arith } in
-          let len : length (take l ws) ≡ l = length-take-le l ws f1 in
+          let st : Stands h hi a l = fit-stands agree e q in
+          let len : length (take l ws) ≡ l = length-take-le l ws (fit-some w (length ws) l q .1) in
           let u : usedOf (vals a 0 (w ∷ ws)) ≡ suc (length (take l ws)) + usedOf (vals (suc a) l ws) = rw (q, vals) in
           steps-at (sym (add-zero a)) (omega arith) (over st (steps-at (omega arith) refl (rest l)))

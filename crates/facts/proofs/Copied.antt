@@ -8,6 +8,7 @@ use mathlib.Core.Bool.{Bool, true, false}
 use mathlib.Core.List.{List, [], List·Memᴰ}
 use lib.ListN.{length}
 use Rattle.laws.specs.Lists.{at}
+use Rattle.laws.proofs.Facts.{not-both}
 use Rattle.rules.specs.Words.{wordOf}
 use Rattle.rules.specs.Calls.{isNumber}
 use Rattle.rules.specs.Seen.{View, Reached}
@@ -54,9 +55,6 @@ module _ (X Y : View) (kept : ℕ → Type 0) (log : List Moved) (rx ry : List �
   abbrev R : ℕ → ℕ → Type 0
   R = Rel kept log
 
-  no-way : {A : Type 0} → true ≡ false → A
-  no-way z = let z′ : _≡_ {A = ℕ} 0 1 = cc in absurd (omega arith)
-
   same-numbers : (v w : ℕ) → R v w → isNumber (wordOf v) ≡ isNumber (wordOf w)
   same-numbers v w (num e) = refl
   same-numbers v w (stay k) = refl
@@ -65,7 +63,7 @@ module _ (X Y : View) (kept : ℕ → Type 0) (log : List Moved) (rx ry : List �
   same-value : (v w : ℕ) → R v w → isNumber (wordOf v) ≡ true → v ≡ w
   same-value v w (num e) q = refl
   same-value v w (stay k) q = refl
-  same-value v w (went m) q = no-way (sym q ∙ c .moving m .0 .before)
+  same-value v w (went m) q = not-both q (c .moving m .0 .before)
 
   alike : (v w : ℕ) → R v w → Alike R (X .value v) (Y .value w)
   alike v w (num e) = rw (c .plain .no-value v e, c .plain′ .no-value v e) (record { header = refl; size = refl; fields = λ k f b. absurd (omega arith); text = λ k. refl })
@@ -91,12 +89,12 @@ module _ (X Y : View) (kept : ℕ → Type 0) (log : List Moved) (rx ry : List �
         λ q. let e′ = same-value v′ w′ r′ (ap (λ x. isNumber (wordOf x)) (sym q) ∙ n) in sym e ∙ q ∙ e′,
         λ q. let e′ = same-value v′ w′ r′ (same-numbers v′ w′ r′ ∙ ap (λ x. isNumber (wordOf x)) (sym q) ∙ sym (same-numbers v w r) ∙ n) in e ∙ q ∙ sym e′,
       )
-  once-by (num n) r′ false f = no-way (sym n ∙ f)
+  once-by (num n) r′ false f = not-both n f
   once-by (stay k) (num n) false f = (λ q. q, λ q. q)
   once-by (stay k) (stay k′) false f = (λ q. q, λ q. q)
   once-by (stay k) (went m) false f = (λ q. absurd (apart k (rw (← q) at m)), λ q. absurd (aside k (rw (← q) at m)))
   once-by (went m) (num n) false f =
-      (λ q. no-way (sym n ∙ ap (λ x. isNumber (wordOf x)) (sym q) ∙ f), λ q. no-way (sym n ∙ ap (λ x. isNumber (wordOf x)) (sym q) ∙ c .moving m .0 .after))
+      (λ q. not-both n (ap (λ x. isNumber (wordOf x)) (sym q) ∙ f), λ q. not-both n (ap (λ x. isNumber (wordOf x)) (sym q) ∙ c .moving m .0 .after))
   once-by (went m) (stay k) false f = (λ q. absurd (apart k (rw q at m)), λ q. absurd (aside k (rw q at m)))
   once-by (went m) (went m′) false f = (λ q. c .one-new (rw q at m) m′, λ q. c .one-old (rw q at m) m′)
 

@@ -9,12 +9,12 @@ use mathlib.Core.Option.{Option, none, some}
 use mathlib.Core.List.{List, [], _∷_}
 use lib.ListN.{length, take, drop, length-drop}
 use lib.Seq.{getD-take, getD-drop, length-take-le}
-use Rattle.laws.specs.Lists.{at, all, zeros}
+use Rattle.laws.specs.Lists.{at, all}
 use Rattle.laws.proofs.Facts.{all-cons, cons-all, all-at, at-all, zeros-in, zeros-of}
-use Rattle.rules.specs.Words.{headOf, lengthBy, fit, isRecord, Val, vals, usedOf, fieldsPass}
+use Rattle.rules.specs.Words.{headOf, fit, isRecord, Val, vals, usedOf, fieldsPass}
 use Rattle.rules.specs.Audit.{filled}
 use Rattle.rules.proofs.Headers.{fit-some}
-use Rattle.facts.proofs.Steps.{Stands, Steps, here, over, Holds, holds-head, holds-tail, holds-drop, vals-first}
+use Rattle.facts.proofs.Steps.{Stands, Steps, here, over, Holds, holds-head, holds-tail, holds-drop, vals-first, fit-stands}
 use Rattle.facts.proofs.Audited.{vals-steps, steps-at}
 
 pub steps-end : {h : List ℕ} {hi a b : ℕ} → Steps h hi a b → a ≤ hi → b ≤ hi
@@ -139,9 +139,8 @@ module _ (g : ℕ → Bool) (h : List ℕ) (hi : ℕ) where
           → all (fieldsPass g) (vals a 0 (w ∷ ws)) ≡ true
       go none q rest = rw (vals, q)
       go (some l) q rest =
-          let u = fit-some w (length ws) l q in
-          let le = u .1 in
-          let st : Stands h hi a l = record { head = ap (λ v. lengthBy (headOf v)) (holds-head agree) ∙ u .0; ends = omega arith } in
+          let le = fit-some w (length ws) l q .1 in
+          let st : Stands h hi a l = fit-stands agree e q in
           let k : suc a + l ≡ a + suc l = omega arith in
           let v : Val = record { at = a; isRec = isRecord w; words = take l ws } in
           rw (vals, q)

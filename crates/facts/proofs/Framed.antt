@@ -6,10 +6,13 @@ use mathlib.Core.Path.{_≡_, refl, sym, ap, _∙_}
 use mathlib.Core.Logic.{_≢_, _⊎_, inl, inr}
 use mathlib.Core.Option.{none, some}
 use mathlib.Core.List.{List}
+use mathlib.Core.Bool.{false≢true}
 use lib.ListN.{length}
 use Rattle.laws.specs.Lists.{at}
 use Rattle.rules.specs.Words.{headOf, lengthBy}
-use Rattle.facts.proofs.Steps.{Stands, Steps, over, steps-le, steps-same, stands-same, apart}
+use Rattle.rules.specs.Pages.{Run}
+use Rattle.facts.proofs.Steps.{Stands, Steps, steps-le, steps-same, stands-same, apart}
+use Rattle.facts.proofs.Laid.{Owner, mine, Layout}
 use Rattle.facts.proofs.Sound.{InHeap}
 
 zero-head : lengthBy (headOf 0) ≡ none
@@ -20,8 +23,7 @@ zero-head = refl
 pub no-zero : {h : List ℕ} {hi a l : ℕ} → Stands h hi a l → at h a ≢ 0
 no-zero {h} {l = l} st e =
     let q : some l ≡ none = sym (st .head) ∙ ap (λ w. lengthBy (headOf w)) e ∙ zero-head in
-    let z : _≡_ {A = ℕ} 0 1 = cc in
-    omega arith
+    false≢true cc
 
 -- values from s to f, and zeros behind them
 module _ (g : List ℕ) (hi s f : ℕ) (filled : Steps g hi s f) (rest : (x : ℕ) → f ≤ x → x < hi → at g x ≡ 0) where
@@ -47,6 +49,11 @@ module _ (g : List ℕ) (hi s f : ℕ) (filled : Steps g hi s f) (rest : (x : �
         go (inr q) =
             let lo = steps-le r in
             inr (steps-same (λ x p t. sym (agree x p (omega arith))) r, stands-same (sym (agree b lo (omega arith))) st, q)
+
+-- so a value of a region's page ends by where the page's values end
+pub below-fin : {n N R : ℕ} {own : ℕ → Owner} {fin : ℕ → ℕ} {pages : ℕ → List ℕ} {free : List ℕ} {r : Run} (L : Layout n N R own fin pages free r) (j k : ℕ) {a l : ℕ} → own k ≡ mine j
+    → Steps (r .heap) (k * 2 ^ n + 2 ^ n) (k * 2 ^ n + 2) a → Stands (r .heap) (k * 2 ^ n + 2 ^ n) a l → a + suc l ≤ fin k
+below-fin {fin = fin} {r = r} L j k o t st = let B = L .mine-body j k o in below-end (r .heap) _ _ (fin k) (B .filled) (B .rest) t st
 
 -- a good pointer's value in another heap of the same length
 pub good-in : (n R R′ : ℕ) (g h : List ℕ) (a : ℕ) (p : InHeap n R g a) → length h ≡ length g → p .region < R′

@@ -14,7 +14,7 @@ use Rattle.laws.proofs.Once.{Once, once-more, in-tail, Last, only, later, last-
 use Rattle.rules.specs.Memory.{link}
 use Rattle.rules.specs.Audit.{lastLink}
 use Rattle.rules.specs.Pages.{Run, clearPage, giveBack, giveBackAll}
-use Rattle.facts.proofs.Laid.{upd, upd-same, upd-other, old≢spare, old≢mine, old≢beyond, spare≢mine, spare≢beyond, Owner, old, spare, beyond, mine, Body, Clean, Like, body-like, clean-like, like-relinked, link-relinked, Layout, page-in}
+use Rattle.facts.proofs.Laid.{upd, upd-same, upd-other, old≢spare, old≢mine, old≢beyond, spare≢mine, spare≢beyond, Owner, old, spare, mine, Body, Clean, Like, body-like, clean-like, like-relinked, link-relinked, Layout, page-in, like-kept, link-kept, chain-apart, upd-back, upd-known}
 use Rattle.facts.proofs.Cleared.{clear-length, clear-else, clear-in}
 
 -- ---- the last of a list of pages, as a link
@@ -57,7 +57,7 @@ module _ (n N R : ℕ) (own : ℕ → Owner) (fin : ℕ → ℕ) (pages : ℕ �
   cleared = clear-in n (r .heap) k k-in
 
   like₁ : (l : ℕ) → l ≢ k → Like n (r .heap) h₁ l
-  like₁ l ne = record { word = λ x p q. sym (others₁ l x ne (omega arith) q) }
+  like₁ l ne = like-kept n (r .heap) h₁ l (λ x. others₁ l x ne)
 
   -- and the link of the last free page set: no other word
   module _ (z v : ℕ) (z-in : z * P + P ≤ length (r .heap)) where
@@ -77,8 +77,7 @@ module _ (n N R : ℕ) (own : ℕ → Owner) (fin : ℕ → ℕ) (pages : ℕ �
     link₂ = getD-set-same h₁ (z * P) v 0 (let b = L .big in let e = length₁ in omega arith)
 
   links₁ : (l : ℕ) → l ≢ k → link n (r .heap) l ≡ link n h₁ l
-  unfolding link
-  links₁ l ne = let b = L .big in sym (others₁ l (l * P) ne (le-refl _) (omega arith))
+  links₁ l ne = link-kept n (r .heap) h₁ l (λ x. others₁ l x ne) (L .big)
 
   link-k : link n h₁ k ≡ 0
   unfolding link
@@ -89,16 +88,6 @@ module _ (n N R : ℕ) (own : ℕ → Owner) (fin : ℕ → ℕ) (pages : ℕ �
 
   free-not-k : (l : ℕ) → List·Memᴰ l free → l ≢ k
   free-not-k l m q = old≢spare (ap own q ∙ own-k) (L .free-own l m)
-
-  mine-not-k : (i l : ℕ) → i < R → List·Memᴰ l (pages i) → l ≢ k
-  mine-not-k i l b m = own-not-k i l (L .mine-own i l b m)
-
-  known′ : (l : ℕ) → upd own k spare l ≢ beyond → l < N
-  known′ l ne = go (ℕ-discrete l k)
-    where
-      go : Dec (l ≡ k) → l < N
-      go (yes e) = L .known l (old≢beyond (ap own e ∙ own-k))
-      go (no f) = L .known l (λ q. ne (upd-other own k spare l f ∙ q))
 
   own′-free : (l : ℕ) → List·Memᴰ l (free ++ k ∷ []) → upd own k spare l ≡ spare
   own′-free l m = go (in-snoc free m) (ℕ-discrete l k)
@@ -112,11 +101,7 @@ module _ (n N R : ℕ) (own : ℕ → Owner) (fin : ℕ → ℕ) (pages : ℕ �
   count′ = let c = L .free-count in let a = length-append free (k ∷ []) in omega arith
 
   mine-back : (i l : ℕ) → upd own k spare l ≡ mine i → own l ≡ mine i
-  mine-back i l o = go (ℕ-discrete l k)
-    where
-      go : Dec (l ≡ k) → own l ≡ mine i
-      go (yes e) = spare≢mine (upd-same own k spare l e) o
-      go (no ne) = sym (upd-other own k spare l ne) ∙ o
+  mine-back i l = upd-back own k spare l (mine i) (λ q. spare≢mine q refl)
 
   -- whichever way the heap h′ came about: page k is cleared, the others are as they were but for links of free pages
   module _ (h′ : List ℕ) (first′ : ℕ) (len : length h′ ≡ length h₁) (like : (l : ℕ) → Like n h₁ h′ l)
@@ -134,7 +119,7 @@ module _ (n N R : ℕ) (own : ℕ → Owner) (fin : ℕ → ℕ) (pages : ℕ �
         go (no ne) = clean-like (like l) (clean-like (like₁ l ne) (L .free-clean l (sym (upd-other own k spare l ne) ∙ o)))
 
     mine-links′ : (i l : ℕ) → i < R → List·Memᴰ l (pages i) → link n (r .heap) l ≡ link n h′ l
-    mine-links′ i l b m = links₁ l (mine-not-k i l b m) ∙ links i l (L .mine-own i l b m)
+    mine-links′ i l b m = links₁ l (chain-apart L (λ j. old≢mine own-k) i l b m) ∙ links i l (L .mine-own i l b m)
 
     laid-by : Layout n N R (upd own k spare) fin pages (free ++ k ∷ []) (record { heap = h′; table = r .table; first = first′; last = suc k; count = suc (r .count); stack = r .stack })
     laid-by =
@@ -142,14 +127,14 @@ module _ (n N R : ℕ) (own : ℕ → Owner) (fin : ℕ → ℕ) (pages : ℕ �
           size = len ∙ length₁ ∙ L .size;
           big = L .big;
           rows = L .rows;
-          known = known′;
+          known = upd-known L k spare (old≢beyond own-k);
           free-own = own′-free;
           free-once = once-snoc (L .free-once) (λ m. free-not-k k m refl);
           free-links = chained;
           free-last = sym (link-last (last-snoc free));
           free-count = count′;
           free-clean = cleans;
-          mine-own = λ i l b m. upd-other own k spare l (mine-not-k i l b m) ∙ L .mine-own i l b m;
+          mine-own = λ i l b m. upd-other own k spare l (chain-apart L (λ j. old≢mine own-k) i l b m) ∙ L .mine-own i l b m;
           mine-once = L .mine-once;
           mine-links = λ i b. let t = L .mine-links i b in (t .0, t .1, linked-same (λ l m. mine-links′ i l b m) (t .2));
           mine-body = λ i l o. bodies i l (mine-back i l o);

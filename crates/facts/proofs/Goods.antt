@@ -3,23 +3,24 @@ use Prim.Native.Nat.{ℕ, suc, _+_, _-_, _*_, _/_, _^_, _≤_, _<_}
 use native.Mathlib.Nat.{mul-le-mul-right}
 use native.Mathlib.Omega.{arith}
 use native.Mathlib.Decide.{decLe}
-use mathlib.Core.Path.{_≡_, refl, ap}
+use mathlib.Core.Path.{_≡_, refl}
 use mathlib.Core.Logic.{_≢_}
-use mathlib.Core.Bool.{Bool, true, false, _&&_, false≢true}
+use mathlib.Core.Bool.{true, false, false≢true}
 use mathlib.Core.List.{List}
-use lib.ListN.{length, List·getD-eq-default}
-use lib.Dec.{leb}
-use borrow.Author.Tests.{leb-true, le-leb}
+use lib.ListN.{length, List·getD-eq-default, take, drop}
+use borrow.Author.Tests.{leb-true}
 use Rattle.laws.specs.Lists.{at}
-use Rattle.laws.proofs.Tests.{both}
-use Rattle.rules.specs.Memory.{pageCount, bodyWords, origin}
-use Rattle.rules.specs.Words.{Word, number, inHeap, inConst, wordOf, vals, pageVals, standsAt, goodOn, goodHeap, goodConst, goodIn}
+use Rattle.rules.specs.Memory.{pageCount, bodyWords, origin, Store}
+use Rattle.rules.specs.Words.{Word, number, inHeap, inConst, wordOf, pageVals, goodHeap, goodConst, goodIn, headOf, valueAt, look}
+use Rattle.rules.specs.Seen.{homeIn}
+use Rattle.rules.specs.Calls.{lookIn}
 use Rattle.rules.specs.Audit.{constField}
 use Rattle.rules.specs.Refusals.{Paged}
 use Rattle.rules.proofs.Limits.{page-size, whole-pages, page-inside}
-use Rattle.rules.proofs.Chains.{page-of}
-use Rattle.facts.proofs.Steps.{steps-le, Holds, stands-from, stands-to}
-use Rattle.facts.proofs.Looked.{page-holds, page-ends as words-end}
+use Rattle.rules.proofs.Pointers.{words-of}
+use Rattle.rules.proofs.Looks.{good-parts}
+use Rattle.facts.proofs.Steps.{Holds, stands-from, stands-to, holds-all}
+use Rattle.facts.proofs.Looked.{page-holds, page-ends as words-end, good-at}
 use Rattle.facts.proofs.Sound.{InHeap, InConst, Good, a-number, to-heap, to-const, GoodConst, number-there, const-there}
 
 -- ---- the words of a page
@@ -48,62 +49,54 @@ module _ (n : ℕ) (heap : List ℕ) (p : Paged n (length heap)) where
 -- ---- the heap
 
 module _ (n R : ℕ) (heap : List ℕ) (p : Paged n (length heap)) where
-  on-page : (k a : ℕ) → goodOn n R heap k a ≡ true → InHeap n R heap a
-  unfolding goodOn origin pageVals
-  on-page k a t = go (leb 1 (at heap (k * 2 ^ n + 1)) && leb (at heap (k * 2 ^ n + 1)) R) refl
-    where
-      go : (b : Bool) → (leb 1 (at heap (k * 2 ^ n + 1)) && leb (at heap (k * 2 ^ n + 1)) R) ≡ b → InHeap n R heap a
-      go false e = let z : false ≡ true = rw (goodOn, e) at t in absurd (false≢true z)
-      go true e =
-          let (e₁, e₂) = both {a = leb 1 (at heap (k * 2 ^ n + 1))} e in
-          let lo : 1 ≤ at heap (k * 2 ^ n + 1) = leb-true _ _ e₁ in
-          let hi : at heap (k * 2 ^ n + 1) ≤ R = leb-true _ _ e₂ in
-          let z = page-size n (p .low) (p .high) in
-          let there : k < pageCount n heap = page-there n heap p k 1 (omega arith) (λ (q : at heap (k * 2 ^ n + 1) ≡ 0). omega arith) in
-          let t′ : standsAt a (vals (k * 2 ^ n + 2) 0 (bodyWords n heap k)) ≡ true = rw (goodOn, e) at t in
-          let f = stands-from heap (k * 2 ^ n + 2 ^ n) a (bodyWords n heap k) (k * 2 ^ n + 2) 0 (body-holds n heap p k there) (body-ends n heap p k there) t′ in
-          let q : k * 2 ^ n + 2 + 0 ≡ k * 2 ^ n + 2 = omega arith in
-          record {
-            page = k;
-            region = at heap (k * 2 ^ n + 1) - 1;
-            len = f .0;
-            there = there;
-            known = omega arith;
-            whose = omega arith;
-            steps = rw q at (f .1);
-            stands = f .2;
-          }
-
   pub in-heap : (a : ℕ) → goodHeap n R heap a ≡ true → InHeap n R heap a
-  unfolding goodHeap
-  in-heap a t = on-page (a / 2 ^ n) a t
-
-  page-on : (a : ℕ) (g : InHeap n R heap a) → goodOn n R heap (g .page) a ≡ true
-  unfolding goodOn origin pageVals
-  page-on a g =
-      let k : ℕ = g .page in
-      rw (goodOn, g .whose, le-leb 1 (suc (g .region)) (omega arith), le-leb (suc (g .region)) R (g .known))
-      (stands-to heap (k * 2 ^ n + 2 ^ n) a (g .steps) (bodyWords n heap k) (g .len) (body-holds n heap p k (g .there)) (body-ends n heap p k (g .there)) (g .stands))
+  unfolding origin pageVals
+  in-heap a t =
+      let k : ℕ = a / 2 ^ n in
+      let g = good-parts n R heap a t in
+      let lo : 1 ≤ at heap (k * 2 ^ n + 1) = leb-true _ _ (g .0) in
+      let hi : at heap (k * 2 ^ n + 1) ≤ R = leb-true _ _ (g .1) in
+      let z = page-size n (p .low) (p .high) in
+      let there : k < pageCount n heap = page-there n heap p k 1 (omega arith) (λ (q : at heap (k * 2 ^ n + 1) ≡ 0). omega arith) in
+      let f = stands-from heap (k * 2 ^ n + 2 ^ n) a (bodyWords n heap k) (k * 2 ^ n + 2) 0 (body-holds n heap p k there) (body-ends n heap p k there) (g .2) in
+      let q : k * 2 ^ n + 2 + 0 ≡ k * 2 ^ n + 2 = omega arith in
+      record {
+        page = k;
+        region = at heap (k * 2 ^ n + 1) - 1;
+        len = f .0;
+        there = there;
+        known = omega arith;
+        whose = omega arith;
+        steps = rw q at (f .1);
+        stands = f .2;
+      }
 
   pub heap-in : (a : ℕ) → InHeap n R heap a → goodHeap n R heap a ≡ true
-  unfolding goodHeap
   heap-in a g =
-      let x = steps-le (g .steps) in
-      let y = g .stands .ends in
-      let q : a / 2 ^ n ≡ g .page = page-of n (g .page) a (omega arith) (omega arith) in
-      rw q (page-on a g)
+      let z = page-size n (p .low) (p .high) in
+      good-at n R heap (g .page) a (g .len) (omega arith) (page-ends n heap p (g .page) (g .there)) (g .steps) (g .stands) (g .region) (g .known) (g .whose)
 
 -- ---- the constants
 
 pub in-const : (consts : List ℕ) (a : ℕ) → goodConst consts a ≡ true → InConst consts a
 unfolding goodConst
 in-const consts a t =
-    let f = stands-from consts (length consts) a consts 0 0 (record { word = λ i q. ap (at consts) (omega arith) }) (omega arith) t in
+    let f = stands-from consts (length consts) a consts 0 0 (holds-all consts) (omega arith) t in
     record { len = f .0; steps = f .1; stands = f .2 }
 
 pub const-in : (consts : List ℕ) (a : ℕ) → InConst consts a → goodConst consts a ≡ true
 unfolding goodConst
-const-in consts a g = stands-to consts (length consts) a (g .steps) consts (g .len) (record { word = λ i q. ap (at consts) (omega arith) }) (omega arith) (g .stands)
+const-in consts a g = stands-to consts (length consts) a (g .steps) consts (g .len) (holds-all consts) (omega arith) (g .stands)
+
+-- it is seen, and has no home
+module _ (s : Store) (v a : ℕ) (e : wordOf v ≡ inConst a) where
+  pub const-seen : (p : InConst (s .consts) a) → lookIn s v ≡ take (suc (p .len)) (drop a (s .consts))
+  unfolding look valueAt
+  const-seen p = rw (e, look, const-in (s .consts) a p, words-of (headOf (at (s .consts) a)) (p .len) (p .stands .head))
+
+  pub const-home : homeIn s v ≡ 0
+  unfolding homeIn
+  const-home = rw (e, homeIn)
 
 -- ---- words
 

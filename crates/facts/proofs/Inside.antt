@@ -3,12 +3,12 @@
 use Prim.Native.Nat.{ℕ, suc, _+_, _*_, _^_, _≤_, _<_}
 use native.Mathlib.Omega.{arith}
 use native.Mathlib.Decide.{ℕ-discrete}
-use mathlib.Core.Path.{_≡_}
-use mathlib.Core.Logic.{_≢_, _⊎_, inl, inr}
+use mathlib.Core.Path.{_≡_, ap}
+use mathlib.Core.Logic.{_≢_}
 use mathlib.Core.List.{List}
 use Rattle.laws.specs.Lists.{at}
 use Rattle.laws.proofs.Lists.{one-part}
-use Rattle.facts.proofs.Steps.{Stands, Steps, here, steps-le, steps-same, stands-same, steps-inside, apart}
+use Rattle.facts.proofs.Steps.{Stands, Steps, here, steps-le, steps-same, stands-same, not-header, steps-inside}
 
 -- word i of the value of l words at address d, in page k
 module _ (n : ℕ) (g : List ℕ) (k d l i : ℕ) (at-d : Steps g (k * 2 ^ n + 2 ^ n) (k * 2 ^ n + 2) d) (st : Stands g (k * 2 ^ n + 2 ^ n) d l) (i-in : i < l) where
@@ -16,16 +16,20 @@ module _ (n : ℕ) (g : List ℕ) (k d l i : ℕ) (at-d : Steps g (k * 2 ^ n + 2
   pub other-page : (m y : ℕ) → m ≢ k → m * 2 ^ n ≤ y → y < m * 2 ^ n + 2 ^ n → y ≢ d + suc i
   other-page m y ne p q e = let lo = steps-le at-d in let hi = st .ends in one-part (2 ^ n) m k y ne p q (omega arith) (omega arith)
 
+  -- nor is a word of a page's descriptor
+  pub no-descriptor : (m y : ℕ) → 2 ≤ 2 ^ n → m * 2 ^ n ≤ y → y < m * 2 ^ n + 2 → y ≢ d + suc i
+  no-descriptor m y b p q = go (ℕ-discrete m k)
+    where
+      go : Dec (m ≡ k) → y ≢ d + suc i
+      go (yes e) = let w : m * 2 ^ n ≡ k * 2 ^ n = ap (λ x. x * 2 ^ n) e in let lo = steps-le at-d in omega arith
+      go (no ne) = other-page m y ne p (omega arith)
+
   -- no header stands there
   pub no-header : (m a b : ℕ) → Steps g (m * 2 ^ n + 2 ^ n) (m * 2 ^ n + 2) a → Stands g (m * 2 ^ n + 2 ^ n) a b → a ≢ d + suc i
   no-header m a b at-a s e = go (ℕ-discrete m k)
     where
-      by : (a ≤ d) ⊎ (d + suc l ≤ a) → ⊥
-      by (inl q) = omega arith
-      by (inr q) = omega arith
-
       go : Dec (m ≡ k) → ⊥
-      go (yes q) = by (apart at-d st (rw q at at-a))
+      go (yes q) = not-header at-d st (omega arith) (omega arith) (rw q at at-a) e
       go (no ne) = let lo = steps-le at-a in let hi = s .ends in other-page m a ne (omega arith) (omega arith) e
 
   -- in a heap with the same words but that one, what is stepped to is the same

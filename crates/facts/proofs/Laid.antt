@@ -1,13 +1,14 @@
 -- How a heap under collection is laid out: whose each page is, and what stands in it. Every fact is about single words.
-use Prim.Native.Nat.{ℕ, zero, suc, _+_, _*_, _^_, _≤_, _<_}
-use native.Mathlib.Nat.{mul-le-mul-right}
+use Prim.Native.Nat.{ℕ, suc, _+_, _-_, _*_, _^_, _≤_, _<_}
+use native.Mathlib.Nat.{le-refl, mul-le-mul-right}
 use native.Mathlib.Omega.{arith}
-use mathlib.Core.Path.{_≡_, refl, sym, _∙_}
-use mathlib.Core.Logic.{_≢_}
-use mathlib.Core.Bool.{Bool, true, false}
+use native.Mathlib.Decide.{ℕ-discrete}
+use mathlib.Core.Path.{_≡_, refl, sym, ap, _∙_}
+use mathlib.Core.Logic.{_≢_, _⊎_, inl, inr, ⊎-elim}
+use mathlib.Core.Bool.{Bool, true, false, false≢true}
 use mathlib.Core.Option.{some}
 use mathlib.Core.List.{List, List·Memᴰ}
-use lib.ListN.{length, set}
+use lib.ListN.{length, set, take, drop}
 use lib.Seq.{getD-set-other}
 use lib.Dec.{eqb}
 use borrow.Author.Tests.{eqb-true, eqb-false}
@@ -15,10 +16,11 @@ use Rattle.rules.specs.Words.{headOf, lengthBy}
 use Rattle.rules.specs.Memory.{link, endOf, firstOf, topOf}
 use Rattle.laws.specs.Lists.{at}
 use Rattle.rules.specs.Audit.{lastLink}
-use Rattle.rules.specs.Pages.{Run}
-use Rattle.laws.proofs.Lists.{starts-differ, begins-none}
+use Rattle.rules.specs.Pages.{Scan, Run, withHeap, withTable, withStack}
+use Rattle.laws.proofs.Lists.{part-length, one-part, starts-differ, begins-none}
 pub use Rattle.laws.proofs.Once.{Once, once-none, once-more, Last, only, later, last-in, Linked, stop, goes, linked-same}
-use Rattle.facts.proofs.Steps.{Steps, steps-le, steps-same}
+use Rattle.laws.proofs.Once.{once-most}
+use Rattle.facts.proofs.Steps.{Stands, Steps, steps-le, steps-same}
 
 -- ---- a function changed at one place
 module _ {A : Type 0} where
@@ -41,6 +43,17 @@ module _ {A : Type 0} where
       go true q = absurd (ne (eqb-true x k q))
       go false q = rw (q, upd)
 
+  -- what it is there came from the change, or was so before
+  pub upd-cases : (f : ℕ → A) (k : ℕ) (a : A) (x : ℕ) (b : A) → upd f k a x ≡ b → ((x ≡ k) × (b ≡ a)) ⊎ ((x ≢ k) × (f x ≡ b))
+  upd-cases f k a x b e = go (ℕ-discrete x k)
+    where
+      go : Dec (x ≡ k) → ((x ≡ k) × (b ≡ a)) ⊎ ((x ≢ k) × (f x ≡ b))
+      go (yes q) = inl (q, sym e ∙ upd-same f k a x q)
+      go (no ne) = inr (ne, sym (upd-other f k a x ne) ∙ e)
+
+  pub upd-back : (f : ℕ → A) (k : ℕ) (a : A) (x : ℕ) (b : A) → b ≢ a → upd f k a x ≡ b → f x ≡ b
+  upd-back f k a x b ne e = ⊎-elim (λ t. absurd (ne (t .1))) (λ t. t .1) (upd-cases f k a x b e)
+
 -- ---- pages
 pub data Owner : Type 0 where
   old spare beyond : Owner
@@ -51,22 +64,26 @@ mine-inj e = cc
 
 -- two owners
 pub old≢spare : {A : Type 0} {o : Owner} → o ≡ old → o ≡ spare → A
-old≢spare p q = let z : _≡_ {A = ℕ} 0 1 = cc in absurd (omega arith)
+old≢spare p q = absurd (false≢true cc)
 
 pub old≢mine : {A : Type 0} {o : Owner} {j : ℕ} → o ≡ old → o ≡ mine j → A
-old≢mine p q = let z : _≡_ {A = ℕ} 0 1 = cc in absurd (omega arith)
+old≢mine p q = absurd (false≢true cc)
 
 pub old≢beyond : {A : Type 0} {o : Owner} → o ≡ old → o ≡ beyond → A
-old≢beyond p q = let z : _≡_ {A = ℕ} 0 1 = cc in absurd (omega arith)
+old≢beyond p q = absurd (false≢true cc)
 
 pub spare≢mine : {A : Type 0} {o : Owner} {j : ℕ} → o ≡ spare → o ≡ mine j → A
-spare≢mine p q = let z : _≡_ {A = ℕ} 0 1 = cc in absurd (omega arith)
+spare≢mine p q = absurd (false≢true cc)
 
 pub spare≢beyond : {A : Type 0} {o : Owner} → o ≡ spare → o ≡ beyond → A
-spare≢beyond p q = let z : _≡_ {A = ℕ} 0 1 = cc in absurd (omega arith)
+spare≢beyond p q = absurd (false≢true cc)
 
 pub mine≢beyond : {A : Type 0} {o : Owner} {j : ℕ} → o ≡ mine j → o ≡ beyond → A
-mine≢beyond p q = let z : _≡_ {A = ℕ} 0 1 = cc in absurd (omega arith)
+mine≢beyond p q = absurd (false≢true cc)
+
+-- a page has one owner
+pub old-mine-apart : (own : ℕ → Owner) {k l j : ℕ} → own k ≡ old → own l ≡ mine j → k ≢ l
+old-mine-apart own o m e = old≢mine o (ap own e ∙ m)
 
 -- page k of region j: its values end at f, and then zeros
 pub record Body (n : ℕ) (h : List ℕ) (k j f : ℕ) : Type 0 where
@@ -82,6 +99,15 @@ pub record Clean (n : ℕ) (h : List ℕ) (k : ℕ) : Type 0 where
 -- two heaps have the same words in page k behind its link
 pub record Like (n : ℕ) (g h : List ℕ) (k : ℕ) : Type 0 where
   pub word : (x : ℕ) → k * 2 ^ n < x → x < k * 2 ^ n + 2 ^ n → at g x ≡ at h x
+
+-- a page that keeps its words keeps them behind its link, and its link
+module _ (n : ℕ) (g h : List ℕ) (k : ℕ) (same : (x : ℕ) → k * 2 ^ n ≤ x → x < k * 2 ^ n + 2 ^ n → at h x ≡ at g x) where
+  pub like-kept : Like n g h k
+  like-kept = record { word = λ x p q. sym (same x (omega arith) q) }
+
+  pub link-kept : 16 ≤ 2 ^ n → link n g k ≡ link n h k
+  unfolding link
+  link-kept big = sym (same (k * 2 ^ n) (le-refl _) (omega arith))
 
 pub body-like : {n : ℕ} {g h : List ℕ} {k j f : ℕ} → 2 ≤ 2 ^ n → Like n g h k → Body n g k j f → Body n h k j f
 body-like {n} {g} {h} {k} {j} {f} big like b =
@@ -132,9 +158,114 @@ module _ {n N R : ℕ} {own : ℕ → Owner} {fin : ℕ → ℕ} {pages : ℕ �
   pub page-in : (k : ℕ) → own k ≢ beyond → k * 2 ^ n + 2 ^ n ≤ length (r .heap)
   page-in k ne = let s = L .size in let p = mul-le-mul-right (2 ^ n) (L .known k ne) in omega arith
 
+  -- and a value there has all its words
+  pub words-in : {h : List ℕ} (k a l : ℕ) → own k ≢ beyond → Stands h (k * 2 ^ n + 2 ^ n) a l → length (take (suc l) (drop a (r .heap))) ≡ suc l
+  words-in k a l ne st = let p = page-in k ne in let e = st .ends in part-length (r .heap) a (suc l) (omega arith)
+
+  -- the pages of a chain are the heap's, and no more than those
+  pub chain-known : (j : ℕ) → j < R → (k : ℕ) → List·Memᴰ k (pages j) → k < N
+  chain-known j b k m = L .known k (mine≢beyond (L .mine-own j k b m))
+
+  pub chain-few : (j : ℕ) → j < R → length (pages j) ≤ N
+  chain-few j b = once-most N (chain-known j b) (L .mine-once j b)
+
+  pub free-known : (k : ℕ) → List·Memᴰ k free → k < N
+  free-known k m = L .known k (spare≢beyond (L .free-own k m))
+
+  pub free-few : length free ≤ N
+  free-few = once-most N free-known (L .free-once)
+
+  -- a page given to another is one of the heap's still
+  pub upd-known : (k : ℕ) (o : Owner) → own k ≢ beyond → (l : ℕ) → upd own k o l ≢ beyond → l < N
+  upd-known k o ne l f = go (ℕ-discrete l k)
+    where
+      go : Dec (l ≡ k) → l < N
+      go (yes e) = L .known l (λ q. ne (ap own (sym e) ∙ q))
+      go (no g) = L .known l (λ q. f (upd-other own k o l g ∙ q))
+
+  -- a page that is no region's is in no chain
+  pub chain-apart : {k : ℕ} → ((i : ℕ) → own k ≢ mine i) → (i l : ℕ) → i < R → List·Memᴰ l (pages i) → l ≢ k
+  chain-apart ne i l b m e = ne i (ap own (sym e) ∙ L .mine-own i l b m)
+
   -- what stands in a page of region j's chain
   pub chain-body : (j k : ℕ) → j < R → List·Memᴰ k (pages j) → Body n (r .heap) k j (fin k)
   chain-body j k b m = L .mine-body j k (L .mine-own j k b m)
+
+  -- the last page of region j's chain: a lies behind its descriptor, and what ends by e ends in the heap
+  module _ (j : ℕ) (jR : j < R) where
+    pub last-own : own (L .mine-top j jR .0) ≡ mine j
+    last-own = L .mine-own j (L .mine-top j jR .0) jR (last-in (L .mine-top j jR .1))
+
+    pub last-start : endOf (r .table) j - 2 ^ n ≡ L .mine-top j jR .0 * 2 ^ n
+    last-start = let e = L .mine-top j jR .2 in omega arith
+
+    pub last-in-heap : L .mine-top j jR .0 * 2 ^ n + 2 ^ n ≤ length (r .heap)
+    last-in-heap = page-in (L .mine-top j jR .0) (mine≢beyond last-own)
+
+    pub last-low : L .mine-top j jR .0 * 2 ^ n + 2 ≤ topOf (r .table) j
+    last-low = let b = steps-le (L .mine-body j (L .mine-top j jR .0) last-own .filled) in let a = L .mine-top j jR .3 in omega arith
+
+    -- no other page has a value that begins or ends at a
+    pub not-top : (k t : ℕ) → k * 2 ^ n + 2 ≤ t → t ≤ k * 2 ^ n + 2 ^ n → k ≢ L .mine-top j jR .0 → t ≢ topOf (r .table) j
+    not-top k t p q ne e =
+        let x = L .mine-top j jR .3 in
+        let y = last-low in
+        let w = L .mine-body j (L .mine-top j jR .0) last-own .inside in
+        one-part (2 ^ n) k (L .mine-top j jR .0) (t - 1) ne (omega arith) (omega arith) (omega arith) (omega arith)
+
+    pub top-in-heap : (m : ℕ) → topOf (r .table) j + m ≤ endOf (r .table) j → topOf (r .table) j + m ≤ length (r .heap)
+    top-in-heap m b = let a = last-in-heap in let e = L .mine-top j jR .2 in omega arith
+
+  -- another heap, with the same links, free pages and bodies
+  pub heap-laid : (h : List ℕ) → length h ≡ length (r .heap) → ((k : ℕ) → own k ≢ old → link n (r .heap) k ≡ link n h k)
+      → ((k : ℕ) → own k ≡ spare → Like n (r .heap) h k) → ((j k : ℕ) → own k ≡ mine j → Body n h k j (fin k))
+      → Layout n N R own fin pages free (withHeap r h)
+  heap-laid h len links like bodies =
+      record {
+        size = len ∙ L .size;
+        big = L .big;
+        rows = L .rows;
+        known = L .known;
+        free-own = L .free-own;
+        free-once = L .free-once;
+        free-links = linked-same (λ k m. links k (λ q. old≢spare q (L .free-own k m))) (L .free-links);
+        free-last = L .free-last;
+        free-count = L .free-count;
+        free-clean = λ k o. clean-like (like k o) (L .free-clean k o);
+        mine-own = L .mine-own;
+        mine-once = L .mine-once;
+        mine-links = λ i p. let t = L .mine-links i p in (t .0, t .1, linked-same (λ k m. links k (λ q. old≢mine q (L .mine-own i k p m))) (t .2));
+        mine-body = bodies;
+        mine-top = L .mine-top;
+      }
+
+  -- another table, with the same first, last and top of the regions below Q, and any scan stack
+  pub rows-laid : (Q : ℕ) → Q ≤ R → (t : List ℕ) (stack : List Scan) → 4 * Q ≤ length t → ((i x : ℕ) → i < Q → 4 * i ≤ x → x < 4 * i + 3 → at t x ≡ at (r .table) x)
+      → Layout n N Q own fin pages free (withStack (withTable r t) stack)
+  rows-laid Q few t stack wide same =
+      record {
+        size = L .size;
+        big = L .big;
+        rows = wide;
+        known = L .known;
+        free-own = L .free-own;
+        free-once = L .free-once;
+        free-links = L .free-links;
+        free-last = L .free-last;
+        free-count = L .free-count;
+        free-clean = L .free-clean;
+        mine-own = λ i k b. L .mine-own i k (omega arith);
+        mine-once = λ i b. L .mine-once i (omega arith);
+        mine-links = λ i b. let t = L .mine-links i (omega arith) in (t .0, same i (4 * i + 1) b (omega arith) (omega arith) ∙ t .1, t .2);
+        mine-body = L .mine-body;
+        mine-top = λ i b.
+            let t = L .mine-top i (omega arith) in (
+              t .0,
+              t .1,
+              same i (4 * i) b (le-refl _) (omega arith) ∙ t .2,
+              same i (4 * i + 2) b (omega arith) (omega arith) ∙ t .3,
+            );
+      }
 
 -- a value's words: a header and as many words as it says
 pub record Value (ws : List ℕ) (l : ℕ) : Type 0 where

@@ -15,7 +15,7 @@ use Rattle.laws.specs.Lists.{at, all, allBelow, zeros, times}
 use Rattle.laws.proofs.Tests.{both, all-in, below-in}
 use Rattle.laws.proofs.Facts.{all-at, zeros-in}
 use Rattle.laws.proofs.Once.{has-last, Last, last-in, Linked, linked-once, linked-last, each-once}
-use Rattle.rules.specs.Memory.{Store, limits, pageCount, addressPage, regionOrigin, pageWords, bodyWords, bodyAddress, pageEnd, link, origin, row, endOf, firstOf, topOf, statusOf, chain, firstLink, regionPages, freePages, pagesFrom}
+use Rattle.rules.specs.Memory.{Store, pageCount, addressPage, regionOrigin, pageWords, bodyWords, bodyAddress, pageEnd, link, origin, row, endOf, firstOf, topOf, statusOf, firstLink, regionPages, freePages, pagesFrom}
 use Rattle.rules.specs.Words.{isRecord, vals, pageVals, usedOf, fieldsPass}
 use Rattle.rules.specs.Audit.{eachPage, ifLast, rule2, opens, endsWell, lastLink, allChains, rule3, endsAt, rule4, filled, pageFilled, rule5, goodWord, rule6, rule7, constField, rule8, clean, rule9, firstFailing, brokenRule}
 use Rattle.rules.specs.Pages.{begun}
@@ -23,12 +23,12 @@ use Rattle.rules.specs.Refusals.{Admitted, withinLimits, commonTest}
 use Rattle.rules.proofs.Limits.{admits, page-size, whole-pages}
 use Rattle.rules.proofs.Chains.{length-page, at-page}
 use Rattle.rules.proofs.Whole as W
-use Rattle.facts.proofs.Steps.{Stands, Steps, Holds}
-use Rattle.facts.proofs.Laid.{mine-inj, spare≢mine, spare≢beyond, mine≢beyond, Owner, spare, beyond, mine, Body, Clean, Layout}
+use Rattle.facts.proofs.Steps.{Stands, Steps, holds-all}
+use Rattle.facts.proofs.Laid.{spare≢beyond, mine≢beyond, Owner, spare, beyond, mine, Body, Clean, Layout}
 use Rattle.facts.proofs.Filled.{steps-end, filled-steps, filled-rest, fields-in}
 use Rattle.facts.proofs.Goods.{page-ends, body-holds, body-ends, good-of, const-of}
 use Rattle.rules.proofs.Limits as Limits
-use Rattle.facts.proofs.Sound.{Within, Good, Constants, Chained, in-free, in-region, Sound}
+use Rattle.facts.proofs.Sound.{Within, Good, Constants, Chained, in-free, in-region, Sound, chained-mine, chained-spare}
 
 -- ---- the rules, each by itself
 
@@ -87,14 +87,6 @@ owner-there n heap k ne = go (ltb k (pageCount n heap)) refl
     go true e = ltb-true _ _ e
     go false e = absurd (ne (rw (ownerIn, e)))
 
-owner-mine : (o j : ℕ) → ownerBy o ≡ mine j → o ≡ suc j
-owner-mine zero j e = spare≢mine refl e
-owner-mine (suc i) j e = ap suc (mine-inj e)
-
-owner-spare : (o : ℕ) → ownerBy o ≡ spare → o ≡ 0
-owner-spare zero e = refl
-owner-spare (suc i) e = spare≢mine e refl
-
 -- ---- the limits
 
 pub within-of : (s : Store) → withinLimits s ≡ true → Within s
@@ -106,7 +98,7 @@ pub constants-of : (s : Store) → rule8 s ≡ true → Constants (s .consts)
 unfolding rule8
 constants-of s t =
     let (f, g) = both {a = filled 0 (s .consts)} t in
-    let whole : Holds (s .consts) 0 (s .consts) = record { word = λ i q. ap (at (s .consts)) (omega arith) } in
+    let whole = holds-all (s .consts) in
     record {
       fin = 0 + usedOf (vals 0 0 (s .consts));
       filled = filled-steps (s .consts) (length (s .consts)) 0 (s .consts) whole (omega arith);
@@ -228,18 +220,10 @@ module _ (s : Store) (lim : withinLimits s ≡ true) (comm : commonTest s ≡ tr
 
   -- a region's page is in its chain
   mine-there : (j k : ℕ) → ownerIn n (s .heap) k ≡ mine j → (j < R) × List·Memᴰ k (pages j)
-  mine-there j k o = go (chained k (owner-there n (s .heap) k (mine≢beyond o)))
-    where
-      go : Chained R (ownerIn n (s .heap)) pages free k → (j < R) × List·Memᴰ k (pages j)
-      go (in-free e m) = spare≢mine e o
-      go (in-region i b e m) = let q : i ≡ j = mine-inj (sym e ∙ o) in rw (← q) (b, m)
+  mine-there j k o = chained-mine (chained k (owner-there n (s .heap) k (mine≢beyond o))) o
 
   spare-there : (k : ℕ) → ownerIn n (s .heap) k ≡ spare → List·Memᴰ k free
-  spare-there k o = go (chained k (owner-there n (s .heap) k (spare≢beyond o)))
-    where
-      go : Chained R (ownerIn n (s .heap)) pages free k → List·Memᴰ k free
-      go (in-free e m) = m
-      go (in-region i b e m) = spare≢mine o e
+  spare-there k o = chained-spare (chained k (owner-there n (s .heap) k (spare≢beyond o))) o
 
   -- a test of each page of each region, at one of them
   at-page-of : (q : ℕ → ℕ → Bool) → eachPage q n (s .heap) (s .table) R ≡ true → (j k : ℕ) → j < R → List·Memᴰ k (pages j) → q j k ≡ true

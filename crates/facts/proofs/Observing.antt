@@ -2,7 +2,7 @@
 use Prim.Native.Nat.{ℕ, _<_}
 use mathlib.Core.Path.{_≡_, refl, sym, ap, _∙_}
 use mathlib.Core.Logic.{_↔_}
-use mathlib.Core.Bool.{Bool, true, false}
+use mathlib.Core.Bool.{Bool, true, false, false≢true}
 use mathlib.Core.List.{List}
 use lib.ListN.{length}
 use lib.Dec.{leb}
@@ -16,7 +16,7 @@ use Rattle.rules.specs.Memory.{Store}
 use Rattle.rules.specs.Audit.{usedBy}
 use Rattle.rules.specs.Calls.{lookIn, Walked, ends, stops, walkFrom, walkSays, walk, fetch, usedWords}
 use Rattle.rules.specs.Seen.{seen, readBy, path, reading, readAt, Meet}
-use Rattle.facts.proofs.Alike.{MeetIn}
+use Rattle.facts.proofs.Alike.{MeetIn, Same, readings}
 use Rattle.facts.proofs.Sound.{Passes}
 
 module _ (s : Store) (p : Passes s) where
@@ -44,8 +44,7 @@ module _ (s : Store) (p : Passes s) where
       go : (b : Bool) → leb (s .ctl .regions) j ≡ b → (j < s .ctl .regions) × (usedBy (s .ctl .n) (s .heap) (s .table) j ≡ u)
       go true q =
           let z : Valued.Refused Refusal.NoRegion (s .ctl) ≡ Valued.Done u (s .ctl) = sym (rw (p .limits, p .common, p .unbroken, q)) ∙ e in
-          let z′ : _≡_ {A = ℕ} 0 1 = cc in
-          absurd (omega arith)
+          absurd (false≢true cc)
       go false q =
           let b = leb-false (s .ctl .regions) j q in
           let z : Valued.Done (usedBy (s .ctl .n) (s .heap) (s .table) j) (s .ctl) ≡ Valued.Done u (s .ctl) = sym (used-is j (omega arith)) ∙ e in
@@ -61,7 +60,7 @@ module _ (s : Store) (p : Passes s) where
 
   ends-says : (x : Walked) (w : ℕ) → walkSays (s .ctl) x ≡ Valued.Done w (s .ctl) → x ≡ ends w
   ends-says (ends v) w e = let q : v ≡ w = cc in ap ends q
-  ends-says (stops r) w e = let z : _≡_ {A = ℕ} 0 1 = cc in absurd (omega arith)
+  ends-says (stops r) w e = absurd (false≢true cc)
 
   pub meet-is : (i : ℕ) (fs : List ℕ) (j : ℕ) (gs : List ℕ) → Meet s i fs j gs ↔ MeetIn (seen s) (s .roots) i fs j gs
   meet-is i fs j gs = (
@@ -80,3 +79,8 @@ module _ (s : Store) (p : Passes s) where
           pointer = m .pointer;
         },
   )
+
+-- on two heaps that pass and whose views are the same up to R, every path reads alike
+pub reads-alike : (s s′ : Store) → Passes s → Passes s′ → (R : ℕ → ℕ → Type 0) → Same (seen s) (seen s′) R → length (s .roots) ≡ length (s′ .roots)
+    → ((i : ℕ) → i < length (s .roots) → R (at (s .roots) i) (at (s′ .roots) i)) → (i : ℕ) (fs : List ℕ) → readAt s (walk s i fs) ≡ readAt s′ (walk s′ i fs)
+reads-alike s s′ p p′ R same count rels i fs = read-is s p i fs ∙ readings (seen s) (seen s′) R same (s .roots) (s′ .roots) count rels i fs ∙ sym (read-is s′ p′ i fs)

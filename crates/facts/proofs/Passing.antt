@@ -5,7 +5,7 @@ use native.Mathlib.Nat.{mul-div-left, mul-mod-left}
 use native.Mathlib.Omega.{arith}
 use mathlib.Core.Path.{_≡_, refl, sym, ap, _∙_}
 use mathlib.Core.Logic.{_↔_}
-use mathlib.Core.Bool.{Bool, true, false, Bool·beq}
+use mathlib.Core.Bool.{Bool, true, Bool·beq}
 use mathlib.Core.List.{List, List·Memᴰ, List·Memᴰ·head, Memᴰ·append-left, Memᴰ·append-right}
 use lib.ListN.{length, drop, length-drop}
 use lib.Seq.{getD-drop}
@@ -13,19 +13,19 @@ use lib.Dec.{eqb}
 use borrow.Author.Tests.{lt-ltb, le-leb, eq-eqb, ne-eqb}
 use Rattle.laws.specs.Lists.{at, all}
 use Rattle.laws.proofs.Facts.{and-of, all-of, at-all, below-of, zeros-of}
-use Rattle.laws.proofs.Once.{Once, last-one, Linked, stop, goes, linked-ends, once-most, once-each}
-use Rattle.rules.specs.declared.Control.{Control}
-use Rattle.rules.specs.declared.Refusal.{Refusal}
+use Rattle.laws.proofs.Once.{Once, last-one, Linked, stop, goes, linked-ends, once-each}
 use Rattle.rules.specs.declared.Plain.{Plain}
 use Rattle.rules.specs.Memory.{Store, limits, pageCount, regionOrigin, pageWords, bodyWords, link, origin, endOf, firstOf, topOf, statusOf, chain, chainEnd, firstLink, regionPages, freePages, pagesFrom}
 use Rattle.rules.specs.Words.{pageVals, usedOf, fieldsPass}
 use Rattle.rules.specs.Audit.{eachPage, ifLast, rule2, opens, endsWell, lastLink, allChains, rule3, endsAt, topFits, rule4, filled, pageFilled, rule5, goodWord, rule6, rule7, constField, rule8, clean, rule9, firstFailing, brokenRule}
 use Rattle.rules.specs.Refusals.{Paged, common, withinLimits, commonTest}
 use Rattle.rules.specs.Calls.{audit}
+use Rattle.rules.specs.Collection.{fromSpace}
 use Rattle.rules.proofs.Chains.{length-page, at-page}
-use Rattle.rules.proofs.Whole.{linked-chain, chains-once, of-pages}
-use Rattle.facts.proofs.Steps.{Holds}
-use Rattle.facts.proofs.Laid.{spare≢beyond, mine≢beyond, chain-body}
+use Rattle.rules.proofs.Whole.{linked-chain, chains-once, of-pages, pages-of, pages-once}
+use Rattle.facts.proofs.Steps.{holds-all}
+use Rattle.facts.proofs.Judged.{judged-passes}
+use Rattle.facts.proofs.Laid.{chain-body, chain-known, chain-few, free-known, free-few}
 use Rattle.facts.proofs.Filled.{vals-used, filled-of, fields-of}
 use Rattle.facts.proofs.Goods.{page-ends, body-holds, body-ends, of-good, of-const}
 use Rattle.facts.proofs.Cleared.{first-link}
@@ -58,12 +58,6 @@ module _ (s : Store) (S : Sound s) where
   abbrev paged : Paged (s .ctl .n) (length (s .heap))
   paged = S .within .paged
 
-  mine-there : (j k : ℕ) → j < R → List·Memᴰ k (S .pages j) → k < N
-  mine-there j k b m = S .laid .known k (mine≢beyond (S .laid .mine-own j k b m))
-
-  free-there : (k : ℕ) → List·Memᴰ k (S .free) → k < N
-  free-there k m = S .laid .known k (spare≢beyond (S .laid .free-own k m))
-
   -- ---- the chains are those that the facts name
 
   pub first-page : (j : ℕ) (b : j < R) → firstLink n (s .table) j ≡ suc (S .laid .mine-links j b .0)
@@ -72,11 +66,11 @@ module _ (s : Store) (S : Sound s) where
   chain-is : (j : ℕ) → j < R → (chain N n (s .heap) (firstLink n (s .table) j) ≡ S .pages j) × (chainEnd N n (s .heap) (firstLink n (s .table) j) ≡ 0)
   chain-is j b =
       rw (first-page j b)
-      (linked-chain n (s .heap) N (S .laid .mine-links j b .2) (λ k m. mine-there j k b m)
-      (once-most N (λ k m. mine-there j k b m) (S .laid .mine-once j b)))
+      (linked-chain n (s .heap) N (S .laid .mine-links j b .2) (chain-known (S .laid) j b)
+      (chain-few (S .laid) j b))
 
   free-is : (chain N n (s .heap) (s .ctl .first) ≡ S .free) × (chainEnd N n (s .heap) (s .ctl .first) ≡ 0)
-  free-is = linked-chain n (s .heap) N (S .laid .free-links) free-there (once-most N free-there (S .laid .free-once))
+  free-is = linked-chain n (s .heap) N (S .laid .free-links) (free-known (S .laid)) (free-few (S .laid))
 
   pub pages-are : (j : ℕ) → j < R → regionPages n (s .heap) (s .table) j ≡ S .pages j
   unfolding regionPages
@@ -94,6 +88,21 @@ module _ (s : Store) (S : Sound s) where
   unfolding origin
   nobodys k m = let g = S .laid .big in S .laid .free-clean k (S .laid .free-own k m) .rest (k * 2 ^ n + 1) (omega arith) (omega arith)
 
+  -- ---- the regions' pages together
+
+  pub from-once : Once (fromSpace s)
+  from-once =
+      pages-once n (s .heap) (s .table) R (λ j b. rw (pages-are j b) (S .laid .mine-once j b)) (λ j k b m. whose j k b (rw (pages-are j b) at m)) R 0 (omega arith)
+
+  pub in-from : (k : ℕ) → List·Memᴰ k (fromSpace s) → (j : ℕ) × (j < R) × List·Memᴰ k (S .pages j)
+  in-from k m =
+      let t = pages-of n (s .heap) (s .table) R 0 k m in
+      let b : t .0 < R = (let c = t .2 in omega arith) in
+      (t .0, b, rw (pages-are (t .0) b) at (t .3))
+
+  pub of-from : (j k : ℕ) → j < R → List·Memᴰ k (S .pages j) → List·Memᴰ k (fromSpace s)
+  of-from j k b m = of-pages n (s .heap) (s .table) R 0 j k zero-le (omega arith) (rw (pages-are j b) m)
+
   -- ---- the common test
 
   first-fits : (ks : List ℕ) {x : ℕ} → Linked (link n (s .heap)) x ks → ((k : ℕ) → List·Memᴰ k ks → k < N) → x ≤ N
@@ -108,9 +117,9 @@ module _ (s : Store) (S : Sound s) where
   unfolding common
   commons =
       let c = S .laid .free-count in
-      let m = once-most N free-there (S .laid .free-once) in
+      let m = free-few (S .laid) in
       and-of (and-of (and-of
-      (le-leb _ _ (S .regions)) (le-leb _ _ (first-fits (S .free) (S .laid .free-links) free-there))) (le-leb (s .ctl .count) N (omega arith)))
+      (le-leb _ _ (S .regions)) (le-leb _ _ (first-fits (S .free) (S .laid .free-links) (free-known (S .laid))))) (le-leb (s .ctl .count) N (omega arith)))
       (both-or-none (S .free) (S .laid .free-links) c)
 
   -- ---- the rules
@@ -147,7 +156,7 @@ module _ (s : Store) (S : Sound s) where
   in-chains : (k : ℕ) → Chained R (S .own) (S .pages) (S .free) k → List·Memᴰ k (allChains n (s .heap) (s .table) R (s .ctl .first))
   in-chains k (in-free o m) = Memᴰ·append-right (pagesFrom n (s .heap) (s .table) R 0) (rw free-are m)
   in-chains k (in-region j b o m) =
-      Memᴰ·append-left (freePages n (s .heap) (s .ctl .first)) (of-pages n (s .heap) (s .table) R 0 j k zero-le (omega arith) (rw (pages-are j b) m))
+      Memᴰ·append-left (freePages n (s .heap) (s .ctl .first)) (of-from j k b m)
 
   opened : (j : ℕ) → j < R → opens n (s .heap) (s .table) j ≡ true
   unfolding opens
@@ -156,10 +165,7 @@ module _ (s : Store) (S : Sound s) where
       let g = S .laid .big in
       and-of
       (eq-eqb _ _ (ap (λ x. x % 2 ^ n) (t .1) ∙ mul-mod-left (t .0) (2 ^ n)))
-      (lt-ltb (firstOf (s .table) j / 2 ^ n) N (rw (ap (λ x. x / 2 ^ n) (t .1) ∙ mul-div-left (t .0) {n = 2 ^ n} (omega arith)) (first-there (t .2) (λ k m. mine-there j k b m))))
-    where
-      first-there : {l : ℕ → ℕ} {k : ℕ} {ks : List ℕ} → Linked l (suc k) ks → ((x : ℕ) → List·Memᴰ x ks → x < N) → k < N
-      first-there (goes {k} t) f = f k (List·Memᴰ·head refl)
+      (lt-ltb (firstOf (s .table) j / 2 ^ n) N (rw (ap (λ x. x / 2 ^ n) (t .1) ∙ mul-div-left (t .0) {n = 2 ^ n} (omega arith)) (first-fits (S .pages j) (t .2) (chain-known (S .laid) j b))))
 
   three : rule3 s ≡ true
   unfolding rule3 endsWell
@@ -194,11 +200,12 @@ module _ (s : Store) (S : Sound s) where
       let t = top-lies s S j b in
       and-of (le-leb (endOf (s .table) j + 2) (topOf (s .table) j + 2 ^ n) (t .0)) (le-leb (topOf (s .table) j) (endOf (s .table) j) (t .1))))
 
-  ends-at : (j k : ℕ) → j < R → List·Memᴰ k (S .pages j) → k * 2 ^ n + 2 + usedOf (pageVals n (s .heap) k) ≡ S .fin k
+  -- what stands in a page ends where the list of its values does
+  pub ends-at : (j k : ℕ) → j < R → List·Memᴰ k (S .pages j) → k * 2 ^ n + 2 + usedOf (pageVals n (s .heap) k) ≡ S .fin k
   unfolding pageVals
   ends-at j k b m =
       let x = chain-body (S .laid) j k b m in
-      let there = mine-there j k b m in
+      let there = chain-known (S .laid) j b k m in
       vals-used (s .heap) (k * 2 ^ n + 2 ^ n) (x .filled) (bodyWords n (s .heap) k) (body-holds n (s .heap) paged k there) (body-ends n (s .heap) paged k there) (x .rest)
 
   five : rule5 s ≡ true
@@ -207,7 +214,7 @@ module _ (s : Store) (S : Sound s) where
       each-page (pageFilled n (s .heap) (s .table))
       (λ j k b m.
       let x = chain-body (S .laid) j k b m in
-      let there = mine-there j k b m in
+      let there = chain-known (S .laid) j b k m in
       and-of
       (filled-of (s .heap) (k * 2 ^ n + 2 ^ n) (k * 2 ^ n + 2) (bodyWords n (s .heap) k) (body-holds n (s .heap) paged k there) (body-ends n (s .heap) paged k there) (S .fin k) (x .filled) (x .rest))
       (if-last j k b m _ (λ e. eq-eqb _ _ (ends-at j k b m ∙ ap (S .fin) e ∙ sym (S .laid .mine-top j b .3)))))
@@ -217,7 +224,7 @@ module _ (s : Store) (S : Sound s) where
   six =
       each-page (λ j k. all (fieldsPass (goodWord s)) (pageVals n (s .heap) k))
       (λ j k b m.
-      let there = mine-there j k b m in
+      let there = chain-known (S .laid) j b k m in
       fields-of (goodWord s) (s .heap) (k * 2 ^ n + 2 ^ n) (bodyWords n (s .heap) k) (k * 2 ^ n + 2) 0 (body-holds n (s .heap) paged k there) (body-ends n (s .heap) paged k there)
       (λ a l i st x r q.
       let e : k * 2 ^ n + 2 + 0 ≡ k * 2 ^ n + 2 = omega arith in
@@ -230,7 +237,7 @@ module _ (s : Store) (S : Sound s) where
   eight : rule8 s ≡ true
   unfolding rule8
   eight =
-      let whole : Holds (s .consts) 0 (s .consts) = record { word = λ i q. ap (at (s .consts)) (omega arith) } in
+      let whole = holds-all (s .consts) in
       and-of
       (filled-of (s .consts) (length (s .consts)) 0 (s .consts) whole (omega arith) (S .consts .fin) (S .consts .filled) (S .consts .rest))
       (fields-of (constField (s .consts)) (s .consts) (length (s .consts)) (s .consts) 0 0 whole (omega arith)
@@ -241,7 +248,7 @@ module _ (s : Store) (S : Sound s) where
   nine =
       each-free (clean n (s .heap))
       (λ k m.
-      let len = length-page n (s .heap) k (page-ends n (s .heap) paged k (free-there k m)) in
+      let len = length-page n (s .heap) k (page-ends n (s .heap) paged k (free-known (S .laid) k m)) in
       let d = length-drop 1 (pageWords n (s .heap) k) in
       zeros-of (drop 1 (pageWords n (s .heap) k))
       (λ i b.
@@ -264,13 +271,4 @@ meaning s = (λ p. sound-of s (p .limits) (p .common) (p .unbroken), λ S. passe
 -- the audit as a call says yes exactly when the heap passes
 pub audit-yes : (s : Store) → (audit s ≡ Plain.Done (s .ctl)) ↔ Passes s
 unfolding audit
-audit-yes s = (λ e. go (withinLimits s) refl (commonTest s) refl (brokenRule s) refl e, λ p. rw (p .limits, p .common, p .unbroken))
-  where
-    no-way : {A : Type 0} {r : Refusal} {c d : Control} → Plain.Refused r c ≡ Plain.Done d → A
-    no-way e = let z : _≡_ {A = ℕ} 0 1 = cc in absurd (omega arith)
-
-    go : (l : Bool) → withinLimits s ≡ l → (c : Bool) → commonTest s ≡ c → (b : ℕ) → brokenRule s ≡ b → audit s ≡ Plain.Done (s .ctl) → Passes s
-    go true pl true pc zero pb e = record { limits = pl; common = pc; unbroken = pb }
-    go true pl true pc (suc i) pb e = no-way (rw (pl, pc, pb) at e)
-    go true pl false pc b pb e = no-way (rw (pl, pc) at e)
-    go false pl c pc b pb e = no-way (rw pl at e)
+audit-yes s = (λ e. judged-passes s (s .ctl) (sym e), λ p. rw (p .limits, p .common, p .unbroken))

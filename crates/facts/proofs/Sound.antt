@@ -1,6 +1,6 @@
 -- What the audit's yes means: the rules of document 01 as facts about words. `Sound` is the record of them; that it and the audit's tests
 -- say the same is proved beside it.
-use Prim.Native.Nat.{ℕ, zero, suc, _+_, _*_, _^_, _≤_, _<_}
+use Prim.Native.Nat.{ℕ, suc, _+_, _*_, _^_, _≤_, _<_}
 use native.Mathlib.Omega.{arith}
 use mathlib.Core.Path.{_≡_, sym, _∙_}
 use mathlib.Core.Bool.{true}
@@ -69,6 +69,16 @@ pub data Chained (R : ℕ) (own : ℕ → Owner) (pages : ℕ → List ℕ) (fre
   in-free : own k ≡ spare → List·Memᴰ k free → Chained R own pages free k
   in-region : (j : ℕ) → j < R → own k ≡ mine j → List·Memᴰ k (pages j) → Chained R own pages free k
 
+-- a region's page is in its chain, and a free one in the free list
+module _ {R : ℕ} {own : ℕ → Owner} {pages : ℕ → List ℕ} {free : List ℕ} {k : ℕ} where
+  pub chained-mine : {j : ℕ} → Chained R own pages free k → own k ≡ mine j → (j < R) × List·Memᴰ k (pages j)
+  chained-mine (in-free o m) e = spare≢mine o e
+  chained-mine {j} (in-region i b o m) e = let q : i ≡ j = mine-inj (sym o ∙ e) in rw (← q) (b, m)
+
+  pub chained-spare : Chained R own pages free k → own k ≡ spare → List·Memᴰ k free
+  chained-spare (in-free o m) e = m
+  chained-spare (in-region i b o m) e = spare≢mine e o
+
 pub record Sound (s : Store) : Type 0 where
   pub within : Within s
   -- whose each page is, where its values end, the chain of each region, the free list
@@ -110,9 +120,29 @@ pub record Passes (s : Store) : Type 0 where
 -- ---- The same in other words.
 
 module _ (s : Store) (S : Sound s) where
+  -- a page has room for its descriptor
+  pub descriptor-fits : 2 ≤ 2 ^ s .ctl .n
+  descriptor-fits = let b = S .laid .big in omega arith
+
   -- no page is in two chains
   pub one-region : (i j k : ℕ) → i < s .ctl .regions → j < s .ctl .regions → List·Memᴰ k (S .pages i) → List·Memᴰ k (S .pages j) → i ≡ j
   one-region i j k a b p q = mine-inj (sym (S .laid .mine-own i k a p) ∙ S .laid .mine-own j k b q)
+
+  -- the page of a good pointer is in its region's chain
+  pub good-page : (a : ℕ) (p : InHeap (s .ctl .n) (s .ctl .regions) (s .heap) a) → List·Memᴰ (p .page) (S .pages (p .region))
+  good-page a p = go (S .chained (p .page) (p .there))
+    where
+      go : Chained (s .ctl .regions) (S .own) (S .pages) (S .free) (p .page) → List·Memᴰ (p .page) (S .pages (p .region))
+      go (in-free o m) =
+          let b = descriptor-fits in
+          let e = S .laid .free-clean (p .page) o .rest (p .page * 2 ^ s .ctl .n + 1) (omega arith) (omega arith) in
+          let w = p .whose in
+          absurd (omega arith)
+      go (in-region j b o m) =
+          let e = S .laid .mine-body j (p .page) o .whose in
+          let w = p .whose in
+          let q : j ≡ p .region = omega arith in
+          rw q at m
 
   pub region-or-free : (j k : ℕ) → j < s .ctl .regions → List·Memᴰ k (S .pages j) → List·Memᴰ k (S .free) → ⊥
   region-or-free j k b p q = spare≢mine (S .laid .free-own k q) (S .laid .mine-own j k b p)

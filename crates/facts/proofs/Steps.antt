@@ -4,7 +4,7 @@ use native.Mathlib.Nat.{le-refl, add-zero, add-assoc, add-suc, suc-add}
 use native.Mathlib.Omega.{arith}
 use mathlib.Core.Path.{_≡_, refl, sym, ap, _∙_}
 use mathlib.Core.Logic.{_≢_, _⊎_, inl, inr}
-use mathlib.Core.Bool.{Bool, true, false}
+use mathlib.Core.Bool.{Bool, true, false, false≢true}
 use mathlib.Core.Option.{Option, none, some}
 use mathlib.Core.List.{List, [], _∷_}
 use lib.ListN.{length, take, drop, length-drop}
@@ -13,13 +13,17 @@ use lib.Dec.{eqb}
 use borrow.Author.Tests.{eqb-true, eq-eqb}
 use Rattle.rules.proofs.Headers.{fit-some, fit-is}
 use Rattle.rules.proofs.Stepping.{vals-skip}
-use Rattle.rules.specs.Words.{headOf, lengthBy, fit, isRecord, Val, vals, standsAt}
+use Rattle.rules.specs.Words.{rec, headOf, lengthBy, fit, isRecord, Val, vals, standsAt}
 use Rattle.laws.specs.Lists.{at}
 
 -- a header of l words stands at a, and the value ends by hi
 pub record Stands (h : List ℕ) (hi a l : ℕ) : Type 0 where
   pub head : lengthBy (headOf (at h a)) ≡ some l
   pub ends : a + suc l ≤ hi
+
+-- a record is as long as its header says
+pub record-length : {h : List ℕ} {hi a l m : ℕ} → Stands h hi a l → headOf (at h a) ≡ rec m → l ≡ m
+record-length {h} {hi} {a} {l} {m} st e = let p = st .head in let q : lengthBy (headOf (at h a)) ≡ some m = ap lengthBy e in cc
 
 -- stepping from a comes to b; each value passed ends by hi
 pub data Steps (h : List ℕ) (hi : ℕ) : ℕ → ℕ → Type 0 where
@@ -54,20 +58,20 @@ apart here st (over st′ r) = let e = same-length st st′ in let k = steps-le 
 apart (over st′ r) st here = let k = steps-le r in inl (omega arith)
 apart {h} {hi} (over {a} st′ r) st (over {b = c} st″ r′) = apart r st (rw (same-length st″ st′) at r′)
 
+-- inside a value no header stands
+pub not-header : {h : List ℕ} {hi a b c l x : ℕ} → Steps h hi a b → Stands h hi b l → b < x → x < b + suc l → Steps h hi a c → c ≢ x
+not-header {b = b} {c} {l} at-b st lo up r e = go (apart at-b st r)
+  where
+    go : (c ≤ b) ⊎ (b + suc l ≤ c) → ⊥
+    go (inl q) = omega arith
+    go (inr q) = omega arith
+
 -- a word inside a value may change: every address that stepping comes to is still come to
 module _ (g h : List ℕ) (hi a b l x : ℕ) (at-b : Steps g hi a b) (st : Stands g hi b l) (lo : b < x) (up : x < b + suc l)
     (agree : (y : ℕ) → y ≢ x → at g y ≡ at h y) where
-  -- no header stands at x
-  not-header : {c : ℕ} → Steps g hi a c → c ≢ x
-  not-header {c} r e = go (apart at-b st r)
-    where
-      go : (c ≤ b) ⊎ (b + suc l ≤ c) → ⊥
-      go (inl q) = omega arith
-      go (inr q) = omega arith
-
   pub steps-inside : {c d : ℕ} → Steps g hi a c → Steps g hi c d → Steps h hi c d
   steps-inside r here = here
-  steps-inside r (over st′ t) = over (stands-same (agree _ (not-header r)) st′) (steps-inside (steps-then r (over st′ here)) t)
+  steps-inside r (over st′ t) = over (stands-same (agree _ (not-header at-b st lo up r)) st′) (steps-inside (steps-then r (over st′ here)) t)
 
 -- ---- the list of values
 
@@ -88,6 +92,17 @@ holds-tail agree = record { word = λ i q. rw suc-add (rw (← add-suc) (agree .
 
 pub holds-head : {h : List ℕ} {a w : ℕ} {ws : List ℕ} → Holds h a (w ∷ ws) → at h a ≡ w
 holds-head agree = rw add-zero at (agree .word 0 (suc-le-suc zero-le))
+
+-- a list stands in itself
+pub holds-all : (ws : List ℕ) → Holds ws 0 ws
+holds-all ws = record { word = λ i q. ap (at ws) (omega arith) }
+
+-- a header that fits before the end stands
+pub fit-stands : {h : List ℕ} {hi a w l : ℕ} {ws : List ℕ} → Holds h a (w ∷ ws) → a + length (w ∷ ws) ≡ hi → fit w (length ws) ≡ some l → Stands h hi a l
+fit-stands {w = w} {l} {ws} agree e q =
+    let f = fit-some w (length ws) l q in
+    let b = f .1 in
+    record { head = ap (λ v. lengthBy (headOf v)) (holds-head agree) ∙ f .0; ends = omega arith }
 
 pub standsAt-here : (b : ℕ) (v : Val) (vs : List Val) → b ≡ v .at → standsAt b (v ∷ vs) ≡ true
 unfolding standsAt
@@ -112,7 +127,7 @@ module _ (h : List ℕ) (hi b : ℕ) where
   -- an address that the list of values has is one that stepping comes to
   pub stands-from : (ws : List ℕ) (a k : ℕ) → Holds h a ws → a + length ws ≡ hi → standsAt b (vals a k ws) ≡ true → Found (a + k)
   unfolding vals standsAt
-  stands-from [] a k agree e t = let z : _≡_ {A = ℕ} 0 1 = cc in absurd (omega arith)
+  stands-from [] a k agree e t = absurd (false≢true cc)
   stands-from (w ∷ ws) a (suc k) agree e t =
       let q : suc a + k ≡ a + suc k = omega arith in
       rw q at (stands-from ws (suc a) k (holds-tail agree) (omega arith) t)
@@ -126,11 +141,9 @@ module _ (h : List ℕ) (hi b : ℕ) where
           (r .0, rw add-zero (over st (rw q at (r .1))), r .2)
 
       go : ((l : ℕ) → standsAt b (vals (suc a) l ws) ≡ true → Found (suc a + l)) → (o : Option ℕ) → fit w (length ws) ≡ o → Found (a + 0)
-      go rest none q = let t′ : standsAt b [] ≡ true = rw (q, vals) at t in let z : _≡_ {A = ℕ} 0 1 = cc in absurd (omega arith)
+      go rest none q = let t′ : standsAt b [] ≡ true = rw (q, vals) at t in absurd (false≢true cc)
       go rest (some l) q =
-          let f = fit-some w (length ws) l q in
-          let st : Stands h hi a l = record { head = ap (λ v. lengthBy (headOf v)) (holds-head agree) ∙ f .0; ends = let f1 = f .1 in omega arith } in
-          split l st (rest l) (standsAt-cons b (record { at = a; isRec = isRecord w; words = take l ws }) (vals (suc a) l ws) (rw (q, vals) at t))
+          split l (fit-stands agree e q) (rest l) (standsAt-cons b (record { at = a; isRec = isRecord w; words = take l ws }) (vals (suc a) l ws) (rw (q, vals) at t))
 
   -- the list of values begins with the value that stands at its address
   pub vals-first : (w : ℕ) (ws : List ℕ) (a l : ℕ) → Holds h a (w ∷ ws) → a + length (w ∷ ws) ≡ hi → Stands h hi a l

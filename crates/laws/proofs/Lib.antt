@@ -1,6 +1,7 @@
 pub mod Loops
 pub mod Lists
 pub mod Tests
+pub mod Turned
 pub mod Tallies
 pub mod Sums
 pub mod Once

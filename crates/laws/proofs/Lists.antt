@@ -20,21 +20,22 @@ slice-none f t l b = let q : length (take t l) ≤ f = simp length-take (omega a
 
 -- ---- words by their places
 
+-- a part that lies in the list has all its words
+pub part-length : (h : List ℕ) (a m : ℕ) → a + m ≤ length h → length (take m (drop a h)) ≡ m
+part-length h a m inside = let d = length-drop a h in length-take-le m (drop a h) (omega arith)
+
+-- and they are the list's words
+pub word-in : (h : List ℕ) (a m i : ℕ) → i < m → at (take m (drop a h)) i ≡ at h (a + i)
+word-in h a m i b = getD-take m (drop a h) i 0 b ∙ getD-drop a h i 0
+
 -- the same words, taken from two memories that agree on them
 pub part-same : (g h : List ℕ) (a m : ℕ) → length g ≡ length h → ((x : ℕ) → a ≤ x → x < a + m → at g x ≡ at h x) → a + m ≤ length g → take m (drop a g) ≡ take m (drop a h)
 part-same g h a m e agree inside =
-    let lg = length-drop a g in
-    let lh = length-drop a h in
-    let tg : length (take m (drop a g)) ≡ m = length-take-le m (drop a g) (omega arith) in
-    let th : length (take m (drop a h)) ≡ m = length-take-le m (drop a h) (omega arith) in
+    let tg = part-length g a m inside in
+    let th = part-length h a m (omega arith) in
     ext-getD 0 _ _ (tg ∙ sym th)
     (λ i b.
-    getD-take m (drop a g) i 0 (omega arith) ∙ getD-drop a g i 0 ∙ agree (a + i) (omega arith) (omega arith)
-    ∙ sym (getD-drop a h i 0) ∙ sym (getD-take m (drop a h) i 0 (omega arith)))
-
--- a word of a value
-pub word-in : (h : List ℕ) (a m i : ℕ) → i < m → at (take m (drop a h)) i ≡ at h (a + i)
-word-in h a m i b = getD-take m (drop a h) i 0 b ∙ getD-drop a h i 0
+    word-in g a m i (omega arith) ∙ agree (a + i) (omega arith) (omega arith) ∙ sym (word-in h a m i (omega arith)))
 
 -- ---- writing words into a list
 
@@ -103,6 +104,10 @@ begins-none size k l x a b e = go (ℕ-discrete k l)
     go : Dec (k ≡ l) → ⊥
     go (yes q) = let w : k * size ≡ l * size = ap (λ t. t * size) q in omega arith
     go (no ne) = one-part size k l x ne (omega arith) b (omega arith) (omega arith)
+
+-- nor at a second place
+pub second-none : (size k l : ℕ) → 2 ≤ size → l * size + 1 ≢ k * size
+second-none size k l b = begins-none size l k (l * size + 1) (omega arith) (omega arith)
 
 -- a word set in part k leaves the other parts as they are
 pub set-elsewhere : (size : ℕ) (h : List ℕ) (k a v l x : ℕ) → k * size ≤ a → a < k * size + size → l ≢ k → l * size ≤ x → x < l * size + size → at (set h a v) x ≡ at h x

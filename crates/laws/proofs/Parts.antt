@@ -1,13 +1,14 @@
 -- A part of a list that is lent and given back: the words before it, the part as it was left, and the words after it are the list with
 -- the part put in. And words that are filled or copied one by one.
 use Prim.Native.Nat.{ℕ, suc, _+_, _-_, _≤_, _<_}
-use mathlib.Core.Path.{_≡_, sym, ap, _∙_}
+use mathlib.Core.Path.{_≡_, sym, ap, _∙_, refl}
 use mathlib.Core.List.{List, _∷_, _++_, append-nil, append-assoc}
 use native.Mathlib.Omega.{arith}
 use native.Mathlib.Numerals.{add-one}
 use lib.ListN.{length, take, drop, replicate, set, getD, length-set, length-drop}
-use lib.Seq.{drop-length, drop-drop, take-all, take-length, sets-eq, paste, paste-suc}
+use lib.Seq.{drop-length, drop-drop, take-all, sets-eq, paste}
 use Rattle.laws.specs.Lists.{put}
+use Rattle.laws.proofs.Copies.{paste-put, paste-more}
 
 -- every word of d is filled
 pub filled : (d : List ℕ) (w i : ℕ) → i ≤ length d → length d ≤ i → replicate i w ++ drop i d ≡ replicate (length d) w
@@ -15,11 +16,10 @@ filled d w i l m = let e : i ≡ length d = omega arith in rw (e, drop-length, a
 
 -- i words of ws copied to the places from a on: one more, and all
 pub copy-more : (h : List ℕ) (a : ℕ) (ws : List ℕ) (i : ℕ) → a + i < length h → i < length ws → set (paste h a ws i) (a + i) (getD ws i 0) ≡ paste h a ws (i + 1)
-copy-more h a ws i b c = rw (add-one i) (paste-suc h a ws i 0 b c)
+copy-more h a ws i b c = paste-more h a ws i (getD ws i 0) b c refl
 
 pub copy-all : (h : List ℕ) (a : ℕ) (ws : List ℕ) (i : ℕ) → i ≤ length ws → length ws ≤ i → paste h a ws i ≡ put h a ws
-unfolding put
-copy-all h a ws i b c = let e : i ≡ length ws = omega arith in rw (e, take-length)
+copy-all h a ws i b c = paste-put h a ws i b ∙ ap (put h a) (take-all i ws c)
 
 -- the first word and then the others
 pub put-first : (h : List ℕ) (a w : ℕ) (ws : List ℕ) → a + 1 + length ws ≤ length h → put (set h a w) (a + 1) ws ≡ put h a (w ∷ ws)

@@ -6,7 +6,7 @@ use native.Mathlib.Omega.{arith}
 use native.Mathlib.Decide.{ℕ-discrete}
 use mathlib.Core.Path.{_≡_, refl, sym, ap, _∙_}
 use mathlib.Core.Logic.{_⊎_, inl, inr}
-use mathlib.Core.Bool.{Bool, true, false, _&&_, and-true}
+use mathlib.Core.Bool.{Bool, true, false, _&&_, and-true, false≢true}
 use mathlib.Core.List.{List, [], _∷_, List·Memᴰ, List·Memᴰ·cases-cons}
 use lib.ListN.{length, getD, drop, drop-of-length-le}
 use lib.Seq.{slice, slice-cons, drop-cons, take-length}
@@ -35,7 +35,7 @@ and-left false b e = e
 
 pub and-right : (a b : Bool) → (a && b) ≡ true → b ≡ true
 and-right true b e = e
-and-right false b e = let z : _≡_ {A = ℕ} 0 1 = cc in absurd (omega arith)
+and-right false b e = absurd (false≢true cc)
 
 pub both : {a b : Bool} → (a && b) ≡ true → (a ≡ true) × (b ≡ true)
 both {a} {b} e = (and-left a b e, and-right a b e)
@@ -57,7 +57,7 @@ module _ {A : Type 0} (p : A → Bool) where
       go : (b : Bool) → p y ≡ b → (x ≡ y) ⊎ List·Memᴰ x ys → (all p ys ≡ true → (x : A) → List·Memᴰ x ys → p x ≡ true) → p x ≡ true
       go true e (inl q) rest = ap p q ∙ e
       go true e (inr q) rest = rest (rw (e, all) at t) x q
-      go false e q rest = let z : false ≡ true = rw (e, all) at t in let w : _≡_ {A = ℕ} 0 1 = cc in absurd (omega arith)
+      go false e q rest = absurd (false≢true (rw (e, all) at t))
 
 pub from-in : (p : ℕ → Bool) (m j : ℕ) → allFrom p m j ≡ true → (i : ℕ) → j ≤ i → i < j + m → p i ≡ true
 unfolding allFrom
@@ -67,7 +67,7 @@ from-in p (suc m) j t i a b = go (p j) refl (ℕ-discrete i j) (λ u. from-in p 
     go : (q : Bool) → p j ≡ q → Dec (i ≡ j) → (allFrom p m (suc j) ≡ true → (i : ℕ) → suc j ≤ i → i < suc j + m → p i ≡ true) → p i ≡ true
     go true e (yes q) rest = ap p q ∙ e
     go true e (no ne) rest = rest (rw (e, allFrom) at t) i (omega arith) (omega arith)
-    go false e q rest = let z : false ≡ true = rw (e, allFrom) at t in let w : _≡_ {A = ℕ} 0 1 = cc in absurd (omega arith)
+    go false e q rest = absurd (false≢true (rw (e, allFrom) at t))
 
 pub below-in : (p : ℕ → Bool) (n : ℕ) → allBelow p n ≡ true → (i : ℕ) → i < n → p i ≡ true
 below-in p n t i b = from-in p n 0 t i zero-le (omega arith)
@@ -131,20 +131,6 @@ module _ (p : ℕ → Bool) (h : List ℕ) (f e : ℕ) (r : Bool) where
 -- all of a list's words
 pub fields-all : (p : ℕ → Bool) (h : List ℕ) → (all p (slice 0 (length h) h) && true) ≡ all p h
 fields-all p h = rw (take-length h, and-true)
-
--- zeros, from address z up to address e
-module _ (h : List ℕ) (z e : ℕ) (r : Bool) where
-  pub zeros-end : e ≤ z → (zeros (slice z e h) && r) ≡ r
-  unfolding zeros
-  zeros-end b = rw (slice-none z e h b)
-
-  pub zeros-go : z < e → e ≤ length h → getD h z 0 ≡ 0 → (zeros (slice z e h) && r) ≡ (zeros (slice (z + 1) e h) && r)
-  unfolding zeros
-  zeros-go b c t = rw (slice-cons z e h 0 b c, zeros, eq-eqb _ _ t, add-one z)
-
-  pub zeros-stop : z < e → e ≤ length h → (getD h z 0 ≡ 0 → ⊥) → (zeros (slice z e h) && r) ≡ false
-  unfolding zeros
-  zeros-stop b c t = rw (slice-cons z e h 0 b c, zeros, ne-eqb _ _ t)
 
 -- zeros, from place i to the end
 module _ (ws : List ℕ) (i : ℕ) where

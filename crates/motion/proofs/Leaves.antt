@@ -3,12 +3,11 @@ use Prim.Native.Nat.{ℕ, _+_, _*_, _^_, _≤_}
 use mathlib.Core.Path.{_≡_, refl, sym, _∙_}
 use mathlib.Core.Logic.{_⊎_, inl, inr}
 use mathlib.Core.Bool.{Bool, true, false, _||_}
-use native.Mathlib.Nat.{mul-le-mul}
 use lib.Dec.{leb}
-use lib.Pow.{pow-mono}
 use borrow.Author.Tests.{leb-true}
 use Rattle.laws.proofs.Tests.{both}
 use Rattle.motion.specs.Leaves.{apart}
+use Rattle.rules.proofs.Limits.{address-small}
 
 -- m words at a and m words at b lie within a size, and apart
 pub record Apart (m a b size : ℕ) : Type 0 where
@@ -31,4 +30,4 @@ apart-says m a b size t e q =
 
 -- a page of a heap starts at a small address
 pub page-below : (n k : ℕ) → n ≤ 8 → k ≤ 65536 → k * 2 ^ n ≤ 16777216
-page-below n k a b = mul-le-mul {n₁ = k} {m₁ = 2 ^ n} {n₂ = 65536} {m₂ = 256} b (pow-mono {j = 8} a)
+page-below n k a b = address-small n k b a .0

@@ -5,10 +5,9 @@
 -- It is true because the working takes a page exactly where the one with as many pages as it wants does, until a page lacks; the sums and the
 -- readings are the definitions, step by step.
 use Prim.Native.Nat.{ℕ, suc, _+_, _*_, _^_, _≤_, _<_}
-use native.Mathlib.Omega.{arith}
 use mathlib.Core.Path.{_≡_, refl, sym, ap, _∙_}
 use mathlib.Core.Logic.{_↔_, _⊎_, inl, inr}
-use mathlib.Core.Bool.{Bool, true}
+use mathlib.Core.Bool.{Bool, true, false≢true}
 use mathlib.Core.List.{List, [], _∷_, map, sum}
 use lib.ListN.{length, take}
 use lib.IntN.{ℤ}
@@ -115,8 +114,7 @@ finishing s s′ e f = go (run-ends s S)
         → (wanted s ≤ s .ctl .count) × (length (fromSpace s′) ≡ wanted s) × (s′ .ctl .count + wanted s ≡ s .ctl .count + length (fromSpace s))
     go (inl u) =
         let q = ap (λ (o : Outcome Plain). o .answer) (sym (u .0) ∙ is) in
-        let z : _≡_ {A = ℕ} 0 1 = cc in
-        absurd (omega arith)
+        absurd (false≢true cc)
     go (inr u) =
         let q : left-store s S (u .0) (u .1) (u .2) ≡ s′ = sym (left-leaving _) ∙ ap leftPlain (sym (u .3) ∙ is) ∙ left-leaving s′ in
         let t = rw q at (done-pages s S (u .0) (u .1) (u .2)) in

@@ -2,9 +2,8 @@
 -- order.
 use Prim.Native.Nat.{ℕ}
 use mathlib.Core.Path.{_≡_, refl, sym, ap, _∙_}
-use mathlib.Core.Bool.{Bool, true, false}
+use mathlib.Core.Bool.{Bool, true, false, false≢true}
 use mathlib.Core.List.{List}
-use native.Mathlib.Omega.{arith}
 use borrow.Author.Tests.{eq-eqb}
 use lib.Dec.{ltb}
 use lib.ListN.{length, take, drop}
@@ -14,7 +13,7 @@ use Rattle.rules.specs.declared.Control.{Control}
 use Rattle.rules.specs.declared.Refusal.{Refusal}
 use Rattle.rules.specs.declared.Valued.{Valued}
 use Rattle.rules.specs.declared.Opened.{Opened}
-use Rattle.rules.specs.Memory.{Store, lent, row}
+use Rattle.rules.specs.Memory.{Store, row}
 use Rattle.rules.specs.Refusals.{outcome, Admitted, withinLimits, commonTest}
 use Rattle.rules.specs.Image.{imageText, writeText, writeImage, Frames, frames, malformed, readText, storeOf, sameLengths, readStore, readImage}
 use Rattle.rules.specs.Left.{leftOpened}
@@ -29,7 +28,7 @@ pub record Wrote (s : Store) (bytes : List ℕ) (m : ℕ) (c : Control) : Type 0
   pub control : c ≡ s .ctl
 
 not-done : {A : Type 0} {r : Refusal} {c d : Control} {m : ℕ} → Valued.Refused r c ≡ Valued.Done m d → A
-not-done e = let z : _≡_ {A = ℕ} 0 1 = cc in absurd (omega arith)
+not-done e = absurd (false≢true cc)
 
 pub wrote : (s : Store) (bytes : List ℕ) (m : ℕ) (c : Control) → writeImage s bytes .answer ≡ Valued.Done m c → Wrote s bytes m c
 unfolding writeImage writeText
@@ -65,7 +64,7 @@ unfolding readImage readStore
 opens text heap table roots consts c h = go (readText text) refl
   where
     not-opened : {A : Type 0} {r : Refusal} → Opened.Refused r ≡ Opened.Done c → A
-    not-opened e = let z : _≡_ {A = ℕ} 0 1 = cc in absurd (omega arith)
+    not-opened e = absurd (false≢true cc)
 
     test : (fs : List (List ℕ)) → readText text ≡ frames fs → (b : Bool) → sameLengths (storeOf fs) heap table roots consts ≡ b → Opens text heap table roots consts c
     test fs p false q = not-opened {r = Refusal.Limits} (sym (rw (p, q)) ∙ h)
@@ -103,12 +102,10 @@ faulted text heap table roots consts l h = go (readText text) refl
     test : (fs : List (List ℕ)) → readText text ≡ frames fs → (b : Bool) → sameLengths (storeOf fs) heap table roots consts ≡ b → readText text ≡ malformed l
     test fs p false q =
         let d : Opened.Refused Refusal.Limits ≡ Opened.Refused (Refusal.Malformed l) = sym (rw (p, q)) ∙ h in
-        let z : _≡_ {A = ℕ} 0 1 = cc in
-        absurd (omega arith)
+        absurd (false≢true cc)
     test fs p true q =
         let d : Opened.Done (storeOf fs .ctl) ≡ Opened.Refused (Refusal.Malformed l) = sym (rw (p, q)) ∙ h in
-        let z : _≡_ {A = ℕ} 0 1 = cc in
-        absurd (omega arith)
+        absurd (false≢true cc)
 
     go : (f : Frames) → readText text ≡ f → readText text ≡ malformed l
     go (frames fs) p = test fs p (sameLengths (storeOf fs) heap table roots consts) refl

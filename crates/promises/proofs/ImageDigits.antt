@@ -2,8 +2,8 @@
 -- digits and on the words; a digit is a byte of two ranges, and a number of m digits is its first digit and a number of the others.
 use Prim.Native.Nat.{ℕ, zero, suc, _+_, _-_, _*_, _/_, _%_, _^_, _<_}
 use mathlib.Core.Path.{_≡_, refl, sym, ap, _∙_}
-use mathlib.Core.Bool.{Bool, true, false}
-use mathlib.Core.Option.{Option, none, some}
+use mathlib.Core.Bool.{Bool, true, false, false≢true}
+use mathlib.Core.Option.{Option, none, some, Option·none-ne-some}
 use mathlib.Core.List.{List, [], _∷_, _++_, append-assoc}
 use native.Mathlib.Nat.{pow-succ', one-le-pow, mod-eq-of-lt, mod-lt, mul-add-div-right, mul-add-mod-self-left, mul-assoc, mul-left-comm, mul-one, mod-one, add-mul, zero-mul}
 use native.Mathlib.Omega.{arith}
@@ -14,7 +14,7 @@ use lib.Dec.{eqb}
 use lib.ListN.{length}
 use Rattle.laws.specs.Choice.{_⇒_∣_}
 use Rattle.rules.specs.Memory.{Small}
-use Rattle.rules.specs.Image.{digitOf, hex, hexWords, frame, newline, valueOf, digits, words, endFrame, readWords, readFrame}
+use Rattle.rules.specs.Image.{digitOf, hex, hexWords, frame, valueOf, digits, words, endFrame, readWords, readFrame}
 use Rattle.promises.specs.Texts.{Countable}
 
 -- ---- a digit
@@ -37,22 +37,19 @@ pub digit-value : (b d : ℕ) → valueOf b ≡ some d → (b ≡ digitOf d) × 
 unfolding digitOf valueOf
 digit-value b d e = go (decLt b 48) (decLt b 58) (decLt b 97) (decLt b 103)
   where
-    nothing : {A : Type 0} → _≡_ {A = Option ℕ} none (some d) → A
-    nothing q = let z : _≡_ {A = ℕ} 0 1 = cc in absurd (omega arith)
-
     go : Dec (b < 48) → Dec (b < 58) → Dec (b < 97) → Dec (b < 103) → (b ≡ digitOf d) × (d < 16)
-    go (yes w) x y z = nothing (sym (rw (lt-ltb b 48 w)) ∙ e)
+    go (yes w) x y z = absurd (Option·none-ne-some _ (sym (rw (lt-ltb b 48 w)) ∙ e))
     go (no w) (yes x) y z =
         let s : some (b - 48) ≡ some d = sym (rw (le-ltb b 48 (omega arith), lt-ltb b 58 x)) ∙ e in
         let q : b - 48 ≡ d = cc in
         (rw (lt-ltb d 10 (omega arith)) (omega arith), omega arith)
-    go (no w) (no x) (yes y) z = nothing (sym (rw (le-ltb b 48 (omega arith), le-ltb b 58 (omega arith), lt-ltb b 97 y)) ∙ e)
+    go (no w) (no x) (yes y) z = absurd (Option·none-ne-some _ (sym (rw (le-ltb b 48 (omega arith), le-ltb b 58 (omega arith), lt-ltb b 97 y)) ∙ e))
     go (no w) (no x) (no y) (yes z) =
         let s : some (b - 87) ≡ some d = sym (rw (le-ltb b 48 (omega arith), le-ltb b 58 (omega arith), le-ltb b 97 (omega arith), lt-ltb b 103 z)) ∙ e in
         let q : b - 87 ≡ d = cc in
         (rw (le-ltb d 10 (omega arith)) (omega arith), omega arith)
     go (no w) (no x) (no y) (no z) =
-        nothing (sym (rw (le-ltb b 48 (omega arith), le-ltb b 58 (omega arith), le-ltb b 97 (omega arith), le-ltb b 103 (omega arith))) ∙ e)
+        absurd (Option·none-ne-some _ (sym (rw (le-ltb b 48 (omega arith), le-ltb b 58 (omega arith), le-ltb b 97 (omega arith), le-ltb b 103 (omega arith))) ∙ e))
 
 -- ---- a number
 
@@ -100,11 +97,11 @@ hex-digits zero v x bs rest e =
     let p : _≡_ {A = ℕ × List ℕ} (v, bs) (x, rest) = cc in
     let q : v ≡ x = ap (λ (t : ℕ × List ℕ). t .0) p in
     record { number = 0; small = omega arith; value = (let o = mul-one v in omega arith); text = ap (λ (t : ℕ × List ℕ). t .1) p }
-hex-digits (suc m) v x [] rest e = let z : _≡_ {A = ℕ} 0 1 = cc in absurd (omega arith)
+hex-digits (suc m) v x [] rest e = absurd (false≢true cc)
 hex-digits (suc m) v x (b ∷ bs) rest e = go (valueOf b) refl (λ d. hex-digits m (16 * v + d) x bs rest)
   where
     go : (o : Option ℕ) → valueOf b ≡ o → ((d : ℕ) → digits m (16 * v + d) bs ≡ some (x, rest) → Digits m (16 * v + d) x bs rest) → Digits (suc m) v x (b ∷ bs) rest
-    go none q r = let s : _≡_ {A = Option (ℕ × List ℕ)} none (some (x, rest)) = sym (rw (digits, q)) ∙ e in let z : _≡_ {A = ℕ} 0 1 = cc in absurd (omega arith)
+    go none q r = absurd (Option·none-ne-some (x, rest) (sym (rw (digits, q)) ∙ e))
     go (some d) q r =
         let s : digits m (16 * v + d) bs ≡ some (x, rest) = sym (rw (digits, q)) ∙ e in
         let g = r d s in
@@ -151,11 +148,8 @@ hex-words zero bs ws rest e =
     rw (← q) (record { count = refl; small = λ i. omega arith; text = ap (λ (t : List ℕ × List ℕ). t .1) p })
 hex-words (suc m) bs ws rest e = go (λ mid us end. hex-words m mid us end) (digits 8 0 bs) refl
   where
-    nothing : {A : Type 0} → _≡_ {A = Option (List ℕ × List ℕ)} none (some (ws, rest)) → A
-    nothing q = let z : _≡_ {A = ℕ} 0 1 = cc in absurd (omega arith)
-
     more : ((mid us end : List ℕ) → words m mid ≡ some (us, end) → Words m us mid end) → (w : ℕ) (mid : List ℕ) → digits 8 0 bs ≡ some (w, mid) → (o : Option (List ℕ × List ℕ)) → words m mid ≡ o → Words (suc m) ws bs rest
-    more h w mid q none p = nothing (sym (rw (words, q, p)) ∙ e)
+    more h w mid q none p = absurd (Option·none-ne-some _ (sym (rw (words, q, p)) ∙ e))
     more h w mid q (some t) p =
         let f : _≡_ {A = Option (List ℕ × List ℕ)} (some (w ∷ t .0, t .1)) (some (ws, rest)) = sym (rw (words, q, p)) ∙ e in
         let r : _≡_ {A = List ℕ × List ℕ} (w ∷ t .0, t .1) (ws, rest) = cc in
@@ -174,7 +168,7 @@ hex-words (suc m) bs ws rest e = go (λ mid us end. hex-words m mid us end) (dig
         })
 
     go : ((mid us end : List ℕ) → words m mid ≡ some (us, end) → Words m us mid end) → (o : Option (ℕ × List ℕ)) → digits 8 0 bs ≡ o → Words (suc m) ws bs rest
-    go h none q = nothing (sym (rw (words, q)) ∙ e)
+    go h none q = absurd (Option·none-ne-some _ (sym (rw (words, q)) ∙ e))
     go h (some t) q = more h (t .0) (t .1) q (words m (t .1)) refl
 
 -- ---- a frame
@@ -202,9 +196,6 @@ pub read-framed : (kind : ℕ) (fits : List ℕ → Bool) (bs ws rest : List ℕ
 unfolding readFrame readWords endFrame
 read-framed kind fits bs ws rest e = go (digits 2 0 bs) refl
   where
-    nothing : {A : Type 0} → _≡_ {A = Option (List ℕ × List ℕ)} none (some (ws, rest)) → A
-    nothing q = let z : _≡_ {A = ℕ} 0 1 = cc in absurd (omega arith)
-
     -- the newline, behind the words us
     ended : (us tail : List ℕ) → (fits us ⇒ endFrame us tail ∣ none) ≡ some (ws, rest) → (us ≡ ws) × (fits us ≡ true) × (tail ≡ 10 ∷ rest)
     ended us tail q = test (fits us) refl tail q
@@ -215,16 +206,16 @@ read-framed kind fits bs ws rest e = go (digits 2 0 bs) refl
             let g : _≡_ {A = List ℕ × List ℕ} (us, bs) (ws, rest) = cc in
             let x : bs ≡ rest = ap (λ (t : List ℕ × List ℕ). t .1) g in
             (ap (λ (t : List ℕ × List ℕ). t .0) g, p, rw (eqb-true b 10 r, x))
-        line b bs p false r h = nothing (sym (rw (endFrame, r)) ∙ h)
+        line b bs p false r h = absurd (Option·none-ne-some _ (sym (rw (endFrame, r)) ∙ h))
 
         test : (t : Bool) → fits us ≡ t → (tail : List ℕ) → (fits us ⇒ endFrame us tail ∣ none) ≡ some (ws, rest) → (us ≡ ws) × (fits us ≡ true) × (tail ≡ 10 ∷ rest)
-        test false p tail q = nothing (sym (rw p) ∙ q)
-        test true p [] q = nothing (sym (rw p) ∙ q)
+        test false p tail q = absurd (Option·none-ne-some _ (sym (rw p) ∙ q))
+        test true p [] q = absurd (Option·none-ne-some _ (sym (rw p) ∙ q))
         test true p (b ∷ bs) q = line b bs p (eqb b 10) refl (sym (rw p) ∙ q)
 
     bodied : (m : ℕ) (mid : List ℕ) → m < 65536 → (o : Option (List ℕ × List ℕ)) → words m mid ≡ o → readWords fits m mid ≡ some (ws, rest)
         → Countable ws × (length ws ≡ m) × (mid ≡ hexWords ws ++ (10 ∷ rest)) × (fits ws ≡ true)
-    bodied m mid b none p q = nothing (sym (rw (readWords, p)) ∙ q)
+    bodied m mid b none p q = absurd (Option·none-ne-some _ (sym (rw (readWords, p)) ∙ q))
     bodied m mid b (some t) p q =
         let g = hex-words m mid (t .0) (t .1) p in
         let h = ended (t .0) (t .1) (sym (rw (readWords, p)) ∙ q) in
@@ -232,7 +223,7 @@ read-framed kind fits bs ws rest e = go (digits 2 0 bs) refl
         rw (← (h .0)) (record { small = g .small; few = omega arith }, n, g .text ∙ rw (h .2), h .1)
 
     counted : (x : ℕ) (mid : List ℕ) → digits 2 0 bs ≡ some (x, mid) → eqb x kind ≡ true → (o : Option (ℕ × List ℕ)) → digits 4 0 mid ≡ o → Framed kind fits ws bs rest
-    counted x mid p q none r = nothing (sym (rw (readFrame, p, q, r)) ∙ e)
+    counted x mid p q none r = absurd (Option·none-ne-some _ (sym (rw (readFrame, p, q, r)) ∙ e))
     counted x mid p q (some t) r =
         let k = hex-digits 2 0 x bs mid p in
         let a = k .value in
@@ -248,9 +239,9 @@ read-framed kind fits bs ws rest e = go (digits 2 0 bs) refl
         record { text = k .text ∙ rw (c, m) (sym (frame-split kind ws rest)); words = g .0; passes = g .3; kinds = omega arith }
 
     kinded : (x : ℕ) (mid : List ℕ) → digits 2 0 bs ≡ some (x, mid) → (t : Bool) → eqb x kind ≡ t → Framed kind fits ws bs rest
-    kinded x mid p false q = nothing (sym (rw (readFrame, p, q)) ∙ e)
+    kinded x mid p false q = absurd (Option·none-ne-some _ (sym (rw (readFrame, p, q)) ∙ e))
     kinded x mid p true q = counted x mid p q (digits 4 0 mid) refl
 
     go : (o : Option (ℕ × List ℕ)) → digits 2 0 bs ≡ o → Framed kind fits ws bs rest
-    go none p = nothing (sym (rw (readFrame, p)) ∙ e)
+    go none p = absurd (Option·none-ne-some _ (sym (rw (readFrame, p)) ∙ e))
     go (some t) p = kinded (t .0) (t .1) p (eqb (t .0) kind) refl

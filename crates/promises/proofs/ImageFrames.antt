@@ -2,8 +2,9 @@
 -- a frame, and recursion on the frames that are expected.
 use Prim.Native.Nat.{ℕ, suc, _+_, _-_}
 use mathlib.Core.Path.{_≡_, refl, sym, ap, _∙_}
-use mathlib.Core.Option.{Option, none, some}
+use mathlib.Core.Option.{Option, none, some, Option·some-ne-none}
 use mathlib.Core.List.{List, [], _∷_, _++_, append-assoc}
+use mathlib.Core.Bool.{false≢true}
 use native.Mathlib.Omega.{arith}
 use lib.ListN.{length}
 use Rattle.rules.specs.Image.{frame, headFits, partFits, Expected, layout, Frames, frames, malformed, withFrame, readFrame, readFrames, readText}
@@ -12,7 +13,7 @@ use Rattle.promises.proofs.ImageDigits.{frame-read, read-framed}
 
 -- no list of frames is a fault
 not-frames : {A : Type 0} {l : ℕ} {fs : List (List ℕ)} → malformed l ≡ frames fs → A
-not-frames e = let z : _≡_ {A = ℕ} 0 1 = cc in absurd (omega arith)
+not-frames e = absurd (false≢true cc)
 
 -- what stands behind a frame decides
 with-frames : {A : Type 0} (ws : List ℕ) (r : Frames) (fs : List (List ℕ)) → withFrame ws r ≡ frames fs
@@ -31,10 +32,6 @@ framed e bs ws rest h = let g = read-framed (e .kind) (partFits (e .most)) bs ws
 
 reads : (e : Expected) (ws rest : List ℕ) → FrameFits e ws → readFrame (e .kind) (partFits (e .most)) (frame (e .kind) ws ++ rest) ≡ some (ws, rest)
 reads e ws rest f = frame-read (e .kind) (partFits (e .most)) ws rest (f .kind) (f .words) (f .fits)
-
--- one that is there does not read as none
-some-none : {A B : Type 0} {x : A} {o : Option A} → o ≡ some x → o ≡ none → B
-some-none p q = let z : _≡_ {A = ℕ} 0 1 = cc in absurd (omega arith)
 
 -- ---- the frames behind the first
 
@@ -64,7 +61,7 @@ frames-back (e ∷ es) bs fs line h = go (readFrame (e .kind) (partFits (e .most
 -- ---- their first fault
 
 no-read : (e : Expected) (es : List Expected) (bs : List ℕ) → readFrame (e .kind) (partFits (e .most)) bs ≡ none → NoFrame (e ∷ es) bs
-no-read e es bs h ws rest f q = some-none (reads e ws rest f) (rw q at h)
+no-read e es bs h ws rest f q = Option·some-ne-none _ (sym (reads e ws rest f) ∙ rw q at h)
 
 read-none : (e : Expected) (es : List Expected) (bs : List ℕ) → NoFrame (e ∷ es) bs → readFrame (e .kind) (partFits (e .most)) bs ≡ none
 read-none e es bs f = go (readFrame (e .kind) (partFits (e .most)) bs) refl
@@ -87,7 +84,7 @@ fault-back [] (b ∷ bs) line l h =
       fits = tt;
       text = refl;
       counted = omega arith;
-      fault = λ z. (let w : _≡_ {A = ℕ} 0 1 = cc in omega arith);
+      fault = λ z. false≢true cc;
     }
 fault-back (e ∷ es) bs line l h = go (readFrame (e .kind) (partFits (e .most)) bs) refl (λ rest. fault-back es rest (suc line) l)
   where
@@ -175,7 +172,7 @@ text-fault text l h = go (readFrame 1 headFits text) refl
     go none q =
         let m : malformed 1 ≡ malformed l = sym (rw (readText, q)) ∙ h in
         let s : 1 ≡ l = cc in
-        rw (← s) (at-head (λ ws rest f p. some-none (head-reads ws rest f) (rw p at q)))
+        rw (← s) (at-head (λ ws rest f p. Option·some-ne-none _ (sym (head-reads ws rest f) ∙ rw p at q)))
     go (some t) q =
         with-fault (t .0) (readFrames 2 (layout (t .0)) (t .1)) l (sym (rw (readText, q)) ∙ h)
         (λ p.

@@ -2,16 +2,15 @@
 -- frames give has their text. Trimming and padding undo one another, and so do cutting a heap into pages and joining them.
 use Prim.Native.Nat.{ℕ, zero, suc, _+_, _-_, _*_, _/_, _^_, _≤_, _<_}
 use mathlib.Core.Path.{_≡_, refl, sym, ap, _∙_}
-use mathlib.Core.Bool.{Bool, true, false, not}
+use mathlib.Core.Bool.{Bool, true, false, false≢true}
 use mathlib.Core.List.{List, [], _∷_, _++_, append-assoc}
-use native.Mathlib.Nat.{zero-mul, add-mul, one-mul, mul-div-cancel, div-le-self}
-use native.Mathlib.Numerals.{add-one}
+use native.Mathlib.Nat.{zero-mul, mul-div-cancel, div-le-self, suc-mul}
 use native.Mathlib.Omega.{arith}
 use borrow.Author.Tests.{le-leb, leb-true, eqb-true, not-true}
 use lib.Dec.{eqb}
 use lib.Pow.{pow-pos}
-use lib.ListN.{length, take, drop, replicate, length-append, length-take, length-drop}
-use lib.Seq.{getD-drop, take-add, drop-drop, take-at, drop-at, take-length, length-take-le}
+use lib.ListN.{length, take, drop, replicate, length-append, length-take}
+use lib.Seq.{getD-drop, take-add, drop-drop, take-at, drop-at, take-length}
 use Rattle.laws.specs.Lists.{at, padded, zeros}
 use Rattle.laws.proofs.Tests.{both}
 use Rattle.laws.proofs.Padded.{length-padded}
@@ -22,6 +21,7 @@ use Rattle.rules.proofs.Limits.{page-size, whole-pages, two-pages}
 use Rattle.rules.proofs.Frames.{trim-take, length-trim, trim-trimmed, padded-trim}
 use Rattle.promises.specs.Texts.{FrameFits, Fits, WellFormed, framesText, textOf}
 use Rattle.promises.proofs.ImageDigits.{small-cons}
+use Rattle.rules.proofs.Chains.{length-page}
 
 -- ---- words of 32 bits
 
@@ -93,7 +93,7 @@ trim-zeros zero (w ∷ ws) z = go (eqb w 0) refl (trim-zeros zero ws)
   where
     go : (b : Bool) → eqb w 0 ≡ b → (zeros ws ≡ true → trim [] ≡ trim ws) → trim [] ≡ trim (w ∷ ws)
     go true e r = let t : [] ≡ trim ws = r (sym (rw (zeros, e)) ∙ z) in rw (trim, ← t, e)
-    go false e r = let q : false ≡ true = sym (rw (zeros, e)) ∙ z in let y : _≡_ {A = ℕ} 0 1 = cc in absurd (omega arith)
+    go false e r = absurd (false≢true (sym (rw (zeros, e)) ∙ z))
 trim-zeros (suc r) [] z = refl
 trim-zeros (suc r) (w ∷ ws) z = rw (trim, trim-zeros r ws z)
 
@@ -117,18 +117,15 @@ unfolding pagesOf pageFrames framesText
 pages-text n heap zero k = refl
 pages-text n heap (suc m) k = ap (λ t. frame 5 (trim (pageWords n heap k)) ++ t) (pages-text n heap m (suc k))
 
-next-page : (k P : ℕ) → suc k * P ≡ k * P + P
-next-page k P = ap (λ x. x * P) (sym (add-one k)) ∙ add-mul k 1 P ∙ ap (λ x. k * P + x) (one-mul P)
-
 -- the pages one after the other are the heap again
 pages-joined : (n : ℕ) (heap : List ℕ) (m k : ℕ) → k * 2 ^ n + m * 2 ^ n ≤ length heap → joined (2 ^ n) (pagesOf n heap m k) ≡ take (m * 2 ^ n) (drop (k * 2 ^ n) heap)
 unfolding pagesOf joined pageWords
 pages-joined n heap zero k b = rw zero-mul
 pages-joined n heap (suc m) k b =
     let P : ℕ = 2 ^ n in
-    let e : suc m * P ≡ P + m * P = (let q = next-page m P in omega arith) in
-    let f : suc k * P ≡ k * P + P = next-page k P in
-    let l : length (pageWords n heap k) ≡ P = length-take-le P (drop (k * P) heap) (simp length-drop (omega arith)) in
+    let e : suc m * P ≡ P + m * P = (let q = suc-mul m P in omega arith) in
+    let f : suc k * P ≡ k * P + P = suc-mul k P in
+    let l = length-page n heap k (omega arith) in
     let h : padded P (trim (pageWords n heap k)) ≡ pageWords n heap k = ap (λ x. padded x (trim (pageWords n heap k))) (sym l) ∙ padded-trim (pageWords n heap k) in
     ap (λ t. padded P (trim (pageWords n heap k)) ++ t) (pages-joined n heap m (suc k) (omega arith))
     ∙ rw (h, f, ← drop-drop P (k * P) heap, e) (sym (take-add P (m * P) (drop (k * P) heap)))
@@ -258,7 +255,7 @@ joined-length P zero e [] f = sym (zero-mul P)
 joined-length P zero e (p ∷ ps) f = absurd f
 joined-length P (suc m) e [] f = absurd f
 joined-length P (suc m) e (p ∷ ps) f =
-    length-append (padded P p) (joined P ps) ∙ (let a = length-padded P p in let b = joined-length P m e ps (f .1) in let c = next-page m P in omega arith)
+    length-append (padded P p) (joined P ps) ∙ (let a = length-padded P p in let b = joined-length P m e ps (f .1) in let c = suc-mul m P in omega arith)
 
 joined-text : (n m k : ℕ) (heap : List ℕ) (ps : List (List ℕ)) → Fits (replicate m (expected 5 (2 ^ n))) ps → drop (k * 2 ^ n) heap ≡ joined (2 ^ n) ps
     → pageFrames n heap m k ≡ framesText (replicate m (expected 5 (2 ^ n))) ps
@@ -270,7 +267,7 @@ joined-text n (suc m) k heap (p ∷ ps) f e =
     let P : ℕ = 2 ^ n in
     let w : pageWords n heap k ≡ padded P p = ap (take P) e ∙ take-at (padded P p) (joined P ps) P (length-padded P p) in
     let d : drop (suc k * P) heap ≡ joined P ps =
-    ap (λ x. drop x heap) (next-page k P) ∙ sym (drop-drop P (k * P) heap) ∙ ap (drop P) e ∙ drop-at (padded P p) (joined P ps) P (length-padded P p) in
+    ap (λ x. drop x heap) (suc-mul k P) ∙ sym (drop-drop P (k * P) heap) ∙ ap (drop P) e ∙ drop-at (padded P p) (joined P ps) P (length-padded P p) in
     ap (λ x. frame 5 (trim x) ++ pageFrames n heap m (suc k)) w
     ∙ ap (λ x. frame 5 x ++ pageFrames n heap m (suc k)) (padded-back (expected 5 P) p (f .0))
     ∙ ap (λ t. frame 5 p ++ t) (joined-text n m (suc k) heap ps (f .1) d)

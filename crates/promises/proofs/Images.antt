@@ -11,7 +11,7 @@ use Rattle.rules.specs.declared.Valued.{Valued}
 use Rattle.rules.specs.declared.Opened.{Opened}
 use Rattle.rules.specs.Memory.{Store, Words32}
 use Rattle.rules.specs.Refusals.{outcome}
-use Rattle.rules.specs.Image.{imageText, writeImage, readImage, readText, frames, malformed}
+use Rattle.rules.specs.Image.{imageText, writeImage, readImage, readText, frames}
 use Rattle.rules.specs.Left.{leftOpened}
 use Rattle.promises.specs.Texts.{WellFormed, textOf, Fault}
 use Rattle.promises.proofs.ImageFrames.{text-reads, reads-text, text-fault, fault-text}

@@ -1,10 +1,9 @@
 -- Every call keeps a heap that passes passing, so any run of calls from a fresh heap passes. `Sound` is what passing means, each call keeps it,
 -- and a refused call changes nothing.
 use Prim.Native.Nat.{ℕ}
-use native.Mathlib.Omega.{arith}
 use mathlib.Core.Path.{_≡_, refl}
 use mathlib.Core.Logic.{_⊎_, inl, inr}
-use mathlib.Core.Bool.{Bool, true, false}
+use mathlib.Core.Bool.{Bool, true, false, false≢true}
 use mathlib.Core.List.{List, [], _∷_}
 use lib.ListN.{length}
 use Rattle.rules.specs.declared.Control.{Control}
@@ -37,7 +36,7 @@ unfolding setUp
 set-up-passes n heap table roots consts c t e = go (limits n (length heap) (length table) (length roots) (length consts)) refl
   where
     go : (b : Bool) → limits n (length heap) (length table) (length roots) (length consts) ≡ b → Passes (fresh n heap table roots consts c)
-    go false q = let z : Opened.Refused Refusal.Limits ≡ Opened.Done c = rw q at e in let w : _≡_ {A = ℕ} 0 1 = cc in absurd (omega arith)
+    go false q = let z : Opened.Refused Refusal.Limits ≡ Opened.Done c = rw q at e in absurd (false≢true cc)
     go true q =
         let z : Opened.Done (control n 0 1 (pageCount n heap) (pageCount n heap)) ≡ Opened.Done c = rw q at e in
         let x : control n 0 1 (pageCount n heap) (pageCount n heap) ≡ c = cc in

@@ -17,18 +17,17 @@ use Rattle.laws.specs.Lists.{at, put}
 use Rattle.laws.proofs.Loops.{choice-keeps}
 use Rattle.laws.proofs.Facts.{all-at}
 use Rattle.laws.proofs.Lists.{starts-differ, put-elsewhere, at-put-below, at-put-in}
-use Rattle.laws.proofs.Once.{last-in}
 use Rattle.rules.specs.declared.Kind.{Kind}
 use Rattle.rules.specs.Memory.{Store, lent, pageCount, endOf, topOf}
 use Rattle.rules.specs.Words.{headOf, lengthBy, isRecord}
 use Rattle.rules.specs.Audit.{goodWord}
 use Rattle.rules.specs.Refusals.{refusedValue}
-use Rattle.rules.specs.Pages.{Run, begun, recordAfter, linkFits, join, room, store, place}
+use Rattle.rules.specs.Pages.{Run, begun, recordAfter, linkFits, join, store, place}
 use Rattle.rules.specs.Calls.{rowFits, headerFor, wordsFit, allocateOn, allocateIn, allocate}
 use Rattle.facts.proofs.Steps.{Stands, Steps, steps-le, steps-same, same-length, apart}
 use Rattle.facts.proofs.Audited.{steps-at}
-use Rattle.facts.proofs.Laid.{spare≢mine, mine≢beyond, upd, upd-same, upd-other, old, spare, mine, Body, Layout, Value, chain-body, page-in}
-use Rattle.facts.proofs.Framed.{below-end}
+use Rattle.facts.proofs.Laid.{spare≢mine, mine≢beyond, upd, upd-same, upd-other, old, spare, mine, Body, Layout, Value, chain-body, last-own, last-low, top-in-heap}
+use Rattle.facts.proofs.Framed.{below-fin}
 use Rattle.facts.proofs.Goods.{good-of}
 use Rattle.facts.proofs.Sound.{Good, Sound}
 use Rattle.working.proofs.Aside.{stack-laid}
@@ -83,9 +82,6 @@ module _ (s : Store) (S : Sound s) (j : ℕ) (jR : j < s .ctl .regions) (kind : 
   abbrev value : List ℕ
   value = headerFor kind (length ws) ∷ ws
 
-  abbrev L₁ : Layout n N R (rm .own₁) (rm .fin₁) (rm .pages₁) (rm .free₁) r₁
-  L₁ = rm .laid
-
   -- the region's last page, and its a
   abbrev z : ℕ
   z = rm .laid .mine-top j jR .0
@@ -94,7 +90,7 @@ module _ (s : Store) (S : Sound s) (j : ℕ) (jR : j < s .ctl .regions) (kind : 
   top = topOf (r₁ .table) j
 
   own-z : rm .own₁ z ≡ mine j
-  own-z = rm .laid .mine-own j z jR (last-in (rm .laid .mine-top j jR .1))
+  own-z = last-own (rm .laid) j jR
 
   top-is : top ≡ rm .fin₁ z
   top-is = rm .laid .mine-top j jR .3
@@ -124,20 +120,14 @@ module _ (s : Store) (S : Sound s) (j : ℕ) (jR : j < s .ctl .regions) (kind : 
   unfolding store
   heap-is = refl
 
-  long₁ : length (r₁ .heap) ≡ length (s .heap)
-  long₁ = rm .laid .size ∙ sym (S .laid .size)
-
   long : length (r₂ .heap) ≡ length (s .heap)
   long = L₂ .size ∙ sym (S .laid .size)
 
-  z-in : z * P + P ≤ length (r₁ .heap)
-  z-in = page-in (rm .laid) z (λ q. mine≢beyond own-z q)
-
   low : z * P + 2 ≤ top
-  low = let b = steps-le (rm .laid .mine-body j z own-z .filled) in let a = top-is in omega arith
+  low = last-low (rm .laid) j jR
 
   fits-in : top + length value ≤ length (r₁ .heap)
-  fits-in = let a = rm .fits in let b = end-is in let c = z-in in omega arith
+  fits-in = top-in-heap (rm .laid) j jR (length value) (rm .fits)
 
   -- the regions' pages keep what they held
   own-kept : (i k : ℕ) → i < R → List·Memᴰ k (S .pages i) → (rm .own₁ k ≡ mine i) × (rm .fin₁ k ≡ S .fin k)
@@ -199,7 +189,7 @@ module _ (s : Store) (S : Sound s) (j : ℕ) (jR : j < s .ctl .regions) (kind : 
   fields′ i k a l t b m r st rec q = go (ℕ-discrete k z) (rm .mine-from k i (rm .laid .mine-own i k b m))
     where
       below : a + suc l ≤ fin′ k
-      below = let x = body₂ i k b m in below-end (r₂ .heap) (k * P + P) (k * P + 2) (fin′ k) (x .filled) (x .rest) r st
+      below = below-fin L₂ i k (L₂ .mine-own i k b m) r st
 
       -- an old value
       was : List·Memᴰ k (S .pages i) → Steps (s .heap) (k * P + P) (k * P + 2) a × Stands (s .heap) (k * P + P) a l × (a + suc l ≤ S .fin k)

@@ -1,12 +1,10 @@
 -- Setting a root and assigning a field keep a heap sound: the word offered is good, and a field is no part of the layout.
 use Prim.Native.Nat.{ℕ, suc, _+_, _*_, _/_, _^_, _≤_, _<_}
-use native.Mathlib.Nat.{le-refl}
 use native.Mathlib.Omega.{arith}
 use native.Mathlib.Decide.{ℕ-discrete}
 use mathlib.Core.Path.{_≡_, sym, ap, _∙_}
 use mathlib.Core.Logic.{_≢_}
 use mathlib.Core.Bool.{true, not}
-use mathlib.Core.Option.{some}
 use mathlib.Core.List.{List, List·Memᴰ}
 use lib.ListN.{length, set, length-set}
 use lib.Seq.{getD-set-same, getD-set-other}
@@ -15,21 +13,21 @@ use borrow.Author.Tests.{leb-false, not-false}
 use Rattle.laws.specs.Lists.{at}
 use Rattle.laws.proofs.Loops.{choice-keeps}
 use Rattle.rules.specs.Memory.{Store, lent, pageCount}
-use Rattle.rules.specs.Words.{Word, number, inHeap, inConst, wordOf, headOf, lengthBy, fit, fits, isRecord, goodHeap, goodConst}
+use Rattle.rules.specs.Words.{Word, number, inHeap, inConst, wordOf, isRecord, goodHeap, goodConst}
 use Rattle.rules.specs.Audit.{goodWord}
 use Rattle.rules.specs.Refusals.{refused}
 use Rattle.rules.specs.Pages.{begun}
 use Rattle.rules.specs.Calls.{assignAt, assignBy, assign, setRoot}
-use Rattle.rules.proofs.Headers.{fit-is, fit-of}
-use Rattle.facts.proofs.Steps.{Stands, Steps, steps-le}
-use Rattle.facts.proofs.Inside.{other-page, no-header, value-still}
+use Rattle.rules.proofs.Headers.{header-odd}
+use Rattle.facts.proofs.Steps.{Stands, Steps}
+use Rattle.facts.proofs.Inside.{no-descriptor, no-header, value-still}
 use Rattle.facts.proofs.Laid.{mine, Layout}
-use Rattle.facts.proofs.Framed.{below-end, good-in}
+use Rattle.facts.proofs.Framed.{good-in, below-fin}
 use Rattle.facts.proofs.Goods.{page-ends, good-of, in-heap}
-use Rattle.facts.proofs.Sound.{InHeap, Good, a-number, to-heap, to-const, Sound}
+use Rattle.facts.proofs.Sound.{InHeap, Good, a-number, to-heap, to-const, Sound, descriptor-fits, good-page}
 use Rattle.working.proofs.Fielded.{field-laid}
 use Rattle.rules.specs.Left.{leftPlain}
-use Rattle.promises.proofs.KeepsGood.{admitted-keeps, good-page}
+use Rattle.promises.proofs.KeepsGood.{admitted-keeps}
 
 -- ---- a root
 
@@ -81,15 +79,6 @@ set-root-keeps s i w S =
 
 -- ---- a field
 
--- a header's length, as the code reads it
-length-is : (w l : ℕ) → lengthBy (headOf w) ≡ some l → l ≡ w / 8
-unfolding fits
-length-is w l e =
-    let f : fit w l ≡ some l = fit-is w l l e (le-refl l) in
-    let t : fits w l ≡ true = rw (fits, f) in
-    let q : some l ≡ some (w / 8) = sym f ∙ fit-of w l t .0 in
-    cc
-
 -- field i of the record of l words at address d
 module _ (s : Store) (S : Sound s) (d i x : ℕ) (p : InHeap (s .ctl .n) (s .ctl .regions) (s .heap) d) (i-in : i < p .len)
     (good : Good (s .ctl .n) (s .ctl .regions) (s .heap) (s .consts) x) where
@@ -105,9 +94,6 @@ module _ (s : Store) (S : Sound s) (d i x : ℕ) (p : InHeap (s .ctl .n) (s .ctl
   abbrev h′ : List ℕ
   h′ = set (s .heap) (d + suc i) x
 
-  abbrev Good′ : ℕ → Type 0
-  Good′ w = Good n R h′ (s .consts) w
-
   mem : List·Memᴰ (p .page) (S .pages (p .region))
   mem = good-page s S d p
 
@@ -115,9 +101,7 @@ module _ (s : Store) (S : Sound s) (d i x : ℕ) (p : InHeap (s .ctl .n) (s .ctl
   own-k = S .laid .mine-own (p .region) k (p .known) mem
 
   below : d + suc (p .len) ≤ S .fin k
-  below =
-      let b = S .laid .mine-body (p .region) k own-k in
-      below-end (s .heap) (k * 2 ^ n + 2 ^ n) (k * 2 ^ n + 2) (S .fin k) (b .filled) (b .rest) (p .steps) (p .stands)
+  below = below-fin (S .laid) (p .region) k own-k (p .steps) (p .stands)
 
   laid : Layout n (pageCount n (s .heap)) R (S .own) (S .fin) (S .pages) (S .free) (begun (lent h′ (s .table) (s .roots) (s .consts) (s .ctl)))
   laid = field-laid n (pageCount n (s .heap)) R (S .own) (S .fin) (S .pages) (S .free) (begun s) (S .laid) k (p .region) d (p .len) i x own-k (p .steps) (p .stands) below i-in
@@ -137,11 +121,9 @@ module _ (s : Store) (S : Sound s) (d i x : ℕ) (p : InHeap (s .ctl .n) (s .ctl
 
   -- an origin is no such word
   origin-kept : (m : ℕ) → at (s .heap) (m * 2 ^ n + 1) ≡ at h′ (m * 2 ^ n + 1)
-  origin-kept m = keep (m * 2 ^ n + 1) (go (ℕ-discrete m k))
-    where
-      go : Dec (m ≡ k) → m * 2 ^ n + 1 ≢ d + suc i
-      go (yes e) = let w : m * 2 ^ n ≡ k * 2 ^ n = ap (λ t. t * 2 ^ n) e in let lo = steps-le (p .steps) in omega arith
-      go (no ne) = let b = S .laid .big in other-page n (s .heap) k d (p .len) i (p .steps) (p .stands) i-in m (m * 2 ^ n + 1) ne (omega arith) (omega arith)
+  origin-kept m =
+      keep (m * 2 ^ n + 1)
+      (no-descriptor n (s .heap) k d (p .len) i (p .steps) (p .stands) i-in m (m * 2 ^ n + 1) (descriptor-fits s S) (omega arith) (omega arith))
 
   good-still : (w : ℕ) → Good n R (s .heap) (s .consts) w → Good n R h′ (s .consts) w
   good-still w (a-number e) = a-number e
@@ -203,7 +185,7 @@ assign-keeps s w i x S =
         choice-keeps (λ o. Sound (leftPlain o)) (not (goodWord s x)) _ _ (λ e. S)
         (λ e₄.
         let p = in-heap (s .ctl .n) (s .ctl .regions) (s .heap) (S .within .paged) a (not-false _ e₁) in
-        let q = length-is (at (s .heap) a) (p .len) (p .stands .head) in
+        let q = header-odd (at (s .heap) a) (p .len) (p .stands .head) .1 in
         let b = leb-false (at (s .heap) a / 8) i e₃ in
         let t : suc (a + i) ≡ a + suc i = omega arith in
         rw t (field-sound s S a i x p (omega arith) (good-of (s .ctl .n) (s .ctl .regions) (s .heap) (s .consts) (S .within .paged) x (not-false _ e₄)))))))

@@ -18,7 +18,7 @@ use Rattle.rules.specs.Refusals.{withinLimits, commonTest, admitted, unbroken, 
 use Rattle.facts.proofs.Steps.{Stands, Steps, steps-le}
 use Rattle.facts.proofs.Laid.{old≢spare, old≢mine, old≢beyond, Owner, old, spare, beyond, mine, chain-body}
 use Rattle.facts.proofs.Framed.{value-kept, value-was, good-in}
-use Rattle.facts.proofs.Sound.{InHeap, Good, a-number, to-heap, to-const, Chained, in-free, in-region, Sound}
+use Rattle.facts.proofs.Sound.{InHeap, Good, a-number, to-heap, to-const, Chained, in-free, in-region, Sound, good-page}
 use Rattle.working.proofs.Owned.{Owned}
 
 -- ---- the tests of every call
@@ -47,25 +47,6 @@ module _ (s : Store) (S : Sound s) where
   abbrev R : ℕ
   R = s .ctl .regions
 
-  -- the page of a good pointer is in its region's chain
-  pub good-page : (a : ℕ) (p : InHeap n R (s .heap) a) → List·Memᴰ (p .page) (S .pages (p .region))
-  good-page a p = go (S .chained (p .page) (p .there))
-    where
-      go : Chained R (S .own) (S .pages) (S .free) (p .page) → List·Memᴰ (p .page) (S .pages (p .region))
-      go (in-free o m) =
-          let b = S .laid .big in
-          let e = S .laid .free-clean (p .page) o .rest (p .page * 2 ^ n + 1) (omega arith) (omega arith) in
-          let w = p .whose in
-          absurd (omega arith)
-      go (in-region j b o m) =
-          let e = S .laid .mine-body j (p .page) o .whose in
-          let w = p .whose in
-          let q : j ≡ p .region = omega arith in
-          rw q at m
-
-  pub page-big : (k : ℕ) → k * 2 ^ n + 2 ≤ k * 2 ^ n + 2 ^ n
-  page-big k = let b = S .laid .big in omega arith
-
   -- nobody's page is from-space
   pub not-old : (k : ℕ) → S .own k ≢ old
   not-old k e = go (S .chained k (S .laid .known k (old≢beyond e)))
@@ -79,7 +60,7 @@ module _ (s : Store) (S : Sound s) where
       (keeps : (j k x : ℕ) → j < R → j < R′ → List·Memᴰ k (S .pages j) → k * 2 ^ n < x → x < S .fin k → at (s .heap) x ≡ at h x) where
     in-kept : (a : ℕ) (p : InHeap n R (s .heap) a) → p .region < R′ → InHeap n R′ h a
     in-kept a p b =
-        let m = good-page a p in
+        let m = good-page s S a p in
         let x = chain-body (S .laid) (p .region) (p .page) (p .known) m in
         let lo = steps-le (x .filled) in
         good-in n R R′ (s .heap) h a p len b

@@ -1,12 +1,13 @@
 -- Popping the top region keeps a heap sound: its pages go back, cleared, and no pointer that is left names one of them, since the region was
 -- not held.
 use Prim.Native.Nat.{ℕ, suc, _+_, _-_, _*_, _/_, _^_, _≤_, _<_}
+use native.Mathlib.Nat.{le-refl}
 use native.Mathlib.Omega.{arith}
 use native.Mathlib.Decide.{ℕ-discrete}
 use mathlib.Core.Path.{_≡_, refl, sym, ap, _∙_}
 use mathlib.Core.Logic.{_≢_, _⊎_, inl, inr}
 use mathlib.Core.Bool.{Bool, true, false, not}
-use mathlib.Core.List.{List, _++_, List·Memᴰ, Memᴰ·append-left, Memᴰ·append-right}
+use mathlib.Core.List.{List, [], _++_, List·Memᴰ, Memᴰ·append-left, Memᴰ·append-right}
 use lib.ListN.{length}
 use lib.Dec.{eqb}
 use borrow.Author.Tests.{not-true, not-false, eqb-true, eqb-false, eq-eqb}
@@ -22,13 +23,13 @@ use Rattle.rules.specs.Pages.{Run, begun, recordAfter, giveBackAll}
 use Rattle.rules.specs.Calls.{pointsInto, letGo, popOn, popTop, pop}
 use Rattle.rules.proofs.Chains.{page-of}
 use Rattle.facts.proofs.Steps.{Stands, Steps, steps-le}
-use Rattle.facts.proofs.Laid.{old≢beyond, mine-inj, old≢mine, old≢spare, spare≢mine, mine≢beyond, spare≢beyond, Owner, old, spare, beyond, mine, Layout, chain-body}
+use Rattle.facts.proofs.Laid.{old≢beyond, old≢mine, old≢spare, spare≢mine, spare≢beyond, Owner, old, spare, beyond, mine, Layout, chain-body, chain-known, rows-laid}
 use Rattle.facts.proofs.Given.{spared, spared-in, spared-out, GivenAll, given-all}
 use Rattle.facts.proofs.Filled.{fields-in}
-use Rattle.facts.proofs.Framed.{below-end}
+use Rattle.facts.proofs.Framed.{below-fin}
 use Rattle.facts.proofs.Goods.{body-holds, body-ends}
 use Rattle.facts.proofs.Passing.{pages-are}
-use Rattle.facts.proofs.Sound.{InHeap, Good, Sound}
+use Rattle.facts.proofs.Sound.{InHeap, Good, Sound, one-region}
 use Rattle.working.proofs.Owned.{sound-owned, Owned}
 use Rattle.working.proofs.Fresh.{row-width, row-else, row-end, row-first, row-top, row-status}
 use Rattle.rules.specs.Left.{leftPlain}
@@ -142,9 +143,6 @@ module _ (s : Store) (S : Sound s) (j : ℕ) (top : s .ctl .regions ≡ suc j) (
   else : (x : ℕ) → (x < 4 * j) ⊎ (4 * j + 3 < x) → at table′ x ≡ at (s .table) x
   else x c = row-else (r′ .table) j 0 0 0 0 x c ∙ ap (λ t. at t x) (G .table)
 
-  row-at : (i x : ℕ) → i < j → x < 4 → at table′ (4 * i + x) ≡ at (r′ .table) (4 * i + x)
-  row-at i x b c = row-else (r′ .table) j 0 0 0 0 (4 * i + x) (inl (omega arith))
-
   width : length table′ ≡ 256
   width = row-width (r′ .table) j 0 0 0 0 ∙ ap length (G .table) ∙ S .within .table
 
@@ -153,33 +151,15 @@ module _ (s : Store) (S : Sound s) (j : ℕ) (top : s .ctl .regions ≡ suc j) (
 
   laid : Layout n N j own′ (S .fin) (S .pages) (S .free ++ S .pages j) (begun s′)
   laid =
-      record {
-        size = G .laid .size;
-        big = G .laid .big;
-        rows = let a = width in let b = S .regions in omega arith;
-        known = G .laid .known;
-        free-own = G .laid .free-own;
-        free-once = G .laid .free-once;
-        free-links = G .laid .free-links;
-        free-last = G .laid .free-last;
-        free-count = G .laid .free-count;
-        free-clean = G .laid .free-clean;
-        mine-own = G .laid .mine-own;
-        mine-once = G .laid .mine-once;
-        mine-links = λ i b. let t = G .laid .mine-links i b in (t .0, row-at i 1 b (omega arith) ∙ t .1, t .2);
-        mine-body = G .laid .mine-body;
-        mine-top = λ i b.
-            let t = G .laid .mine-top i b in
-            let e : 4 * i + 0 ≡ 4 * i = omega arith in
-            (t .0, t .1, (rw e at (row-at i 0 b (omega arith))) ∙ t .2, row-at i 2 b (omega arith) ∙ t .3);
-      }
+      rows-laid (G .laid) j (le-refl j) table′ [] (let a = width in let b = S .regions in omega arith)
+      (λ i x b lo hi. row-else (r′ .table) j 0 0 0 0 x (inl (omega arith)))
 
   pub long : length (r′ .heap) ≡ length (s .heap)
   long = G .laid .size ∙ sym (S .laid .size)
 
   -- the pages of the other regions are not given back
   not-its : (i k : ℕ) → i < j → List·Memᴰ k (S .pages i) → List·Memᴰ k ks → ⊥
-  not-its i k b m m′ = let e = mine-inj (sym (S .laid .mine-own i k (below-R i b) m) ∙ S .laid .mine-own j k jR m′) in omega arith
+  not-its i k b m m′ = let e = one-region s S i j k (below-R i b) jR m m′ in omega arith
 
   pub keeps : (i k x : ℕ) → i < R → i < j → List·Memᴰ k (S .pages i) → k * P < x → x < S .fin k → at (s .heap) x ≡ at (r′ .heap) x
   keeps i k x b c m p q =
@@ -204,7 +184,7 @@ module _ (s : Store) (S : Sound s) (j : ℕ) (top : s .ctl .regions ≡ suc j) (
       → isRecord (at (s .heap) a) ≡ true → t < l → pointsInto n (s .heap) j (at (s .heap) (a + suc t)) ≡ false
   unfolding letGo pageVals
   field-out i k a l t b m r st rec q =
-      let there = S .laid .known k (λ e. mine≢beyond (S .laid .mine-own i k (below-R i b) m) e) in
+      let there = chain-known (S .laid) i (below-R i b) k m in
       let (_, z) = both {a = all out (s .roots)} free in
       let u = below-in (λ i. all (λ k. all (fieldsPass out) (pageVals n (s .heap) k)) (regionPages n (s .heap) (s .table) i)) j z i b in
       let v = all-in (λ k. all (fieldsPass out) (pageVals n (s .heap) k)) (regionPages n (s .heap) (s .table) i) u k (rw (pages-are s S i (below-R i b)) m) in
@@ -219,8 +199,7 @@ module _ (s : Store) (S : Sound s) (j : ℕ) (top : s .ctl .regions ≡ suc j) (
       go : (S .fin k ≤ a) ⊎ (Steps (s .heap) (k * P + P) (k * P + 2) a × Stands (s .heap) (k * P + P) a l × (a + suc l ≤ S .fin k))
           → Good n j (r′ .heap) (s .consts) (at (r′ .heap) (a + suc t))
       go (inl e) =
-          let x = chain-body (G .laid) i k b m in
-          let u = below-end (r′ .heap) (k * P + P) (k * P + 2) (S .fin k) (x .filled) (x .rest) r st in
+          let u = below-fin (G .laid) i k (G .laid .mine-own i k b m) r st in
           absurd (omega arith)
       go (inr v) =
           let f = field-was s S j (r′ .heap) long keeps i k a l t (below-R i b) b m (v .0) (v .2) q in
@@ -236,8 +215,16 @@ module _ (s : Store) (S : Sound s) (j : ℕ) (top : s .ctl .regions ≡ suc j) (
       go (yes m) = inl (m, spared-in own° ks k m)
       go (no f) = inr (f, spared-out own° ks k f)
 
+  -- whoever has a page that is not free had it before, and it was none of the region's
+  own-before : (k : ℕ) (o : Owner) → o ≢ spare → own′ k ≡ o → (List·Memᴰ k ks → ⊥) × (own° k ≡ o)
+  own-before k o ne e = go (own-cases k)
+    where
+      go : (List·Memᴰ k ks × (own′ k ≡ spare)) ⊎ ((List·Memᴰ k ks → ⊥) × (own′ k ≡ own° k)) → (List·Memᴰ k ks → ⊥) × (own° k ≡ o)
+      go (inl t) = absurd (ne (sym e ∙ t .1))
+      go (inr t) = (t .0, sym (t .1) ∙ e)
+
   none-old : (k : ℕ) → own′ k ≢ old
-  none-old k e = go (own-cases k)
+  none-old k e = let t = own-before k old (old≢spare refl) e in by (t .0) (S .own k) refl (t .1)
     where
       by : (List·Memᴰ k ks → ⊥) → (o : Owner) → S .own k ≡ o → leaving j o ≡ old → ⊥
       by f old q u = not-old s S k q
@@ -249,19 +236,11 @@ module _ (s : Store) (S : Sound s) (j : ℕ) (top : s .ctl .regions ≡ suc j) (
           go (yes x) = f (W .mines k j (q ∙ ap mine x) .1)
           go (no ne) = old≢mine u (leaving-mine j i ne)
 
-      go : (List·Memᴰ k ks × (own′ k ≡ spare)) ⊎ ((List·Memᴰ k ks → ⊥) × (own′ k ≡ own° k)) → ⊥
-      go (inl t) = old≢spare e (t .1)
-      go (inr t) = by (t .0) (S .own k) refl (sym (t .1) ∙ e)
-
   owned′ : Owned N j own′ (S .pages) (S .free ++ S .pages j)
   owned′ = record { whole = whole; spares = spares; mines = mines }
     where
       whole : (k : ℕ) → k < N → own′ k ≢ beyond
-      whole k b e = go (own-cases k)
-        where
-          go : (List·Memᴰ k ks × (own′ k ≡ spare)) ⊎ ((List·Memᴰ k ks → ⊥) × (own′ k ≡ own° k)) → ⊥
-          go (inl t) = spare≢beyond (t .1) e
-          go (inr t) = W .whole k b (leaving-back j (S .own k) beyond (λ q. old≢beyond q refl) (sym (t .1) ∙ e))
+      whole k b e = W .whole k b (leaving-back j (S .own k) beyond (λ q. old≢beyond q refl) (own-before k beyond (λ q. spare≢beyond q refl) e .1))
 
       spares : (k : ℕ) → own′ k ≡ spare → List·Memᴰ k (S .free ++ S .pages j)
       spares k e = go (own-cases k)
@@ -271,7 +250,9 @@ module _ (s : Store) (S : Sound s) (j : ℕ) (top : s .ctl .regions ≡ suc j) (
           go (inr t) = Memᴰ·append-left (S .pages j) (W .spares k (leaving-back j (S .own k) spare (λ q. old≢spare q refl) (sym (t .1) ∙ e)))
 
       mines : (k i : ℕ) → own′ k ≡ mine i → (i < j) × List·Memᴰ k (S .pages i)
-      mines k i e = go (own-cases k)
+      mines k i e =
+          let t = own-before k (mine i) (λ q. spare≢mine q refl) e in
+          by (t .0) (W .mines k i (leaving-back j (S .own k) (mine i) (λ q. old≢mine q refl) (t .1)))
         where
           by : (List·Memᴰ k ks → ⊥) → (i < R) × List·Memᴰ k (S .pages i) → (i < j) × List·Memᴰ k (S .pages i)
           by f u = (below (ℕ-discrete i j), u .1)
@@ -279,10 +260,6 @@ module _ (s : Store) (S : Sound s) (j : ℕ) (top : s .ctl .regions ≡ suc j) (
               below : Dec (i ≡ j) → i < j
               below (yes x) = absurd (f (rw x at (u .1)))
               below (no ne) = let b = u .0 in omega arith
-
-          go : (List·Memᴰ k ks × (own′ k ≡ spare)) ⊎ ((List·Memᴰ k ks → ⊥) × (own′ k ≡ own° k)) → (i < j) × List·Memᴰ k (S .pages i)
-          go (inl t) = spare≢mine (t .1) e
-          go (inr t) = by (t .0) (W .mines k i (leaving-back j (S .own k) (mine i) (λ q. old≢mine q refl) (sym (t .1) ∙ e)))
 
   -- the region's table words are 0
   past′ : (x : ℕ) → 4 * j ≤ x → x < 256 → at table′ x ≡ 0

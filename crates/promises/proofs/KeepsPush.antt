@@ -11,15 +11,15 @@ use lib.Dec.{leb, eqb}
 use borrow.Author.Tests.{leb-false, eqb-false}
 use Rattle.laws.specs.Lists.{at}
 use Rattle.laws.proofs.Loops.{choice-keeps}
-use Rattle.laws.proofs.Once.{only, Linked, linked-first}
+use Rattle.laws.proofs.Once.{Linked, linked-first}
 use Rattle.rules.specs.Memory.{Store, lent, pageCount, pageEnd, pageAddress, bodyAddress, link, statusOf, setRow}
 use Rattle.rules.specs.Words.{isRecord}
 use Rattle.rules.specs.Refusals.{refused}
 use Rattle.rules.specs.Pages.{Run, begun, recordAfter, linkFits}
 use Rattle.rules.specs.Calls.{pushOn, push}
 use Rattle.facts.proofs.Steps.{Stands, Steps, steps-le}
-use Rattle.facts.proofs.Laid.{spare≢mine, upd, upd-same, upd-other, Owner, old, spare, mine, Layout, chain-body}
-use Rattle.facts.proofs.Framed.{below-end}
+use Rattle.facts.proofs.Laid.{spare≢mine, upd, upd-same, upd-other, Owner, old, spare, mine, Layout, chain-body, chain-apart}
+use Rattle.facts.proofs.Framed.{below-fin}
 use Rattle.facts.proofs.Sound.{Good, Sound}
 use Rattle.working.proofs.Owned.{sound-owned, Owned}
 use Rattle.working.proofs.Taken.{taken, takes, taken-laid, others}
@@ -99,7 +99,7 @@ module _ (s : Store) (S : Sound s) (k : ℕ) (ks : List ℕ) (free : S .free ≡
 
   -- no word of another page changes
   not-k : (j l : ℕ) → j < R → List·Memᴰ l (S .pages j) → l ≢ k
-  not-k j l b m e = spare≢mine (ap (S .own) e ∙ spare-k) (S .laid .mine-own j l b m)
+  not-k = chain-apart (S .laid) (λ i. spare≢mine spare-k)
 
   keeps : (j l x : ℕ) → j < R → j < suc R → List·Memᴰ l (S .pages j) → l * P < x → x < S .fin l → at (s .heap) x ≡ at (r₁ .heap) x
   unfolding taken
@@ -117,9 +117,8 @@ module _ (s : Store) (S : Sound s) (k : ℕ) (ks : List ℕ) (free : S .free ≡
       was : (u : j < R) → List·Memᴰ l (S .pages j) → (S .fin l ≤ a) ⊎ (Steps (s .heap) (l * P + P) (l * P + 2) a × Stands (s .heap) (l * P + P) a c × (a + suc c ≤ S .fin l))
           → Good n (suc R) (r₁ .heap) (s .consts) (at (r₁ .heap) (a + suc i))
       was u p (inl e) =
-          let x = chain-body L₁ j l u p in
           let f : fin′ l ≡ S .fin l = upd-other (S .fin) k (k * P + 2) l (not-k j l u p) in
-          let t = below-end (r₁ .heap) (l * P + P) (l * P + 2) (fin′ l) (x .filled) (x .rest) r st in
+          let t = below-fin L₁ j l (L₁ .mine-own j l u p) r st in
           absurd (omega arith)
       was u p (inr v) =
           let f = field-was s S (suc R) (r₁ .heap) long keeps j l a c i u b p (v .0) (v .2) q in
@@ -129,9 +128,9 @@ module _ (s : Store) (S : Sound s) (k : ℕ) (ks : List ℕ) (free : S .free ≡
       go (inl u) = let p : List·Memᴰ l (S .pages j) = rw (was-old j (omega arith)) at m in was u p (record-was s S (suc R) (r₁ .heap) long keeps j l a c u b p r st)
       go (inr e) =
           let lk : l ≡ k = List·Memᴰ·eq-of-singleton (rw (is-new j e) at m) in
-          let x = L₁ .mine-body R l (ap own′ lk ∙ own-new n N R (S .own) (S .fin) (S .pages) k ks (begun s) L wide) in
+          let o : own′ l ≡ mine R = ap own′ lk ∙ own-new n N R (S .own) (S .fin) (S .pages) k ks (begun s) L wide in
           let f : fin′ l ≡ k * P + 2 = upd-same (S .fin) k (k * P + 2) l lk in
-          let t = below-end (r₁ .heap) (l * P + P) (l * P + 2) (fin′ l) (x .filled) (x .rest) r st in
+          let t = below-fin L₁ R l o r st in
           let lo = steps-le r in
           let w : l * P ≡ k * P = ap (λ y. y * P) lk in
           absurd (omega arith)

@@ -1,35 +1,33 @@
 -- Popping a region leaves every path from a root as it was: no value moves, the words of the other regions stay, and no path leads into the
 -- region, since it was not held. A refused pop changes nothing.
 use Prim.Native.Nat.{ℕ, suc, _+_, _-_, _*_, _^_, _≤_, _<_}
-use native.Mathlib.Nat.{add-zero}
 use native.Mathlib.Omega.{arith}
 use mathlib.Core.Path.{_≡_, refl, sym, ap, _∙_}
 use mathlib.Core.Bool.{true, false, not, false≢true}
-use mathlib.Core.List.{List, [], List·Memᴰ}
-use lib.ListN.{length, take, drop, length-drop}
-use lib.Seq.{length-take-le}
+use mathlib.Core.List.{List, List·Memᴰ}
+use lib.ListN.{length, take, drop}
 use lib.Dec.{eqb}
 use borrow.Author.Tests.{not-true, not-false, eqb-false}
 use Rattle.laws.specs.Lists.{at}
 use Rattle.laws.proofs.Loops.{choice-keeps}
-use Rattle.laws.proofs.Lists.{part-same, word-in}
+use Rattle.laws.proofs.Lists.{part-same, word-in, part-length}
 use Rattle.laws.proofs.Facts.{all-at}
 use Rattle.rules.specs.Memory.{Store}
-use Rattle.rules.specs.Words.{number, inHeap, inConst, wordOf, headOf, isRecord, valueAt, look}
+use Rattle.rules.specs.Words.{inHeap, inConst, wordOf, headOf, isRecord}
 use Rattle.rules.specs.Refusals.{refused}
 use Rattle.rules.specs.Calls.{lookIn, headerIn, fieldsIn, isNumber, Walked, ends, walkSays, walk, pointsInto, letGo, popOn, popTop, pop}
 use Rattle.rules.specs.Seen.{homeIn, seen, path, readAt}
 use Rattle.facts.proofs.Steps.{Stands, Steps, steps-le}
 use Rattle.facts.proofs.Laid.{Body, chain-body}
-use Rattle.facts.proofs.Framed.{below-end, value-kept}
-use Rattle.facts.proofs.Goods.{page-ends, const-in}
-use Rattle.facts.proofs.Looked.{pointer-is, words-of, look-at, home-at}
-use Rattle.facts.proofs.Alike.{Alike, Same, AlikeWalks, both-end, both-stop, paths, readings}
-use Rattle.facts.proofs.Observing.{walk-is, read-is}
+use Rattle.facts.proofs.Framed.{value-kept, below-fin}
+use Rattle.facts.proofs.Goods.{page-ends, const-seen, const-home}
+use Rattle.facts.proofs.Looked.{pointer-is, look-at, home-at, seen-plain, words-head}
+use Rattle.facts.proofs.Alike.{Alike, Same, AlikeWalks, both-end, both-stop, paths}
+use Rattle.facts.proofs.Observing.{walk-is, reads-alike}
 use Rattle.facts.proofs.Passing.{meaning, pages-are}
-use Rattle.facts.proofs.Sound.{InHeap, InConst, Good, a-number, to-heap, to-const, GoodConst, number-there, const-there, Sound, Passes}
+use Rattle.facts.proofs.Sound.{InHeap, InConst, Good, a-number, to-heap, to-const, GoodConst, number-there, const-there, Sound, Passes, good-page}
 use Rattle.rules.specs.Left.{leftPlain}
-use Rattle.promises.proofs.KeepsGood.{audited-keeps, good-page}
+use Rattle.promises.proofs.KeepsGood.{audited-keeps}
 use Rattle.promises.proofs.KeepsPop as Pop
 
 -- ---- values that stay
@@ -59,6 +57,16 @@ module _ (s : Store) (S : Sound s) (j : ℕ) (top : s .ctl .regions ≡ suc j) (
   stays : (v : ℕ) → Good n R (s .heap) (s .consts) v → pointsInto n (s .heap) j v ≡ false → Stays v v
   stays v g o = record { same = refl; good = g; out = o }
 
+  -- the fields of a value that is seen as before, wherever it stands
+  module _ (v a l : ℕ) (ws : List ℕ) (inside : a + suc l ≤ length ws) (is : lookIn s v ≡ take (suc l) (drop a ws)) (same : lookIn s v ≡ lookIn s′ v)
+      (good : isRecord (at ws a) ≡ true → (f : ℕ) → f < l → Good n R (s .heap) (s .consts) (at ws (a + suc f)) × (pointsInto n (s .heap) j (at ws (a + suc f)) ≡ false)) where
+    fields-stay : isRecord (headerIn (lookIn s v)) ≡ true → (f : ℕ) → f < fieldsIn (lookIn s v) → Stays (at (lookIn s v) (suc f)) (at (lookIn s′ v) (suc f))
+    fields-stay rec f b =
+        let z = ap length is ∙ part-length ws a (suc l) inside in
+        let w : at (lookIn s v) (suc f) ≡ at ws (a + suc f) = ap (λ x. at x (suc f)) is ∙ word-in ws a (suc l) (suc f) (omega arith) in
+        let g = good (ap isRecord (sym (ap headerIn is ∙ words-head ws a l)) ∙ rec) f (omega arith) in
+        record { same = ap (λ x. at x (suc f)) same; good = rw w (g .0); out = rw w (g .1) }
+
   -- ---- a value of another region
 
   module _ (v a : ℕ) (e : wordOf v ≡ inHeap a) (p : InHeap n R (s .heap) a) (o : pointsInto n (s .heap) j v ≡ false) where
@@ -75,7 +83,7 @@ module _ (s : Store) (S : Sound s) (j : ℕ) (top : s .ctl .regions ≡ suc j) (
     body = chain-body (S .laid) (p .region) k (p .known) mem
 
     ends-in : a + suc (p .len) ≤ S .fin k
-    ends-in = below-end (s .heap) (k * 2 ^ n + 2 ^ n) (k * 2 ^ n + 2) (S .fin k) (body .filled) (body .rest) (p .steps) (p .stands)
+    ends-in = below-fin (S .laid) (p .region) k (S .laid .mine-own (p .region) k (p .known) mem) (p .steps) (p .stands)
 
     inside : k * 2 ^ n + 2 ^ n ≤ length (s .heap)
     inside = page-ends n (s .heap) (S .within .paged) k (p .there)
@@ -127,52 +135,22 @@ module _ (s : Store) (S : Sound s) (j : ℕ) (top : s .ctl .regions ≡ suc j) (
         ∙ sym (home-at s′ k a (p .len) (omega arith) inside-after (there-after .0) (there-after .1) (p .region) low whose-after)
         ∙ ap (homeIn s′) (sym v-is)
 
-    size-is : length (lookIn s v) ≡ suc (p .len)
-    size-is =
-        let d = length-drop a (s .heap) in
-        let i = inside in
-        let e = p .stands .ends in
-        ap length seen-before ∙ length-take-le (suc (p .len)) (drop a (s .heap)) (omega arith)
-
-    word-is : (i : ℕ) → i < suc (p .len) → at (lookIn s v) i ≡ at (s .heap) (a + i)
-    word-is i b = ap (λ x. at x i) seen-before ∙ word-in (s .heap) a (suc (p .len)) i b
-
     -- its fields stay too
     pub field-stays : isRecord (headerIn (lookIn s v)) ≡ true → (f : ℕ) → f < fieldsIn (lookIn s v) → Stays (at (lookIn s v) (suc f)) (at (lookIn s′ v) (suc f))
-    field-stays rec f b =
-        let z = size-is in
-        let q : f < p .len = omega arith in
-        let r : isRecord (at (s .heap) a) ≡ true = ap isRecord (ap (at (s .heap)) (sym (add-zero a)) ∙ sym (word-is 0 (omega arith))) ∙ rec in
-        let w : at (lookIn s v) (suc f) ≡ at (s .heap) (a + suc f) = word-is (suc f) (omega arith) in
-        record {
-          same = ap (λ x. at x (suc f)) value-same;
-          good = rw w (S .fields (p .region) k a (p .len) f (p .known) mem (p .steps) (p .stands) r q);
-          out = rw w (Pop.field-out s S j top free (p .region) k a (p .len) f low mem (p .steps) (p .stands) r q);
-        }
+    field-stays =
+        let i = inside in
+        let e = p .stands .ends in
+        fields-stay v a (p .len) (s .heap) (omega arith) seen-before value-same
+        (λ r f q. (
+          S .fields (p .region) k a (p .len) f (p .known) mem (p .steps) (p .stands) r q,
+          Pop.field-out s S j top free (p .region) k a (p .len) f low mem (p .steps) (p .stands) r q,
+        ))
 
   -- ---- a constant
 
   module _ (v a : ℕ) (e : wordOf v ≡ inConst a) (p : InConst (s .consts) a) where
     const-same : lookIn s v ≡ lookIn s′ v
-    unfolding look
-    const-same = rw (look, e)
-
-    const-seen : lookIn s v ≡ take (suc (p .len)) (drop a (s .consts))
-    unfolding look valueAt
-    const-seen = rw (e, look, const-in (s .consts) a p, words-of (headOf (at (s .consts) a)) (p .len) (p .stands .head))
-
-    const-home : homeIn s v ≡ homeIn s′ v
-    unfolding homeIn
-    const-home = rw (homeIn, e)
-
-    const-size : length (lookIn s v) ≡ suc (p .len)
-    const-size =
-        let d = length-drop a (s .consts) in
-        let q = p .stands .ends in
-        ap length const-seen ∙ length-take-le (suc (p .len)) (drop a (s .consts)) (omega arith)
-
-    const-word : (i : ℕ) → i < suc (p .len) → at (lookIn s v) i ≡ at (s .consts) (a + i)
-    const-word i b = ap (λ x. at x i) const-seen ∙ word-in (s .consts) a (suc (p .len)) i b
+    const-same = const-seen s v a e p ∙ sym (const-seen s′ v a e p)
 
     const-stays : (w : ℕ) → GoodConst (s .consts) w → Good n R (s .heap) (s .consts) w × (pointsInto n (s .heap) j w ≡ false)
     unfolding pointsInto
@@ -180,23 +158,11 @@ module _ (s : Store) (S : Sound s) (j : ℕ) (top : s .ctl .regions ≡ suc j) (
     const-stays w (const-there b q g) = (to-const b q g, rw (pointsInto, q))
 
     const-field : isRecord (headerIn (lookIn s v)) ≡ true → (f : ℕ) → f < fieldsIn (lookIn s v) → Stays (at (lookIn s v) (suc f)) (at (lookIn s′ v) (suc f))
-    const-field rec f b =
-        let z = const-size in
-        let q : f < p .len = omega arith in
-        let r : isRecord (at (s .consts) a) ≡ true = ap isRecord (ap (at (s .consts)) (sym (add-zero a)) ∙ sym (const-word 0 (omega arith))) ∙ rec in
-        let w : at (lookIn s v) (suc f) ≡ at (s .consts) (a + suc f) = const-word (suc f) (omega arith) in
-        let g = const-stays (at (s .consts) (a + suc f)) (S .consts .fields a (p .len) f (p .steps) (p .stands) r q) in
-        record { same = ap (λ x. at x (suc f)) const-same; good = rw w (g .0); out = rw w (g .1) }
+    const-field =
+        fields-stay v a (p .len) (s .consts) (p .stands .ends) (const-seen s v a e p) const-same
+        (λ r f q. const-stays (at (s .consts) (a + suc f)) (S .consts .fields a (p .len) f (p .steps) (p .stands) r q))
 
   -- ---- the two views
-
-  number-none : (v : ℕ) → wordOf v ≡ number → (t : Store) → lookIn t v ≡ []
-  unfolding look
-  number-none v e t = rw (look, e)
-
-  number-home : (v : ℕ) → wordOf v ≡ number → (t : Store) → homeIn t v ≡ 0
-  unfolding homeIn
-  number-home v e t = rw (homeIn, e)
 
   zero-record : isRecord 0 ≡ false
   unfolding isRecord headOf
@@ -206,12 +172,12 @@ module _ (s : Store) (S : Sound s) (j : ℕ) (top : s .ctl .regions ≡ suc j) (
       → (lookIn s v ≡ lookIn s′ v) × (homeIn s v ≡ homeIn s′ v)
       × (isRecord (headerIn (lookIn s v)) ≡ true → (f : ℕ) → f < fieldsIn (lookIn s v) → Stays (at (lookIn s v) (suc f)) (at (lookIn s′ v) (suc f)))
   view-same v (a-number e) o = (
-    number-none v e s ∙ sym (number-none v e s′),
-    number-home v e s ∙ sym (number-home v e s′),
-    λ r. let q : isRecord 0 ≡ true = ap (λ x. isRecord (headerIn x)) (sym (number-none v e s)) ∙ r in absurd (false≢true (sym zero-record ∙ q)),
+    seen-plain s .no-value v (ap isNumber e) ∙ sym (seen-plain s′ .no-value v (ap isNumber e)),
+    seen-plain s .no-home v (ap isNumber e) ∙ sym (seen-plain s′ .no-home v (ap isNumber e)),
+    λ r. let q : isRecord 0 ≡ true = ap (λ x. isRecord (headerIn x)) (sym (seen-plain s .no-value v (ap isNumber e))) ∙ r in absurd (false≢true (sym zero-record ∙ q)),
   )
   view-same v (to-heap a e p) o = (value-same v a e p o, home-same v a e p o, field-stays v a e p o)
-  view-same v (to-const a e p) o = (const-same v a e p, const-home v a e p, const-field v a e p)
+  view-same v (to-const a e p) o = (const-same v a e p, const-home s v a e ∙ sym (const-home s′ v a e), const-field v a e p)
 
   alike : (v : ℕ) → Good n R (s .heap) (s .consts) v → pointsInto n (s .heap) j v ≡ false → Alike Stays (lookIn s v) (lookIn s′ v)
   alike v g o =
@@ -241,10 +207,7 @@ module _ (s : Store) (S : Sound s) (j : ℕ) (top : s .ctl .regions ≡ suc j) (
   paths-same i fs = ended (paths (seen s) (seen s′) Stays same-views (s .roots) (s .roots) refl roots-stay i fs)
 
   pub reads-same : (i : ℕ) (fs : List ℕ) → readAt s (walk s i fs) ≡ readAt s′ (walk s′ i fs)
-  reads-same i fs =
-      read-is s (meaning s .1 S) i fs
-      ∙ readings (seen s) (seen s′) Stays same-views (s .roots) (s .roots) refl roots-stay i fs
-      ∙ sym (read-is s′ (meaning s′ .1 S′) i fs)
+  reads-same i fs = reads-alike s s′ (meaning s .1 S) (meaning s′ .1 S′) Stays same-views refl roots-stay i fs
 
 -- ---- the call
 

@@ -20,7 +20,8 @@ use Rattle.rules.specs.Pages.{begun}
 use Rattle.rules.specs.Refusals.{Paged}
 use Rattle.rules.specs.Calls.{freshPages}
 use Rattle.rules.proofs.Limits.{page-size, whole-pages}
-use Rattle.facts.proofs.Laid.{Owner, spare, beyond, mine, Clean, Layout}
+use Rattle.rules.proofs.Fresh.{page-length}
+use Rattle.facts.proofs.Laid.{spare≢mine, spare≢beyond, mine≢beyond, Owner, spare, beyond, mine, Clean, Layout}
 use Rattle.facts.proofs.Means.{within-of}
 use Rattle.facts.proofs.Sound.{Within, Good, a-number, Constants, in-free, Sound}
 
@@ -31,9 +32,6 @@ abbrev onePage : ℕ → ℕ → List ℕ
 onePage n l = l ∷ replicate (2 ^ n - 1) 0
 
 module _ (n : ℕ) (big : 1 ≤ 2 ^ n) where
-  page-length : (l : ℕ) → length (onePage n l) ≡ 2 ^ n
-  page-length l = let e = length-replicate {A = ℕ} (2 ^ n - 1) 0 in omega arith
-
   page-zero : (l x : ℕ) → 0 < x → x < 2 ^ n → at (onePage n l) x ≡ 0
   page-zero l zero a b = absurd (omega arith)
   page-zero l (suc x) a b = getD-replicate (2 ^ n - 1) x 0 0 (omega arith)
@@ -42,17 +40,22 @@ module _ (n : ℕ) (big : 1 ≤ 2 ^ n) where
   pub fresh-length : (m k : ℕ) → length (freshPages n m k) ≡ m * 2 ^ n
   unfolding freshPages
   fresh-length zero k = rw zero-mul
-  fresh-length (suc zero) k = let a = page-length 0 in omega arith
+  fresh-length (suc zero) k = let a = page-length n 0 in omega arith
   fresh-length (suc (suc m)) k =
       length-append (onePage n (suc (suc k))) (freshPages n (suc m) (suc k))
-      ∙ (let a = page-length (suc (suc k)) in let b = fresh-length (suc m) (suc k) in omega arith)
+      ∙ (let a = page-length n (suc (suc k)) in let b = fresh-length (suc m) (suc k) in omega arith)
 
   -- a word of the first page, and of the pages behind it
   first-word : (l x : ℕ) (rest : List ℕ) → x < 2 ^ n → at (onePage n l ++ rest) x ≡ at (onePage n l) x
-  first-word l x rest b = List·getD-append (onePage n l) rest 0 x (let a = page-length l in omega arith)
+  first-word l x rest b = List·getD-append (onePage n l) rest 0 x (let a = page-length n l in omega arith)
 
   later-word : (l y : ℕ) (rest : List ℕ) → at (onePage n l ++ rest) (2 ^ n + y) ≡ at rest y
-  later-word l y rest = ap (λ p. at (onePage n l ++ rest) (p + y)) (sym (page-length l)) ∙ getD-append-add (onePage n l) rest y 0
+  later-word l y rest = ap (λ p. at (onePage n l ++ rest) (p + y)) (sym (page-length n l)) ∙ getD-append-add (onePage n l) rest y 0
+
+  -- a word of the pages behind the first
+  later-page : (m k y z : ℕ) → y ≡ 2 ^ n + z → at (freshPages n (suc (suc m)) k) y ≡ at (freshPages n (suc m) (suc k)) z
+  unfolding freshPages
+  later-page m k y z q = ap (at (onePage n (suc (suc k)) ++ freshPages n (suc m) (suc k))) q ∙ later-word (suc (suc k)) z (freshPages n (suc m) (suc k))
 
   pub fresh-zero : (m k i x : ℕ) → i < m → 0 < x → x < 2 ^ n → at (freshPages n m k) (i * 2 ^ n + x) ≡ 0
   unfolding freshPages
@@ -63,9 +66,7 @@ module _ (n : ℕ) (big : 1 ≤ 2 ^ n) where
       let q : 0 * 2 ^ n + x ≡ x = omega arith in
       ap (at (onePage n (suc (suc k)) ++ freshPages n (suc m) (suc k))) q ∙ first-word (suc (suc k)) x (freshPages n (suc m) (suc k)) hi ∙ page-zero (suc (suc k)) x lo hi
   fresh-zero (suc (suc m)) k (suc i) x b lo hi =
-      let q : suc i * 2 ^ n + x ≡ 2 ^ n + (i * 2 ^ n + x) = omega arith in
-      ap (at (onePage n (suc (suc k)) ++ freshPages n (suc m) (suc k))) q ∙ later-word (suc (suc k)) (i * 2 ^ n + x) (freshPages n (suc m) (suc k))
-      ∙ fresh-zero (suc m) (suc k) i x (omega arith) lo hi
+      later-page m k (suc i * 2 ^ n + x) (i * 2 ^ n + x) (omega arith) ∙ fresh-zero (suc m) (suc k) i x (omega arith) lo hi
 
   -- each page is linked to the next, the last to none
   pub fresh-next : (m k i : ℕ) → suc i < m → at (freshPages n m k) (i * 2 ^ n) ≡ suc (suc (k + i))
@@ -76,10 +77,8 @@ module _ (n : ℕ) (big : 1 ≤ 2 ^ n) where
       let q : 0 * 2 ^ n ≡ 0 = omega arith in
       ap (at (onePage n (suc (suc k)) ++ freshPages n (suc m) (suc k))) q ∙ ap (λ y. suc (suc y)) (sym (add-zero k))
   fresh-next (suc (suc m)) k (suc i) b =
-      let q : suc i * 2 ^ n ≡ 2 ^ n + i * 2 ^ n = omega arith in
       let e : suc (suc (suc k + i)) ≡ suc (suc (k + suc i)) = omega arith in
-      ap (at (onePage n (suc (suc k)) ++ freshPages n (suc m) (suc k))) q ∙ later-word (suc (suc k)) (i * 2 ^ n) (freshPages n (suc m) (suc k))
-      ∙ fresh-next (suc m) (suc k) i (omega arith) ∙ e
+      later-page m k (suc i * 2 ^ n) (i * 2 ^ n) (omega arith) ∙ fresh-next (suc m) (suc k) i (omega arith) ∙ e
 
   pub fresh-last : (m k i : ℕ) → suc i ≡ m → at (freshPages n m k) (i * 2 ^ n) ≡ 0
   unfolding freshPages
@@ -87,9 +86,7 @@ module _ (n : ℕ) (big : 1 ≤ 2 ^ n) where
   fresh-last (suc zero) k i e = let q : i * 2 ^ n ≡ 0 = (let z : i ≡ 0 = omega arith in rw (z, zero-mul)) in ap (at (onePage n 0)) q
   fresh-last (suc (suc m)) k zero e = absurd (omega arith)
   fresh-last (suc (suc m)) k (suc i) e =
-      let q : suc i * 2 ^ n ≡ 2 ^ n + i * 2 ^ n = omega arith in
-      ap (at (onePage n (suc (suc k)) ++ freshPages n (suc m) (suc k))) q ∙ later-word (suc (suc k)) (i * 2 ^ n) (freshPages n (suc m) (suc k))
-      ∙ fresh-last (suc m) (suc k) i (omega arith)
+      later-page m k (suc i * 2 ^ n) (i * 2 ^ n) (omega arith) ∙ fresh-last (suc m) (suc k) i (omega arith)
 
 -- ---- the last of the numbers from k on, as a link
 
@@ -160,8 +157,8 @@ module _ (n : ℕ) (s : Store) (fits : limits n (length (s .heap)) (length (s .t
   never {A} k j e = go (ltb k N) refl
     where
       go : (b : Bool) → ltb k N ≡ b → A
-      go true q = let e′ : spare ≡ mine j = rw (own, q) at e in let z : _≡_ {A = ℕ} 0 1 = cc in absurd (omega arith)
-      go false q = let e′ : beyond ≡ mine j = rw (own, q) at e in let z : _≡_ {A = ℕ} 0 1 = cc in absurd (omega arith)
+      go true q = spare≢mine refl (rw (own, q) at e)
+      go false q = mine≢beyond (rw (own, q) at e) refl
 
   free : List ℕ
   free = counting N 0
@@ -210,7 +207,7 @@ module _ (n : ℕ) (s : Store) (fits : limits n (length (s .heap)) (length (s .t
         free-links = linked;
         free-last = last-is;
         free-count = sym (counting-length N 0);
-        free-clean = λ k o. cleans k (there k (λ q. let z : spare ≡ beyond = sym o ∙ q in let w : _≡_ {A = ℕ} 0 1 = cc in omega arith));
+        free-clean = λ k o. cleans k (there k (spare≢beyond o));
         mine-own = λ j k b m. absurd (omega arith);
         mine-once = λ j b. absurd (omega arith);
         mine-links = λ j b. absurd (omega arith);

@@ -2,7 +2,7 @@
 use Prim.Native.Nat.{ℕ, _+_, _-_, _*_, _/_, _%_, _^_, _≤_, _<_}
 use native.Mathlib.Omega.{arith}
 use mathlib.Core.Path.{_≡_, refl}
-use mathlib.Core.Bool.{Bool, true, false}
+use mathlib.Core.Bool.{Bool, true, false, false≢true}
 use lib.IntN.{ℤ, pos, negsuc}
 use lib.Dec.{ltb, eqb}
 use borrow.Author.Tests.{lt-ltb, le-ltb, ltb-true, ltb-false, ne-eqb, eqb-false}
@@ -38,7 +38,7 @@ number-back (pos i) w e = go (ltb i (2 ^ 30)) refl
         let e′ : Worded.Done (2 * i + 1) ≡ Worded.Done w = rw q at e in
         let x : 2 * i + 1 ≡ w = cc in
         rw (← x) (low-word i (ltb-true i (2 ^ 30) q))
-    go false q = let e′ : Worded.Refused Refusal.NoNumber ≡ Worded.Done w = rw q at e in let z : _≡_ {A = ℕ} 0 1 = cc in absurd (omega arith)
+    go false q = let e′ : Worded.Refused Refusal.NoNumber ≡ Worded.Done w = rw q at e in absurd (false≢true cc)
 number-back (negsuc i) w e = go (ltb i (2 ^ 30)) refl
   where
     go : (b : Bool) → ltb i (2 ^ 30) ≡ b → numberOfWord w ≡ Numbered.Done (negsuc i)
@@ -46,7 +46,7 @@ number-back (negsuc i) w e = go (ltb i (2 ^ 30)) refl
         let e′ : Worded.Done (2 ^ 32 - (2 * i + 1)) ≡ Worded.Done w = rw q at e in
         let x : 2 ^ 32 - (2 * i + 1) ≡ w = cc in
         rw (← x) (high-word i (ltb-true i (2 ^ 30) q))
-    go false q = let e′ : Worded.Refused Refusal.NoNumber ≡ Worded.Done w = rw q at e in let z : _≡_ {A = ℕ} 0 1 = cc in absurd (omega arith)
+    go false q = let e′ : Worded.Refused Refusal.NoNumber ≡ Worded.Done w = rw q at e in absurd (false≢true cc)
 
 -- the word of a number that halving gives
 low-back : (w : ℕ) → (w % 2 ≡ 0 → ⊥) → w < 2 ^ 31 → wordOfNumber (pos (w / 2)) ≡ Worded.Done w
@@ -64,7 +64,7 @@ unfolding numberOfWord
 word-back w i c e = go (eqb (w % 2) 0) refl (ltb w (2 ^ 31)) refl
   where
     go : (x : Bool) → eqb (w % 2) 0 ≡ x → (y : Bool) → ltb w (2 ^ 31) ≡ y → wordOfNumber i ≡ Worded.Done w
-    go true p y q = let e′ : Numbered.Refused Refusal.NoNumber ≡ Numbered.Done i = rw p at e in let z : _≡_ {A = ℕ} 0 1 = cc in absurd (omega arith)
+    go true p y q = let e′ : Numbered.Refused Refusal.NoNumber ≡ Numbered.Done i = rw p at e in absurd (false≢true cc)
     go false p true q =
         let e′ : Numbered.Done (pos (w / 2)) ≡ Numbered.Done i = rw (p, q) at e in
         let x : pos (w / 2) ≡ i = cc in

@@ -4,8 +4,8 @@ use Prim.Native.Nat.{ℕ, zero, suc}
 use native.Mathlib.Omega.{arith}
 use mathlib.Core.Path.{_≡_, refl, sym, ap, _∙_}
 use mathlib.Core.Logic.{_↔_}
-use mathlib.Core.Bool.{Bool, true, false, not, true≢false}
-use mathlib.Core.Option.{Option, none, some}
+use mathlib.Core.Bool.{Bool, true, false, not, true≢false, false≢true}
+use mathlib.Core.Option.{none, some, Option·none-ne-some}
 use mathlib.Core.List.{List, [], _∷_, List·Memᴰ, List·Memᴰ·head, List·Memᴰ·tail}
 use lib.Dec.{eqb}
 use borrow.Author.Tests.{not-false, ne-eqb}
@@ -23,7 +23,7 @@ unfolding firstRefusal
 first-is ts r = (there ts, back)
   where
     there : (ts : List Test) → firstRefusal ts ≡ some r → First ts r
-    there [] e = let z : _≡_ {A = ℕ} 0 1 = cc in absurd (omega arith)
+    there [] e = absurd (false≢true cc)
     there (t ∷ ts) e = go (t .holds) refl (λ q. there ts q)
       where
         go : (b : Bool) → t .holds ≡ b → (firstRefusal ts ≡ some r → First ts r) → First (t ∷ ts) r
@@ -54,7 +54,7 @@ module _ {O : Type 0} (way : Refusing O) where
   pub is-done : (o : O) → way .why o ≡ none → Lawful way [] o
   unfolding firstRefusal
   is-done o e =
-      record { refuses = e; leaves = λ r q. let z : _≡_ {A = Option Refusal} none (some r) = sym e ∙ q in let w : _≡_ {A = ℕ} 0 1 = cc in absurd (omega arith) }
+      record { refuses = e; leaves = λ r q. absurd (Option·none-ne-some r (sym e ∙ q)) }
 
   -- one test more
   pub tested : (b : Bool) (r : Refusal) (ts : List Test) (rest : O) → (b ≡ false → Lawful way ts rest) → Lawful way (test b r ∷ ts) (b ⇒ way .refuse r ∣ rest)

@@ -4,7 +4,7 @@ use Prim.Native.Nat.{ℕ, zero, suc, _+_, _-_, _*_, _/_, _%_, _^_}
 use native.Mathlib.Omega.{arith}
 use mathlib.Core.Path.{_≡_, refl, sym, ap, _∙_}
 use mathlib.Core.Logic.{_⊎_, inl, inr}
-use mathlib.Core.Bool.{Bool, true, false, _&&_, _||_, not}
+use mathlib.Core.Bool.{Bool, true, false, _&&_, _||_, not, false≢true}
 use mathlib.Core.Option.{Option, none, some}
 use mathlib.Core.List.{List, [], _∷_}
 use lib.ListN.{length}
@@ -35,6 +35,7 @@ use Rattle.facts.proofs.Sound.{Sound}
 use Rattle.working.proofs.Running.{Refusing as LacksPage}
 use Rattle.working.proofs.Collecting.{collects}
 use Rattle.promises.proofs.Ordered.{Lawful, is-done, tested, stopped, passed, after-admission, after-audit}
+use Rattle.rules.proofs.Pointers.{pointer-is}
 
 abbrev plain : Outcome Plain → Option Refusal
 plain o = whyPlain (o .answer)
@@ -134,6 +135,10 @@ fetch-lawful s w =
     after-admission (toPlain (s .ctl)) s _ _
     (λ l c. tested (toPlain (s .ctl)) _ Refusal.NotGood [] _ (λ e. is-done (toPlain (s .ctl)) _ refl))
 
+-- no refusal is a success
+refused≢done : {A : Type 0} {r : Refusal} {c d : Control} → Plain.Refused r c ≡ Plain.Done d → A
+refused≢done e = absurd (false≢true cc)
+
 -- the part that a fetch hands back is empty exactly when the call of its own refuses
 pub fetch-empty : (s : Store) (w : ℕ) (r : Refusal) → fetchRefusal s w ≡ Plain.Refused r (s .ctl) → fetch s w ≡ []
 unfolding fetch fetchRefusal
@@ -143,33 +148,23 @@ fetch-empty s w r e = go (withinLimits s) refl (commonTest s) refl (lookIn s w) 
     go false p b q v x = rw p
     go true p false q v x = rw (p, q)
     go true p true q [] x = rw (p, q, x)
-    go true p true q (h ∷ ws) x = let z : Plain.Done (s .ctl) ≡ Plain.Refused r (s .ctl) = rw (p, q, x) at e in let w : _≡_ {A = ℕ} 0 1 = cc in absurd (omega arith)
+    go true p true q (h ∷ ws) x = refused≢done (sym (rw (p, q, x) at e))
 
 -- and there is a value in it where it does not
 pub fetch-there : (s : Store) (w : ℕ) → fetchRefusal s w ≡ Plain.Done (s .ctl) → isThere (fetch s w) ≡ true
 unfolding fetch fetchRefusal
 fetch-there s w e = go (withinLimits s) refl (commonTest s) refl (lookIn s w) refl
   where
-    no-way : {A : Type 0} {r : Refusal} → Plain.Refused r (s .ctl) ≡ Plain.Done (s .ctl) → A
-    no-way z = let q : _≡_ {A = ℕ} 0 1 = cc in absurd (omega arith)
-
     go : (a : Bool) → withinLimits s ≡ a → (b : Bool) → commonTest s ≡ b → (v : List ℕ) → lookIn s w ≡ v → isThere (fetch s w) ≡ true
-    go false p b q v x = no-way (rw p at e)
-    go true p false q v x = no-way (rw (p, q) at e)
-    go true p true q [] x = no-way (rw (p, q, x) at e)
+    go false p b q v x = refused≢done (rw p at e)
+    go true p false q v x = refused≢done (rw (p, q) at e)
+    go true p true q [] x = refused≢done (rw (p, q, x) at e)
     go true p true q (h ∷ ws) x = rw (p, q, x)
 
 -- ---- assigning a field
 
 heap-address : (w a : ℕ) → wordOf w ≡ inHeap a → a ≡ pointerAddress w
-unfolding wordOf
-heap-address w a e = go (w % 4) refl
-  where
-    go : (x : ℕ) → w % 4 ≡ x → a ≡ pointerAddress w
-    go zero q = let e′ : inHeap (w / 4) ≡ inHeap a = rw q at e in cc
-    go (suc zero) q = let e′ : number ≡ inHeap a = rw q at e in cc
-    go (suc (suc zero)) q = let e′ : inConst (w / 4) ≡ inHeap a = rw q at e in cc
-    go (suc (suc (suc x))) q = let e′ : number ≡ inHeap a = rw q at e in cc
+heap-address w a e = let p = pointer-is w a e in omega arith
 
 pub assign-lawful : (s : Store) (w i x : ℕ) → Lawful (onPlain s) (assignTests s w i x) (assign s w i x)
 unfolding assign assignBy assignAt goodIn
@@ -302,20 +297,17 @@ page-empty s k r e = go (withinLimits s) refl (commonTest s) refl (leb (pageCoun
     go false p b q v x = rw p
     go true p false q v x = rw (p, q)
     go true p true q true x = rw (p, q, x)
-    go true p true q false x = let z : Plain.Done (s .ctl) ≡ Plain.Refused r (s .ctl) = rw (p, q, x) at e in let w : _≡_ {A = ℕ} 0 1 = cc in absurd (omega arith)
+    go true p true q false x = refused≢done (sym (rw (p, q, x) at e))
 
 pub page-there : (s : Store) (k : ℕ) → pageRefusal s k ≡ Plain.Done (s .ctl) → pageByNumber s k ≡ pageWords (s .ctl .n) (s .heap) k
 unfolding pageByNumber pageRefusal
 page-there s k e = go (withinLimits s) refl (commonTest s) refl (leb (pageCount (s .ctl .n) (s .heap)) k) refl
   where
-    no-way : {A : Type 0} {r : Refusal} → Plain.Refused r (s .ctl) ≡ Plain.Done (s .ctl) → A
-    no-way z = let q : _≡_ {A = ℕ} 0 1 = cc in absurd (omega arith)
-
     go : (a : Bool) → withinLimits s ≡ a → (b : Bool) → commonTest s ≡ b → (v : Bool) → leb (pageCount (s .ctl .n) (s .heap)) k ≡ v
         → pageByNumber s k ≡ pageWords (s .ctl .n) (s .heap) k
-    go false p b q v x = no-way (rw p at e)
-    go true p false q v x = no-way (rw (p, q) at e)
-    go true p true q true x = no-way (rw (p, q, x) at e)
+    go false p b q v x = refused≢done (rw p at e)
+    go true p false q v x = refused≢done (rw (p, q) at e)
+    go true p true q true x = refused≢done (rw (p, q, x) at e)
     go true p true q false x = rw (p, q, x)
 
 -- the collection: on a heap that passes its fuel does not run out
@@ -334,12 +326,10 @@ collect-lawful s =
     never : {A : Type 0} {S : Sound s} → Ends S → collected s ≡ refused s (Refusal.Broken 0) → A
     never (inl u) e =
         let q : plain (refused s Refusal.NoPage) ≡ plain (refused s (Refusal.Broken 0)) = ap plain (sym (u .0) ∙ e) in
-        let z : _≡_ {A = ℕ} 0 1 = cc in
-        absurd (omega arith)
+        absurd (false≢true cc)
     never (inr u) e =
         let q : plain (leaving (u .0)) ≡ plain (refused s (Refusal.Broken 0)) = ap plain (sym (u .1) ∙ e) in
-        let z : _≡_ {A = ℕ} 0 1 = cc in
-        absurd (omega arith)
+        absurd (false≢true cc)
 
     worked : {S : Sound s} → Ends S → (r : Run) → freshen (s .ctl .n) (s .ctl .regions) 0 (begun s) ≡ some r → (p : List ℕ × Run) → evacuateAll (s .ctl .n) (s .roots) r ≡ some p
         → (e : Ended) → workStack (s .ctl .n) (p .1) ≡ e → Lawful (onPlain s) (test (lacks s) Refusal.NoPage ∷ []) (collected s)

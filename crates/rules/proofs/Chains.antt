@@ -2,16 +2,15 @@
 use Prim.Native.Nat.{ℕ, zero, suc, _+_, _-_, _*_, _/_, _^_, _≤_, _<_}
 use mathlib.Core.Path.{_≡_, refl, sym, ap, _∙_}
 use mathlib.Core.List.{List, [], _∷_}
-use mathlib.Core.Logic.{_≢_}
 use native.Mathlib.Omega.{arith}
 use native.Mathlib.Numerals.{sub-one}
 use borrow.Author.Tests.{lt-ltb, le-ltb}
 use lib.Arith.{digits-div}
-use lib.ListN.{length, take, drop, getD, length-drop}
-use lib.Seq.{slice, drop-drop, length-take-le, getD-take, getD-drop, ext-getD}
-use Rattle.laws.specs.Lists.{at, put}
-use Rattle.laws.proofs.Lists.{drop-take, put-elsewhere, length-put}
-use Rattle.rules.specs.Memory.{pageWords, link, chain, chainEnd}
+use lib.ListN.{length, take, drop, getD}
+use lib.Seq.{slice, drop-drop}
+use Rattle.laws.specs.Lists.{at}
+use Rattle.laws.proofs.Lists.{drop-take, part-length, word-in}
+use Rattle.rules.specs.Memory.{pageWords, link, chain, chainEnd, pageCount}
 use Rattle.rules.specs.Words.{vals, valsIn, pageVals}
 
 -- ---- pages as parts of the heap
@@ -22,27 +21,11 @@ page-of n k x p q = let e : x ≡ k * 2 ^ n + (x - k * 2 ^ n) = omega arith in a
 
 pub length-page : (n : ℕ) (h : List ℕ) (k : ℕ) → k * 2 ^ n + 2 ^ n ≤ length h → length (pageWords n h k) ≡ 2 ^ n
 unfolding pageWords
-length-page n h k inside = length-take-le (2 ^ n) (drop (k * 2 ^ n) h) (simp length-drop (omega arith))
+length-page n h k inside = part-length h (k * 2 ^ n) (2 ^ n) inside
 
 pub at-page : (n : ℕ) (h : List ℕ) (k i : ℕ) → i < 2 ^ n → at (pageWords n h k) i ≡ at h (k * 2 ^ n + i)
 unfolding pageWords
-at-page n h k i b = getD-take (2 ^ n) (drop (k * 2 ^ n) h) i 0 b ∙ getD-drop (k * 2 ^ n) h i 0
-
--- two heaps of one length that agree on page l have the same words there
-pub same-page : (n : ℕ) (g h : List ℕ) (l : ℕ) → l * 2 ^ n + 2 ^ n ≤ length g → length g ≡ length h
-    → ((x : ℕ) → l * 2 ^ n ≤ x → x < l * 2 ^ n + 2 ^ n → at g x ≡ at h x) → pageWords n g l ≡ pageWords n h l
-same-page n g h l inside e agree =
-    ext-getD 0 _ _ (length-page n g l inside ∙ sym (length-page n h l (omega arith)))
-    (λ i b.
-    let b′ : i < 2 ^ n = omega (arith, length-page n g l inside) in
-    at-page n g l i b′ ∙ agree (l * 2 ^ n + i) (omega arith) (omega arith) ∙ sym (at-page n h l i b′))
-
--- a run of words inside page k leaves every other page's words
-pub other-page : (n : ℕ) (h : List ℕ) (k o : ℕ) (ws : List ℕ) (l : ℕ) → k * 2 ^ n + 2 ^ n ≤ length h → o + length ws ≤ 2 ^ n → l ≢ k
-    → l * 2 ^ n + 2 ^ n ≤ length h → pageWords n (put h (k * 2 ^ n + o) ws) l ≡ pageWords n h l
-other-page n h k o ws l inside fits ne inside′ =
-    let e : length (put h (k * 2 ^ n + o) ws) ≡ length h = length-put h (k * 2 ^ n + o) ws (omega arith) in
-    same-page n _ h l (omega arith) e (λ x lo hi. put-elsewhere (2 ^ n) h k (k * 2 ^ n + o) ws l x (omega arith) (omega arith) (omega arith) ne lo hi)
+at-page n h k i b = word-in h (k * 2 ^ n) (2 ^ n) i b
 
 -- the words of a page from its word i on
 pub page-from : (i n : ℕ) (h : List ℕ) (k : ℕ) → drop i (pageWords n h k) ≡ slice (k * 2 ^ n + i) (k * 2 ^ n + 2 ^ n) h
@@ -60,11 +43,16 @@ page-vals n h k = ap (λ ws. vals (k * 2 ^ n + 2) 0 ws) (page-part n h k)
 
 -- a chain, from the link k on; a broken one ends in a page that is not there
 module _ (n : ℕ) (h : List ℕ) where
+  -- at a page
+  pub chain-here : (f k : ℕ) → k < pageCount n h → (chain (suc f) n h (suc k) ≡ k ∷ chain f n h (link n h k)) × (chainEnd (suc f) n h (suc k) ≡ chainEnd f n h (link n h k))
+  unfolding chain chainEnd
+  chain-here f k b = (rw (chain, lt-ltb k (pageCount n h) b), rw (chainEnd, lt-ltb k (pageCount n h) b))
+
   pub chain-go : (f k : ℕ) → 0 < f → (k ≡ 0 → ⊥) → k ≤ length h / 2 ^ n → chain f n h k ≡ (k - 1) ∷ chain (f - 1) n h (getD h ((k - 1) * 2 ^ n) 0)
-  unfolding chain link
+  unfolding link
   chain-go zero k l z b = absurd (omega arith)
   chain-go (suc f) zero l z b = absurd (z refl)
-  chain-go (suc f) (suc k) l z b = rw (sub-one (suc f), sub-one (suc k), chain, lt-ltb k (length h / 2 ^ n) b)
+  chain-go (suc f) (suc k) l z b = rw (sub-one (suc f), sub-one (suc k)) (chain-here f k b .0)
 
   -- the ways out: no link, no such page, no page left to pass
   pub chain-none : (f k : ℕ) → k ≡ 0 → chain f n h k ≡ []
@@ -85,10 +73,10 @@ module _ (n : ℕ) (h : List ℕ) where
 
   -- the link that it ends with
   pub end-go : (f k : ℕ) → 0 < f → (k ≡ 0 → ⊥) → k ≤ length h / 2 ^ n → chainEnd f n h k ≡ chainEnd (f - 1) n h (getD h ((k - 1) * 2 ^ n) 0)
-  unfolding chainEnd link
+  unfolding link
   end-go zero k l z b = absurd (omega arith)
   end-go (suc f) zero l z b = absurd (z refl)
-  end-go (suc f) (suc k) l z b = rw (sub-one (suc f), sub-one (suc k), chainEnd, lt-ltb k (length h / 2 ^ n) b)
+  end-go (suc f) (suc k) l z b = rw (sub-one (suc f), sub-one (suc k)) (chain-here f k b .1)
 
   pub end-none : (f k : ℕ) → k ≡ 0 → chainEnd f n h k ≡ k
   unfolding chainEnd

@@ -1,7 +1,7 @@
 -- The text of frames: lengths of what is written, its turn laws, and trimming. By recursion on the digits and on the words.
 use Prim.Native.Nat.{ℕ, zero, suc, _+_, _-_, _*_, _/_, _%_, _^_, _≤_, _<_}
 use mathlib.Core.Path.{_≡_, refl, sym, ap, _∙_}
-use mathlib.Core.Bool.{Bool, true, false, not}
+use mathlib.Core.Bool.{Bool, true, false}
 use mathlib.Core.List.{List, [], _∷_, _++_}
 use native.Mathlib.Nat.{pow-succ', sub-zero}
 use native.Mathlib.Numerals.{add-one}
@@ -10,7 +10,7 @@ use borrow.Author.Tests.{lt-ltb, le-ltb, ne-eqb, eqb-true}
 use lib.Dec.{eqb}
 use lib.ListN.{length, take, drop, getD, set, length-append, length-take, drop-of-length-le}
 use lib.Seq.{sets, take-suc, drop-cons}
-use Rattle.laws.specs.Lists.{at, padded, zeros}
+use Rattle.laws.specs.Lists.{at, padded}
 use Rattle.laws.proofs.Writes.{sets-append, sets-next, sets-front}
 use Rattle.rules.specs.declared.Refusal.{Refusal}
 use Rattle.rules.specs.declared.Valued.{Valued}

@@ -4,7 +4,7 @@ use Prim.Native.Nat.{ℕ, zero, suc, _+_, _-_, _*_, _^_, _≤_, _<_}
 use mathlib.Core.Path.{_≡_, sym, ap, _∙_}
 use mathlib.Core.List.{List, _∷_, _++_, append-assoc}
 use native.Mathlib.Omega.{arith}
-use native.Mathlib.Nat.{add-zero, zero-mul, suc-mul}
+use native.Mathlib.Nat.{add-zero, zero-mul, suc-mul, one-mul}
 use native.Mathlib.Numerals.{add-one}
 use lib.Pow.{suc-ones}
 use lib.ListN.{length, take, drop, replicate, set, length-replicate, replicate-append-replicate, take-append-drop}
@@ -21,6 +21,10 @@ pub linked-start : (n pages : ℕ) (h : List ℕ) → 0 < pages → length h ≡
 linked-start n pages h b e z =
     let q : suc (pages - 1) ≡ pages = omega arith in
     record { whole = rw (q, zero-mul); rest = rw (q, ← e, zero-mul) z; counted = omega arith }
+
+-- a page's link and its zeros
+pub page-length : (n w : ℕ) → length (w ∷ replicate (2 ^ n - 1) 0) ≡ 2 ^ n
+page-length n w = ap suc (length-replicate (2 ^ n - 1) 0) ∙ suc-ones n
 
 -- the words from a page on, with the page's link set
 one-page : (n r w : ℕ) → set (replicate (2 ^ n + r) 0) 0 w ≡ (w ∷ replicate (2 ^ n - 1) 0) ++ replicate r 0
@@ -42,7 +46,7 @@ linked-more n pages k (suc m) h a w l b qa qw =
     ∙ drop-set-add (k * p) h 0 w
     ∙ ap (λ ws. set ws 0 w) (l .rest ∙ ap (λ x. replicate x 0) (more m p))
     ∙ one-page n (suc m * p) w in
-    let size : length (w ∷ replicate (p - 1) 0) ≡ p = ap suc (length-replicate (p - 1) 0) ∙ suc-ones n in
+    let size : length (w ∷ replicate (p - 1) 0) ≡ p = page-length n w in
     let front : take ((k + 1) * p) (set h a w) ≡ take (k * p) h ++ (w ∷ replicate (p - 1) 0) =
     ap (λ x. take x (set h a w)) next
     ∙ take-add (k * p) p (set h a w)
@@ -76,8 +80,5 @@ unfolding freshPages
 linked-end n pages k (suc m) h l b = absurd (omega arith)
 linked-end n pages k zero h l b =
     sym (take-append-drop (k * 2 ^ n) h)
-    ∙ ap (λ ws. take (k * 2 ^ n) h ++ ws) (l .rest ∙ ap (λ x. replicate x 0) (one (2 ^ n) ∙ sym (suc-ones n)))
+    ∙ ap (λ ws. take (k * 2 ^ n) h ++ ws) (l .rest ∙ ap (λ x. replicate x 0) (one-mul (2 ^ n) ∙ sym (suc-ones n)))
     ∙ sym (l .whole)
-  where
-    one : (p : ℕ) → 1 * p ≡ p
-    one p = omega arith

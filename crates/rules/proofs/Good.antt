@@ -1,6 +1,6 @@
 -- The turn laws of good pointers: each way in which the code decides is what the definition decides.
-use Prim.Native.Nat.{ℕ, zero, suc, _+_, _-_, _*_, _/_, _%_, _^_, _≤_, _<_}
-use mathlib.Core.Path.{_≡_, refl, ap}
+use Prim.Native.Nat.{ℕ, _+_, _-_, _*_, _/_, _%_, _^_, _≤_, _<_}
+use mathlib.Core.Path.{_≡_, ap}
 use mathlib.Core.Bool.{true, false}
 use mathlib.Core.List.{List}
 use native.Mathlib.Omega.{arith}
@@ -13,6 +13,7 @@ use Rattle.rules.specs.Refusals.{Paged}
 use Rattle.rules.specs.Words.{wordOf, valsIn, standsAt, goodOn, goodHeap, goodConst, goodIn}
 use Rattle.rules.proofs.Chains.{page-vals}
 use Rattle.rules.proofs.Limits.{page-size, whole-pages}
+use Rattle.rules.proofs.Pointers.{number-word}
 
 -- the page of an address outside has no origin
 pub origin-out : (n : ℕ) (h : List ℕ) (a : ℕ) → Paged n (length h) → length h ≤ a → origin n h (a / 2 ^ n) ≡ 0
@@ -59,11 +60,5 @@ module _ (n R : ℕ) (h k : List ℕ) (w : ℕ) where
   word-const e = rw (goodIn, e)
 
   pub word-number : (w % 4 ≡ 0 → ⊥) → (w % 4 ≡ 2 → ⊥) → goodIn n R h k w ≡ true
-  unfolding goodIn wordOf
-  word-number a b = go (w % 4) refl
-    where
-      go : (x : ℕ) → w % 4 ≡ x → goodIn n R h k w ≡ true
-      go zero e = absurd (a e)
-      go (suc zero) e = rw (goodIn, e)
-      go (suc (suc zero)) e = absurd (b e)
-      go (suc (suc (suc x))) e = rw (goodIn, e)
+  unfolding goodIn
+  word-number a b = rw (goodIn, number-word w a b)

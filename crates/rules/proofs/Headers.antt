@@ -1,12 +1,13 @@
 -- What a header says, from its remainder by 8.
 use Prim.Native.Nat.{ℕ, zero, suc, _/_, _%_, _≤_}
 use mathlib.Core.Path.{_≡_, refl, sym, ap, _∙_}
-use mathlib.Core.Bool.{Bool, true, false}
-use mathlib.Core.Option.{Option, none, some}
+use mathlib.Core.Bool.{Bool, true, false, false≢true, true≢false}
+use mathlib.Core.Option.{Option, none, some, Option·none-ne-some}
 use native.Mathlib.Omega.{arith}
 use borrow.Author.Tests.{leb-true, le-leb, ne-eqb}
 use lib.Dec.{leb, eqb}
-use Rattle.rules.specs.Words.{Head, rec, raw, moved, wrong, headBy, headOf, lengthBy, recordBy, wordsBy, isRecord, fit, fits}
+use Rattle.rules.specs.Words.{headBy, headOf, lengthBy, recordBy, wordsBy, isRecord, fit, fits}
+use Rattle.rules.proofs.Pointers.{words-of}
 
 pub fit-some : (w m l : ℕ) → fit w m ≡ some l → (lengthBy (headOf w) ≡ some l) × (l ≤ m)
 unfolding fit
@@ -17,10 +18,10 @@ fit-some w m l e = go (lengthBy (headOf w)) refl
         let e′ : some k ≡ some l = sym (rw (p, fit, q)) ∙ e in
         let r : k ≡ l = cc in
         (cc, (let c = leb-true k m q in omega arith))
-    test k p false q = let e′ : _≡_ {A = Option ℕ} none (some l) = sym (rw (p, fit, q)) ∙ e in let z : _≡_ {A = ℕ} 0 1 = cc in absurd (omega arith)
+    test k p false q = absurd (Option·none-ne-some l (sym (rw (p, fit, q)) ∙ e))
 
     go : (o : Option ℕ) → lengthBy (headOf w) ≡ o → (lengthBy (headOf w) ≡ some l) × (l ≤ m)
-    go none p = let e′ : _≡_ {A = Option ℕ} none (some l) = sym (rw (p, fit)) ∙ e in let z : _≡_ {A = ℕ} 0 1 = cc in absurd (omega arith)
+    go none p = absurd (Option·none-ne-some l (sym (rw (p, fit)) ∙ e))
     go (some k) p = test k p (leb k m) refl
 
 pub fit-is : (w m l : ℕ) → lengthBy (headOf w) ≡ some l → l ≤ m → fit w m ≡ some l
@@ -35,13 +36,18 @@ no-head (suc (suc (suc zero))) q a b = absurd (b refl)
 no-head (suc (suc (suc (suc zero)))) q a b = refl
 no-head (suc (suc (suc (suc (suc r))))) q a b = refl
 
-head-length : (r q l : ℕ) → lengthBy (headBy r q) ≡ some l → l ≡ q
-head-length zero q l e = let z : _≡_ {A = ℕ} 0 1 = cc in absurd (omega arith)
-head-length (suc zero) q l e = cc
-head-length (suc (suc zero)) q l e = let z : _≡_ {A = ℕ} 0 1 = cc in absurd (omega arith)
-head-length (suc (suc (suc zero))) q l e = cc
-head-length (suc (suc (suc (suc zero)))) q l e = let z : _≡_ {A = ℕ} 0 1 = cc in absurd (omega arith)
-head-length (suc (suc (suc (suc (suc r))))) q l e = let z : _≡_ {A = ℕ} 0 1 = cc in absurd (omega arith)
+-- a header is odd, and has its length from 8 up
+pub header-odd : (w l : ℕ) → lengthBy (headOf w) ≡ some l → (w % 2 ≡ 1) × (w / 8 ≡ l)
+unfolding headOf
+header-odd w l e = go (w % 8) refl e
+  where
+    go : (x : ℕ) → w % 8 ≡ x → lengthBy (headBy x (w / 8)) ≡ some l → (w % 2 ≡ 1) × (w / 8 ≡ l)
+    go zero q t = absurd (false≢true cc)
+    go (suc zero) q t = (omega arith, cc)
+    go (suc (suc zero)) q t = absurd (false≢true cc)
+    go (suc (suc (suc zero))) q t = (omega arith, cc)
+    go (suc (suc (suc (suc zero)))) q t = absurd (false≢true cc)
+    go (suc (suc (suc (suc (suc x))))) q t = absurd (false≢true cc)
 
 fits-by : (h m l : ℕ) → lengthBy (headOf h) ≡ some l → fits h m ≡ leb l m
 unfolding fits fit
@@ -80,10 +86,10 @@ unfolding fits headOf
 fit-of h m t = go (fit h m) refl
   where
     go : (o : Option ℕ) → fit h m ≡ o → (fit h m ≡ some (h / 8)) × (h / 8 ≤ m)
-    go none e = let q : false ≡ true = sym (rw (e, fits)) ∙ t in let z : _≡_ {A = ℕ} 0 1 = cc in absurd (omega arith)
+    go none e = absurd (false≢true (sym (rw (e, fits)) ∙ t))
     go (some l) e =
         let f = fit-some h m l e in
-        let q : l ≡ h / 8 = head-length (h % 8) (h / 8) l (f .0) in
+        let q : l ≡ h / 8 = sym (header-odd h l (f .0) .1) in
         (e ∙ ap some q, rw (← q) (f .1))
 
 pub fit-none : (h m : ℕ) → fits h m ≡ false → fit h m ≡ none
@@ -92,7 +98,7 @@ fit-none h m t = go (fit h m) refl
   where
     go : (o : Option ℕ) → fit h m ≡ o → fit h m ≡ none
     go none e = e
-    go (some l) e = let q : true ≡ false = sym (rw (e, fits)) ∙ t in let z : _≡_ {A = ℕ} 0 1 = cc in absurd (omega arith)
+    go (some l) e = absurd (true≢false (sym (rw (e, fits)) ∙ t))
 
 -- what fits, fits into more words
 pub fits-more : (h m k : ℕ) → fits h m ≡ true → m ≤ k → fits h k ≡ true
@@ -104,11 +110,5 @@ fits-more h m k t b =
     rw (fit-is h k (h / 8) (g .0) (omega arith), fits)
 
 -- a header that fits says how many words its value takes
-words-by : (e : Head) (l : ℕ) → lengthBy e ≡ some l → wordsBy e ≡ suc l
-words-by (rec k) l e = cc
-words-by (raw k) l e = cc
-words-by (moved b) l e = let z : _≡_ {A = ℕ} 0 1 = cc in absurd (omega arith)
-words-by wrong l e = let z : _≡_ {A = ℕ} 0 1 = cc in absurd (omega arith)
-
 pub fits-words : (h m : ℕ) → fits h m ≡ true → wordsBy (headOf h) ≡ suc (h / 8)
-fits-words h m t = words-by (headOf h) (h / 8) (fit-some h m (h / 8) (fit-of h m t .0) .0)
+fits-words h m t = words-of (headOf h) (h / 8) (fit-some h m (h / 8) (fit-of h m t .0) .0)

@@ -2,8 +2,7 @@
 -- say. It is true since `audited` makes the audit's own tests in the same order.
 use Prim.Native.Nat.{ℕ, zero, suc}
 use mathlib.Core.Path.{_≡_, refl}
-use mathlib.Core.Bool.{Bool, true, false, not}
-use native.Mathlib.Omega.{arith}
+use mathlib.Core.Bool.{Bool, true, false, not, false≢true}
 use borrow.Author.Tests.{not-false}
 use lib.ListN.{length}
 use Rattle.laws.specs.Choice.{_⇒_∣_}
@@ -24,14 +23,14 @@ refused-by : {O : Type 0} (refuse : Refusal → O) (rest : O) (g : Control) (a b
     → refuse why ≡ (a ⇒ refuse Refusal.Limits ∣ b ⇒ refuse (Refusal.Broken 0) ∣ unbroken refuse k rest)
 refused-by refuse rest g true b k why c e = let q : why ≡ Refusal.Limits = cc in rw q
 refused-by refuse rest g false true k why c e = let q : why ≡ Refusal.Broken 0 = cc in rw q
-refused-by refuse rest g false false zero why c e = let z : _≡_ {A = ℕ} 0 1 = cc in absurd (omega arith)
+refused-by refuse rest g false false zero why c e = absurd (false≢true cc)
 refused-by refuse rest g false false (suc k) why c e = let q : why ≡ Refusal.Broken (suc k) = cc in rw q
 
 done-by : (g : Control) (a b : Bool) (k : ℕ) (c : Control) → Plain.Done c ≡ answer g a b k → (a ≡ false) × (b ≡ false) × (k ≡ 0)
-done-by g true b k c e = let z : _≡_ {A = ℕ} 0 1 = cc in absurd (omega arith)
-done-by g false true k c e = let z : _≡_ {A = ℕ} 0 1 = cc in absurd (omega arith)
+done-by g true b k c e = absurd (false≢true cc)
+done-by g false true k c e = absurd (false≢true cc)
 done-by g false false zero c e = (refl, refl, refl)
-done-by g false false (suc k) c e = let z : _≡_ {A = ℕ} 0 1 = cc in absurd (omega arith)
+done-by g false false (suc k) c e = absurd (false≢true cc)
 
 -- a refusal is the call's
 pub judged-refuse : {O : Type 0} (refuse : Refusal → O) (rest : O) (s : Store) {why : Refusal} {c : Control} → Plain.Refused why c ≡ audit s → refuse why ≡ audited refuse s rest

@@ -1,7 +1,7 @@
 -- What the limits and the common test say as facts, and that a page of a heap within them lies inside it.
 use Prim.Native.Nat.{ℕ, _+_, _-_, _*_, _/_, _^_, _≤_, _<_}
 use mathlib.Core.Path.{_≡_, refl}
-use mathlib.Core.Bool.{Bool, true, false, Bool·beq}
+use mathlib.Core.Bool.{Bool, true, false, Bool·beq, false≢true}
 use borrow.Author.Tests.{leb-true, eqb-true, eqb-false, eq-eqb}
 use lib.Dec.{eqb}
 use Rattle.laws.proofs.Tests.{both}
@@ -98,7 +98,7 @@ both-some f k e b = go (eqb f 0) refl (eqb k 0) refl
   where
     go : (x : Bool) → eqb f 0 ≡ x → (y : Bool) → eqb k 0 ≡ y → 0 < f
     go true p true q = let z = eqb-true k 0 q in absurd (omega arith)
-    go true p false q = let e′ : false ≡ true = rw (p, q) at e in let z : _≡_ {A = ℕ} 0 1 = cc in absurd (omega arith)
+    go true p false q = absurd (false≢true (rw (p, q) at e))
     go false p y q = let z = eqb-false f 0 p in omega arith
 
 both-none : (f k : ℕ) → Bool·beq (eqb f 0) (eqb k 0) ≡ true → k ≡ 0 → f ≡ 0
@@ -106,7 +106,7 @@ both-none f k e b = go (eqb f 0) refl
   where
     go : (x : Bool) → eqb f 0 ≡ x → f ≡ 0
     go true p = eqb-true f 0 p
-    go false p = let e′ : false ≡ true = rw (p, eq-eqb k 0 b) at e in let z : _≡_ {A = ℕ} 0 1 = cc in absurd (omega arith)
+    go false p = absurd (false≢true (rw (p, eq-eqb k 0 b) at e))
 
 pub admits : (h t r k : ℕ) (c : Control) → limits (c .n) h t r k ≡ true → common (h / 2 ^ c .n) c ≡ true → Admitted h t r k c
 unfolding common

@@ -1,7 +1,7 @@
 -- What a good pointer names: the value lies inside its memory, since the stepping that lands on it tests that; and the turn laws of `look`.
 use Prim.Native.Nat.{ℕ, zero, suc, _+_, _-_, _*_, _/_, _%_, _^_, _<_}
 use mathlib.Core.Path.{_≡_, refl, sym, ap, _∙_}
-use mathlib.Core.Bool.{Bool, true, false}
+use mathlib.Core.Bool.{Bool, true, false, false≢true}
 use mathlib.Core.List.{List, [], _∷_}
 use native.Mathlib.Omega.{arith}
 use native.Mathlib.Decide.{decLe}
@@ -17,18 +17,12 @@ use Rattle.rules.proofs.Good.{good-out, const-go}
 use Rattle.rules.proofs.Headers.{fits-more, fits-words}
 use Rattle.rules.proofs.Limits.{in-page}
 use Rattle.rules.proofs.Stepping.{stands-fits}
+use Rattle.rules.proofs.Pointers.{number-word}
 
 -- ---- what a word is
 
 pub word-is-number : (w : ℕ) → w % 2 ≡ 1 → wordOf w ≡ number
-unfolding wordOf
-word-is-number w odd = go (w % 4) refl
-  where
-    go : (x : ℕ) → w % 4 ≡ x → wordOf w ≡ number
-    go zero e = absurd (omega arith)
-    go (suc zero) e = rw (wordOf, e)
-    go (suc (suc zero)) e = absurd (omega arith)
-    go (suc (suc (suc x))) e = rw (wordOf, e)
+word-is-number w odd = number-word w (λ e. omega arith) (λ e. omega arith)
 
 -- over code that has the address as a
 pub word-is-const : (w a : ℕ) → a ≡ w / 4 → w % 4 ≡ 2 → wordOf w ≡ inConst a
@@ -49,26 +43,26 @@ word-is-heap w a q even ne = go (w % 4) refl
 
 -- a good pointer's value fits into its memory
 module _ (n R : ℕ) (h : List ℕ) (a : ℕ) where
-  good-stands : goodHeap n R h a ≡ true → standsAt a (pageVals n h (a / 2 ^ n)) ≡ true
+  -- its page is a region's, and it stands there
+  pub good-parts : goodHeap n R h a ≡ true → (leb 1 (origin n h (a / 2 ^ n)) ≡ true) × (leb (origin n h (a / 2 ^ n)) R ≡ true) × (standsAt a (pageVals n h (a / 2 ^ n)) ≡ true)
   unfolding goodHeap goodOn
-  good-stands t = go (leb 1 (origin n h (a / 2 ^ n))) refl (leb (origin n h (a / 2 ^ n)) R) refl
+  good-parts t = go (leb 1 (origin n h (a / 2 ^ n))) refl (leb (origin n h (a / 2 ^ n)) R) refl
     where
-      go : (p : Bool) → leb 1 (origin n h (a / 2 ^ n)) ≡ p → (q : Bool) → leb (origin n h (a / 2 ^ n)) R ≡ q → standsAt a (pageVals n h (a / 2 ^ n)) ≡ true
-      go true e true f = rw (e, f, goodOn) at t
-      go true e false f = let x : false ≡ true = rw (e, f, goodOn) at t in let z : _≡_ {A = ℕ} 0 1 = cc in absurd (omega arith)
-      go false e q f = let x : false ≡ true = rw (e, goodOn) at t in let z : _≡_ {A = ℕ} 0 1 = cc in absurd (omega arith)
+      go : (p : Bool) → leb 1 (origin n h (a / 2 ^ n)) ≡ p → (q : Bool) → leb (origin n h (a / 2 ^ n)) R ≡ q
+          → (leb 1 (origin n h (a / 2 ^ n)) ≡ true) × (leb (origin n h (a / 2 ^ n)) R ≡ true) × (standsAt a (pageVals n h (a / 2 ^ n)) ≡ true)
+      go true e true f = (e, f, rw (e, f, goodOn) at t)
+      go true e false f = absurd (false≢true (rw (e, f, goodOn) at t))
+      go false e q f = absurd (false≢true (rw (e, goodOn) at t))
 
   pub good-fits : Paged n (length h) → goodHeap n R h a ≡ true → (a < length h) × (fits (at h a) (length h - (a + 1)) ≡ true)
   good-fits g t = go (decLe (suc a) (length h))
     where
       go : Dec (a < length h) → (a < length h) × (fits (at h a) (length h - (a + 1)) ≡ true)
       go (no f) =
-          let x : false ≡ true = sym (good-out n R h a g (omega arith)) ∙ t in
-          let z : _≡_ {A = ℕ} 0 1 = cc in
-          absurd (omega arith)
+          absurd (false≢true (sym (good-out n R h a g (omega arith)) ∙ t))
       go (yes b) =
           let i = in-page n (length h) (2 ^ n) (a / 2 ^ n * 2 ^ n) a refl refl g b in
-          let s = stands-fits (2 ^ n) a h (a / 2 ^ n * 2 ^ n + 2) (a / 2 ^ n * 2 ^ n + 2 ^ n) (omega arith) (i .ends) (rw (page-vals n h (a / 2 ^ n)) at (good-stands t)) in
+          let s = stands-fits (2 ^ n) a h (a / 2 ^ n * 2 ^ n + 2) (a / 2 ^ n * 2 ^ n + 2 ^ n) (omega arith) (i .ends) (rw (page-vals n h (a / 2 ^ n)) at (good-parts t .2)) in
           (b, fits-more (at h a) (a / 2 ^ n * 2 ^ n + 2 ^ n - (a + 1)) (length h - (a + 1)) (s .1) (omega (arith, i .ends)))
 
 pub const-fits : (k : List ℕ) (a : ℕ) → goodConst k a ≡ true → (a < length k) × (fits (at k a) (length k - (a + 1)) ≡ true)
@@ -101,14 +95,8 @@ module _ (n R : ℕ) (h k : List ℕ) (w a : ℕ) (q : a ≡ w / 4) where
   look-no-const e t = rw (look, e, ← q, t)
 
 pub look-number : (n R : ℕ) (h k : List ℕ) (w : ℕ) → (w % 4 ≡ 0 → ⊥) → (w % 4 ≡ 2 → ⊥) → look n R h k w ≡ []
-unfolding look wordOf
-look-number n R h k w a b = go (w % 4) refl
-  where
-    go : (x : ℕ) → w % 4 ≡ x → look n R h k w ≡ []
-    go zero e = absurd (a e)
-    go (suc zero) e = rw (look, e)
-    go (suc (suc zero)) e = absurd (b e)
-    go (suc (suc (suc x))) e = rw (look, e)
+unfolding look
+look-number n R h k w a b = rw (look, number-word w a b)
 
 -- a value is there if it has words
 pub there-none : (v : List ℕ) → length v ≡ 0 → isThere v ≡ false

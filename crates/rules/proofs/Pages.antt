@@ -7,9 +7,10 @@ use mathlib.Core.List.{List, [], _++_}
 use native.Mathlib.Omega.{arith}
 use native.Mathlib.Numerals.{sub-one}
 use borrow.Author.Tests.{le-leb, lt-leb, eq-eqb, ne-eqb}
-use lib.ListN.{length, length-take, take, drop, replicate, set, length-drop, length-set, length-replicate}
-use lib.Seq.{length-take-le, getD-set-same}
+use lib.ListN.{length, length-take, take, drop, replicate, set, length-set, length-replicate}
+use lib.Seq.{getD-set-same}
 use Rattle.laws.specs.Lists.{put}
+use Rattle.laws.proofs.Lists.{part-length}
 use Rattle.laws.proofs.Parts.{part-put}
 use Rattle.rules.specs.declared.Refusal.{Refusal}
 use Rattle.rules.specs.declared.Valued.{Valued}
@@ -36,7 +37,7 @@ pub page-cleared : (n : ℕ) (h : List ℕ) (k a p : ℕ) (ys : List ℕ) → a 
     → ys ≡ replicate (length (take (a + p - a) (drop a h))) 0 → take a h ++ (ys ++ drop (a + p - a) (drop a h)) ≡ clearPage n h k
 unfolding clearPage
 page-cleared n h k a p ys qa qp b z =
-    let m : length (take (a + p - a) (drop a h)) ≡ a + p - a = length-take-le (a + p - a) (drop a h) (simp length-drop (omega arith)) in
+    let m = part-length h a (a + p - a) (omega arith) in
     let s : a + p - a ≡ 2 ^ n = omega arith in
     let y : ys ≡ replicate (2 ^ n) 0 = z ∙ ap (λ i. replicate i 0) (m ∙ s) in
     let l : length ys ≡ 2 ^ n = ap length y ∙ length-replicate (2 ^ n) 0 in

@@ -4,7 +4,7 @@ use native.Mathlib.Nat.{mul-mod-right, mul-div-right}
 use native.Mathlib.Omega.{arith}
 use native.Mathlib.Decide.{ℕ-discrete}
 use mathlib.Core.Path.{_≡_, refl, ap}
-use mathlib.Core.Bool.{true, false}
+use mathlib.Core.Bool.{true, false, false≢true}
 use mathlib.Core.Option.{some}
 use Rattle.rules.specs.Words.{Word, number, inHeap, inConst, wordOf, Head, rec, raw, moved, wrong, headBy, headOf, lengthBy, recordBy, wordsBy}
 use Rattle.rules.specs.Calls.{isNumber}
@@ -23,9 +23,20 @@ pointer-is w a e = go (w % 4) refl
   where
     go : (x : ℕ) → w % 4 ≡ x → w ≡ 4 * a
     go zero q = let t : inHeap (w / 4) ≡ inHeap a = rw q at e in let u : w / 4 ≡ a = cc in omega arith
-    go (suc zero) q = let t : number ≡ inHeap a = rw q at e in let z : _≡_ {A = ℕ} 0 1 = cc in absurd (omega arith)
-    go (suc (suc zero)) q = let t : inConst (w / 4) ≡ inHeap a = rw q at e in let z : _≡_ {A = ℕ} 0 1 = cc in absurd (omega arith)
-    go (suc (suc (suc x))) q = let t : number ≡ inHeap a = rw q at e in let z : _≡_ {A = ℕ} 0 1 = cc in absurd (omega arith)
+    go (suc zero) q = let t : number ≡ inHeap a = rw q at e in absurd (false≢true cc)
+    go (suc (suc zero)) q = let t : inConst (w / 4) ≡ inHeap a = rw q at e in absurd (false≢true cc)
+    go (suc (suc (suc x))) q = let t : number ≡ inHeap a = rw q at e in absurd (false≢true cc)
+
+-- a word is a number where it is no pointer
+pub number-word : (w : ℕ) → (w % 4 ≡ 0 → ⊥) → (w % 4 ≡ 2 → ⊥) → wordOf w ≡ number
+unfolding wordOf
+number-word w a b = go (w % 4) refl
+  where
+    go : (x : ℕ) → w % 4 ≡ x → wordOf w ≡ number
+    go zero e = absurd (a e)
+    go (suc zero) e = rw (wordOf, e)
+    go (suc (suc zero)) e = absurd (b e)
+    go (suc (suc (suc x))) e = rw (wordOf, e)
 
 -- a number
 pub is-number : (w : ℕ) → isNumber (wordOf w) ≡ true → wordOf w ≡ number
@@ -33,8 +44,8 @@ is-number w e = go (wordOf w) refl
   where
     go : (x : Word) → wordOf w ≡ x → wordOf w ≡ number
     go number q = q
-    go (inHeap a) q = let z : false ≡ true = rw q at e in let z′ : _≡_ {A = ℕ} 0 1 = cc in absurd (omega arith)
-    go (inConst a) q = let z : false ≡ true = rw q at e in let z′ : _≡_ {A = ℕ} 0 1 = cc in absurd (omega arith)
+    go (inHeap a) q = absurd (false≢true (rw q at e))
+    go (inConst a) q = absurd (false≢true (rw q at e))
 
 -- ---- headers
 
@@ -42,22 +53,22 @@ is-number w e = go (wordOf w) refl
 pub words-of : (x : Head) (l : ℕ) → lengthBy x ≡ some l → wordsBy x ≡ suc l
 words-of (rec m) l e = let q : m ≡ l = cc in ap suc q
 words-of (raw m) l e = let q : m ≡ l = cc in ap suc q
-words-of (moved b) l e = let z : _≡_ {A = ℕ} 0 1 = cc in absurd (omega arith)
-words-of wrong l e = let z : _≡_ {A = ℕ} 0 1 = cc in absurd (omega arith)
+words-of (moved b) l e = absurd (false≢true cc)
+words-of wrong l e = absurd (false≢true cc)
 
 -- the header of a record
 pub record-head : (x : Head) (l : ℕ) → lengthBy x ≡ some l → recordBy x ≡ true → x ≡ rec l
 record-head (rec m) l e k = let q : m ≡ l = cc in ap rec q
-record-head (raw m) l e k = let z : _≡_ {A = ℕ} 0 1 = cc in absurd (omega arith)
-record-head (moved m) l e k = let z : _≡_ {A = ℕ} 0 1 = cc in absurd (omega arith)
-record-head wrong l e k = let z : _≡_ {A = ℕ} 0 1 = cc in absurd (omega arith)
+record-head (raw m) l e k = absurd (false≢true cc)
+record-head (moved m) l e k = absurd (false≢true cc)
+record-head wrong l e k = absurd (false≢true cc)
 
 -- a header that is none of a record is one of a raw value
 pub raw-head : (x : Head) (l : ℕ) → lengthBy x ≡ some l → recordBy x ≡ false → x ≡ raw l
-raw-head (rec m) l e k = let z : _≡_ {A = ℕ} 0 1 = cc in absurd (omega arith)
+raw-head (rec m) l e k = absurd (false≢true cc)
 raw-head (raw m) l e k = let q : m ≡ l = cc in ap raw q
-raw-head (moved m) l e k = let z : _≡_ {A = ℕ} 0 1 = cc in absurd (omega arith)
-raw-head wrong l e k = let z : _≡_ {A = ℕ} 0 1 = cc in absurd (omega arith)
+raw-head (moved m) l e k = absurd (false≢true cc)
+raw-head wrong l e k = absurd (false≢true cc)
 
 -- a forward, read as a header
 pub forward-head : (b : ℕ) → headOf (4 * b) ≡ moved b

@@ -2,7 +2,7 @@
 -- that value and the values after it; at the end, or where none fits, it is empty.
 use Prim.Native.Nat.{ℕ, zero, suc, _+_, _-_, _/_, _≤_, _<_}
 use mathlib.Core.Path.{_≡_, refl, sym, ap, _∙_}
-use mathlib.Core.Bool.{Bool, true, false, _&&_}
+use mathlib.Core.Bool.{Bool, true, false, _&&_, false≢true}
 use mathlib.Core.List.{List, [], _∷_}
 use native.Mathlib.Omega.{arith}
 use native.Mathlib.Decide.{decLe, ℕ-discrete}
@@ -62,9 +62,6 @@ module _ (h : List ℕ) (a e : ℕ) where
 
 -- ---- stepping to an address
 
-no-yes : false ≡ true → ⊥
-no-yes e = let z : _≡_ {A = ℕ} 0 1 = cc in omega arith
-
 module _ (x : ℕ) (h : List ℕ) (a e : ℕ) where
   pub stands-end : e ≤ a → standsAt x (valsIn h a e) ≡ false
   unfolding standsAt
@@ -85,7 +82,7 @@ module _ (x : ℕ) (h : List ℕ) (a e : ℕ) where
 -- the value landed on fits before the end; f is at least what is left of the words
 pub stands-fits : (f x : ℕ) (h : List ℕ) (a e : ℕ) → e - a ≤ f → e ≤ length h → standsAt x (valsIn h a e) ≡ true
     → (x < e) × (fits (getD h x 0) (e - (x + 1)) ≡ true)
-stands-fits zero x h a e b c t = absurd (no-yes (sym (stands-end x h a e (omega arith)) ∙ t))
+stands-fits zero x h a e b c t = absurd (false≢true (sym (stands-end x h a e (omega arith)) ∙ t))
 stands-fits (suc f) x h a e b c t = inside (decLe (suc a) e) (λ a′ l u. stands-fits f x h a′ e l c u)
   where
     Fits : Type 0
@@ -100,11 +97,11 @@ stands-fits (suc f) x h a e b c t = inside (decLe (suc a) e) (λ a′ l u. stand
 
     fit-here : a < e → (q : Bool) → fits (getD h a 0) (e - (a + 1)) ≡ q → Rest → Fits
     fit-here l true t′ rest = here l t′ (ℕ-discrete x a) rest
-    fit-here l false t′ rest = absurd (no-yes (sym (stands-stop x h a e l c t′) ∙ t))
+    fit-here l false t′ rest = absurd (false≢true (sym (stands-stop x h a e l c t′) ∙ t))
 
     inside : Dec (suc a ≤ e) → Rest → Fits
     inside (yes l) rest = fit-here l (fits (getD h a 0) (e - (a + 1))) refl rest
-    inside (no n) rest = absurd (no-yes (sym (stands-end x h a e (omega arith)) ∙ t))
+    inside (no n) rest = absurd (false≢true (sym (stands-end x h a e (omega arith)) ∙ t))
 
 -- ---- the fields of the values
 
@@ -118,13 +115,25 @@ module _ (p : ℕ → Bool) (h : List ℕ) (a e : ℕ) (r : Bool) where
   unfolding all
   values-stop b c f = rw (vals-stop h a e b c f)
 
-  pub values-raw : a < e → e ≤ length h → fits (getD h a 0) (e - (a + 1)) ≡ true → isRecord (getD h a 0) ≡ false
+  values-raw : a < e → e ≤ length h → fits (getD h a 0) (e - (a + 1)) ≡ true → isRecord (getD h a 0) ≡ false
       → (all (fieldsPass p) (valsIn h a e) && r) ≡ (all (fieldsPass p) (valsIn h (a + 1 + getD h a 0 / 8) e) && r)
   unfolding fieldsPass
   values-raw b c f t = rw (vals-step h a e b c f, all-turn (fieldsPass p), t)
 
-  pub values-rec : a < e → e ≤ length h → fits (getD h a 0) (e - (a + 1)) ≡ true → isRecord (getD h a 0) ≡ true
+  values-rec : a < e → e ≤ length h → fits (getD h a 0) (e - (a + 1)) ≡ true → isRecord (getD h a 0) ≡ true
       → (all (fieldsPass p) (valsIn h a e) && r)
       ≡ (all p (slice (a + 1) (a + 1 + getD h a 0 / 8) h) && (all (fieldsPass p) (valsIn h (a + 1 + getD h a 0 / 8) e) && r))
   unfolding fieldsPass
   values-rec b c f t = rw (vals-step h a e b c f, all-turn (fieldsPass p), t)
+
+-- a value at address a, over code that has the next one's address as d
+module _ (p : ℕ → Bool) (h : List ℕ) (a e : ℕ) (r : Bool) (b : a < e) (c : e ≤ length h) (t : fits (getD h a 0) (e - (a + 1)) ≡ true) (d : ℕ) (q : d ≡ a + (1 + getD h a 0 / 8)) where
+  next : a + 1 + getD h a 0 / 8 ≡ d
+  next = omega arith
+
+  pub raw-go : isRecord (getD h a 0) ≡ false → (all (fieldsPass p) (valsIn h a e) && r) ≡ (all (fieldsPass p) (valsIn h d e) && r)
+  raw-go u = rw next at (values-raw p h a e r b c t u)
+
+  -- and its first field's as f
+  pub record-go : isRecord (getD h a 0) ≡ true → (f : ℕ) → f ≡ a + 1 → (all (fieldsPass p) (valsIn h a e) && r) ≡ (all p (slice f d h) && (all (fieldsPass p) (valsIn h d e) && r))
+  record-go u f s = rw (next, ← s) at (values-rec p h a e r b c t u)

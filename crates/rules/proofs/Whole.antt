@@ -10,20 +10,16 @@ use mathlib.Core.Bool.{Bool, true, false, _&&_}
 use mathlib.Core.List.{List, [], _∷_, _++_, List·Memᴰ, List·Memᴰ·head, List·Memᴰ·tail, List·Memᴰ·cases-cons, List·Memᴰ·not-nil, List·Memᴰ·append-cases, Memᴰ·append-left, Memᴰ·append-right}
 use lib.ListN.{length}
 use lib.Dec.{ltb, eqb}
-use borrow.Author.Tests.{ltb-true, lt-ltb, eqb-true}
+use borrow.Author.Tests.{ltb-true, eqb-true}
 use Rattle.laws.specs.Lists.{all, allBelow, times}
 use Rattle.laws.proofs.Tests.{both, all-in, below-in}
 use Rattle.laws.proofs.Facts.{and-of, same-test}
 use Rattle.laws.proofs.Once.{Once, once-none, Linked, stop, goes, linked-once, once-append, once-by-count}
 use Rattle.rules.specs.Memory.{Store, pageCount, link, origin, chain, chainEnd, firstLink, regionPages, freePages, pagesFrom, regionOrigin}
 use Rattle.rules.specs.Audit.{endsWell, eachPage, allChains, opens, lastLink, rule3}
+use Rattle.rules.proofs.Chains.{chain-here}
 
 module _ (n : ℕ) (h : List ℕ) where
-  -- one turn of a chain at a page
-  pub chain-here : (f k : ℕ) → k < pageCount n h → (chain (suc f) n h (suc k) ≡ k ∷ chain f n h (link n h k)) × (chainEnd (suc f) n h (suc k) ≡ chainEnd f n h (link n h k))
-  unfolding chain chainEnd
-  chain-here f k b = (rw (chain, lt-ltb k (pageCount n h) b), rw (chainEnd, lt-ltb k (pageCount n h) b))
-
   -- the pages of a chain are pages of the heap
   pub chain-there : (f x k : ℕ) → List·Memᴰ k (chain f n h x) → k < pageCount n h
   unfolding chain
@@ -60,7 +56,7 @@ module _ (n : ℕ) (h : List ℕ) where
   linked-chain zero (goes t) small b = absurd (omega arith)
   linked-chain (suc f) (goes {k} t) small b =
       let r = linked-chain f t (λ x m. small x (List·Memᴰ·tail m)) (omega arith) in
-      let c = chain-here f k (small k (List·Memᴰ·head refl)) in
+      let c = chain-here n h f k (small k (List·Memᴰ·head refl)) in
       (c .0 ∙ ap (λ ks. k ∷ ks) (r .0), c .1 ∙ r .1)
 
 -- ---- all chains

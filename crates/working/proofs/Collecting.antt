@@ -3,7 +3,7 @@
 use Prim.Native.Nat.{ℕ, suc, _+_, _*_, _^_, _≤_, _<_}
 use native.Mathlib.Omega.{arith}
 use native.Mathlib.Decide.{ℕ-discrete}
-use mathlib.Core.Path.{_≡_, sym, ap, _∙_}
+use mathlib.Core.Path.{_≡_, ap, _∙_}
 use mathlib.Core.Logic.{_≢_, _↔_, _⊎_, inl, inr}
 use mathlib.Core.List.{List, [], _∷_, List·Memᴰ}
 use borrow.Author.Tests.{ne-eqb}
@@ -20,14 +20,13 @@ use Rattle.rules.specs.Calls.{walk, usedWords}
 use Rattle.rules.specs.Collection.{finished, leaves, ending, collected}
 use Rattle.rules.specs.Seen.{homeIn, seen, Reached, readAt, Meet, wordsAt}
 use Rattle.facts.proofs.Steps.{Stands, Steps}
-use Rattle.facts.proofs.Alike.{Same, readings, meetings}
+use Rattle.facts.proofs.Alike.{Same, meetings}
 use Rattle.facts.proofs.Copied.{Moved, to, Rel, copied-same, reached-moved}
-use Rattle.facts.proofs.Observing.{read-is, meet-is, used-is, used-known}
+use Rattle.facts.proofs.Observing.{reads-alike, meet-is, used-is, used-known}
 use Rattle.facts.proofs.Sound.{Sound, Passes}
 use Rattle.facts.proofs.Passing.{meaning}
-use Rattle.working.proofs.Log.{pointers, olds, in-olds, olds-in}
+use Rattle.working.proofs.Log.{pointers, olds, in-olds, olds-in, of-pointers}
 use Rattle.working.proofs.Invariant.{Kept}
-use Rattle.working.proofs.Evacuating.{of-pointers}
 use Rattle.working.proofs.Running.{Ran, Refusing, runs}
 use Rattle.working.proofs.Ending.{left-store, left-sound, left-filled}
 use Rattle.working.proofs.Views.{left-copied, home-before}
@@ -128,9 +127,7 @@ module _ (s : Store) (S : Sound s) (roots : List ℕ) (r : Run) (A : Ran s S roo
   pub left-reads : (i : ℕ) (fs : List ℕ) → readAt s (walk s i fs) ≡ readAt s′ (walk s′ i fs)
   left-reads i fs =
       let c = left-copied s S roots r A in
-      read-is s passes i fs
-      ∙ readings (seen s) (seen s′) (Rel (Kept s) (pointers log)) same (s .roots) roots (c .count) (c .roots) i fs
-      ∙ sym (read-is s′ passes′ i fs)
+      reads-alike s s′ passes passes′ (Rel (Kept s) (pointers log)) same (c .count) (c .roots) i fs
 
   pub left-meets : (i : ℕ) (fs : List ℕ) (j : ℕ) (gs : List ℕ) → Meet s i fs j gs ↔ Meet s′ i fs j gs
   left-meets i fs j gs =

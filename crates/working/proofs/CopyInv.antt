@@ -1,14 +1,10 @@
 -- A value copied: the invariant after it. The copy's words are what its region's pages hold more, and what the log counts more.
-use Prim.Native.Nat.{ℕ, suc, _+_, _*_, _^_, _≤_, _<_}
-use native.Mathlib.Nat.{mul-le-mul-right}
+use Prim.Native.Nat.{ℕ, suc, _+_, _*_, _^_, _<_}
 use native.Mathlib.Omega.{arith}
 use native.Mathlib.Decide.{ℕ-discrete}
 use mathlib.Core.Path.{_≡_, sym, ap, _∙_}
 use mathlib.Core.Logic.{_≢_, _⊎_, inl, inr}
 use mathlib.Core.List.{List, [], _∷_, _++_, List·Memᴰ}
-use lib.ListN.{length, drop, length-drop}
-use lib.Seq.{length-take-le}
-use borrow.Author.Tests.{eq-eqb, ne-eqb}
 use Rattle.laws.specs.Sums.{sumOver}
 use Rattle.laws.proofs.Once.{Last, last-in}
 use Rattle.rules.specs.Memory.{Store}
@@ -16,39 +12,14 @@ use Rattle.rules.specs.Pages.{Run}
 use Rattle.rules.specs.Seen.{seen, wordsAt}
 use Rattle.facts.proofs.Steps.{steps-le}
 use Rattle.facts.proofs.Laid.{Owner, spare}
-use Rattle.facts.proofs.Looked.{look-at, home-at}
-use Rattle.facts.proofs.Sound.{Sound}
-use Rattle.working.proofs.Owned.{mine-inj, old≢beyond, spare≢mine}
+use Rattle.facts.proofs.Looked.{words-at-home, words-elsewhere}
+use Rattle.facts.proofs.Sound.{Sound, descriptor-fits}
+use Rattle.working.proofs.Owned.{spare≢mine}
 use Rattle.working.proofs.Log.{pointers, olds, Evacuated, evacuated-log}
 use Rattle.working.proofs.Tallied.{filled-same, filled-more, filled-page}
-use Rattle.working.proofs.Invariant.{Ghost, Kept, filledTo, Inv}
+use Rattle.working.proofs.Invariant.{Ghost, Kept, filledTo, Inv, old-in}
 use Rattle.working.proofs.Copying.{Uncopied, Made}
-use Rattle.working.proofs.CopyPending.{after, copied-pending}
-
--- the words of an old value, as its region counts them
-module _ (s : Store) (S : Sound s) (g : Ghost) (r : Run) (I : Inv s S g r) (x : Uncopied s g) where
-  inside : x .page * 2 ^ s .ctl .n + 2 ^ s .ctl .n ≤ length (s .heap)
-  inside = let a = S .laid .size in let t = mul-le-mul-right (2 ^ s .ctl .n) (I .laid .known (x .page) (λ q. old≢beyond (x .from-old) q)) in omega arith
-
-  big : 2 ≤ 2 ^ s .ctl .n
-  big = let b = S .laid .big in omega arith
-
-  pub value-words : (i : ℕ) → i ≡ x .region → wordsAt (seen s) i (4 * x .address) ≡ suc (x .len)
-  unfolding wordsAt
-  value-words i e =
-      let h = home-at s (x .page) (x .address) (x .len) big inside (x .steps) (x .stands) (x .region) (x .known) (x .whose) in
-      let t : suc (x .region) ≡ suc i = ap suc (sym e) in
-      let z = length-drop (x .address) (s .heap) in
-      let w = x .stands .ends in
-      let y = inside in
-      rw (h, eq-eqb (suc (x .region)) (suc i) t, look-at s (x .page) (x .address) (x .len) big inside (x .steps) (x .stands) (x .region) (x .known) (x .whose))
-      (length-take-le (suc (x .len)) (drop (x .address) (s .heap)) (omega arith))
-
-  pub no-words : (i : ℕ) → i ≢ x .region → wordsAt (seen s) i (4 * x .address) ≡ 0
-  unfolding wordsAt
-  no-words i ne =
-      let h = home-at s (x .page) (x .address) (x .len) big inside (x .steps) (x .stands) (x .region) (x .known) (x .whose) in
-      rw (h, ne-eqb (suc (x .region)) (suc i) (λ (q : suc (x .region) ≡ suc i). ne (omega arith)))
+use Rattle.working.proofs.CopyPending.{after, copied-pending, not-p}
 
 module _ (s : Store) (S : Sound s) (g : Ghost) (r : Run) (I : Inv s S g r) (x : Uncopied s g) (b p : ℕ) (own : ℕ → Owner) (fin : ℕ → ℕ) (pages : ℕ → List ℕ) (free : List ℕ) (r′ : Run)
     (M : Made s g r x b p own fin pages free r′) where
@@ -70,13 +41,13 @@ module _ (s : Store) (S : Sound s) (g : Ghost) (r : Run) (I : Inv s S g r) (x : 
       let t = I .tallied i iR in
       let same =
       filled-same n (g .fin) fin (g .pages i)
-      (λ k m.
-      let q = I .laid .mine-own i k iR m in
-      M .fin-other k i q (λ e. ne (mine-inj (sym (E .mine-kept k i q) ∙ ap own e ∙ E .b-mine)))) in
-      rw (M .pages-other i ne, no-words s S g r I x i ne) (same ∙ t ∙ omega arith)
+      (λ k m. M .fin-other k i (I .laid .mine-own i k iR m) (not-p s S g r I x b p own fin pages free r′ M i k iR ne m)) in
+      let none = words-elsewhere s (x .page) (x .address) (x .len) (descriptor-fits s S) (old-in I (x .page) (x .from-old)) (x .steps) (x .stands) j (x .known) (x .whose) i ne in
+      rw (M .pages-other i ne, none) (same ∙ t ∙ omega arith)
   tallied i iR (yes e) =
       let t = I .tallied j (x .known) in
-      rw (value-words s S g r I x i e, e) (go (M .pages-own) ∙ ap (λ y. y + suc (x .len)) t ∙ omega arith)
+      let all = words-at-home s (x .page) (x .address) (x .len) (descriptor-fits s S) (old-in I (x .page) (x .from-old)) (x .steps) (x .stands) j (x .known) (x .whose) in
+      rw (e, all) (go (M .pages-own) ∙ ap (λ y. y + suc (x .len)) t ∙ omega arith)
     where
       others : (k : ℕ) → List·Memᴰ k (g .pages j) → k ≢ p → g .fin k ≡ fin k
       others k m ne = M .fin-other k j (I .laid .mine-own j k (x .known) m) ne

@@ -75,7 +75,7 @@ module _ (s : Store) (S : Sound s) (g : Ghost) (r : Run) (I : Inv s S g r) (x : 
   agree i k y iR m q t = sym (E .mine-words k i y (I .laid .mine-own i k iR m) q t)
 
   -- a page of another region is not p
-  not-p : (i k : ℕ) → i < R → i ≢ j → List·Memᴰ k (g .pages i) → k ≢ p
+  pub not-p : (i k : ℕ) → i < R → i ≢ j → List·Memᴰ k (g .pages i) → k ≢ p
   not-p i k iR ne m e = ne (mine-inj (sym (E .mine-kept k i (I .laid .mine-own i k iR m)) ∙ ap own e ∙ E .b-mine))
 
   row-other : (i : ℕ) → i < R → i ≢ j → Row n (r′ .heap) fin (pages i) (g .past i ++ after .todo i)

@@ -1,14 +1,13 @@
 -- A value copied: what changes, as far as the invariant asks. The copy is the last value of its region's last page, be it the page that was
 -- last or one taken for it, and its old header is the forward to it.
-use Prim.Native.Nat.{ℕ, suc, _+_, _*_, _^_, _≤_, _<_}
-use native.Mathlib.Nat.{mul-le-mul-right}
+use Prim.Native.Nat.{ℕ, suc, _+_, _*_, _^_, _<_}
 use native.Mathlib.Omega.{arith}
 use mathlib.Core.Path.{_≡_, sym, ap, _∙_}
 use mathlib.Core.Logic.{_≢_, _⊎_, inl, inr}
 use mathlib.Core.Option.{some}
 use mathlib.Core.List.{List, [], _∷_, _++_, List·Memᴰ}
-use lib.ListN.{length, set, take, drop, length-set, length-drop}
-use lib.Seq.{length-take-le, getD-set-other}
+use lib.ListN.{length, set, take, drop, length-set}
+use lib.Seq.{getD-set-other}
 use Rattle.laws.specs.Lists.{at, put}
 use Rattle.laws.proofs.Once.{Last, last-in, last-is}
 use Rattle.rules.specs.Memory.{Store, pageCount, topOf, statusOf}
@@ -16,7 +15,7 @@ use Rattle.rules.specs.Pages.{Run, withHeap, store, room, place}
 use Rattle.rules.specs.Collection.{wake, moveOn, moveTo}
 use Rattle.rules.specs.Seen.{seen, Reached}
 use Rattle.facts.proofs.Steps.{Stands, Steps, steps-le}
-use Rattle.facts.proofs.Laid.{Owner, old, spare, mine, Layout, upd, upd-other}
+use Rattle.facts.proofs.Laid.{Owner, old, spare, mine, Layout, upd, upd-other, words-in}
 use Rattle.facts.proofs.Copied.{to}
 use Rattle.facts.proofs.Sound.{Sound}
 use Rattle.working.proofs.Owned.{old≢beyond, Owned, total}
@@ -58,6 +57,10 @@ pub record Made (s : Store) (g : Ghost) (r : Run) (x : Uncopied s g) (b p : ℕ)
   pub awake : statusOf (r′ .table) (x .region) ≢ 0
   pub how : ((statusOf (r .table) (x .region) ≡ 0) × (r′ .stack ≡ entry (x .region) b ∷ r .stack))
       ⊎ ((statusOf (r .table) (x .region) ≢ 0) × (r′ .stack ≡ r .stack))
+
+-- its words, as the heap has them now
+pub value-length : (s : Store) (S : Sound s) (g : Ghost) (r : Run) (I : Inv s S g r) (x : Uncopied s g) → length (take (suc (x .len)) (drop (x .address) (r .heap))) ≡ suc (x .len)
+value-length s S g r I x = words-in (I .laid) (x .page) (x .address) (x .len) (old≢beyond (x .from-old)) (x .stands)
 
 module _ (s : Store) (S : Sound s) (g : Ghost) (r : Run) (I : Inv s S g r) (x : Uncopied s g) (r₁ : Run)
     (K : Roomed (s .ctl .n) (pageCount (s .ctl .n) (s .heap)) (s .ctl .regions) (g .own) (g .fin) (g .pages) (g .free) r (x .region) (suc (x .len)) r₁) where
@@ -103,17 +106,6 @@ module _ (s : Store) (S : Sound s) (g : Ghost) (r : Run) (I : Inv s S g r) (x : 
   fin₂ = upd (K .fin₁) p (K .fin₁ p + length ws)
 
   -- ---- layout and log
-
-  f-in : f * 2 ^ n + 2 ^ n ≤ N * 2 ^ n
-  f-in = let t = mul-le-mul-right (2 ^ n) (I .laid .known f (λ q. old≢beyond (x .from-old) q)) in omega arith
-
-  len : length ws ≡ suc l
-  len =
-      let y = I .laid .size in
-      let t = f-in in
-      let z = length-drop a (r .heap) in
-      let w = x .stands .ends in
-      length-take-le (suc l) (drop a (r .heap)) (omega arith)
 
   laid₂ : Layout n N R (K .own₁) fin₂ (K .pages₁) (K .free₁) r₂
   laid₂ =
@@ -206,4 +198,4 @@ module _ (s : Store) (S : Sound s) (g : Ghost) (r : Run) (I : Inv s S g r) (x : 
 
   pub made-moves : room n j (suc l) r ≡ some r₁ → moveTo n j a l r ≡ some (4 * b, after)
   unfolding moveTo place moveOn
-  made-moves e = let q : place n j ws r ≡ some (b, store n j ws r₁) = rw (ap (λ y. room n j y r) len ∙ e, place) in rw q
+  made-moves e = let q : place n j ws r ≡ some (b, store n j ws r₁) = rw (ap (λ y. room n j y r) (value-length s S g r I x) ∙ e, place) in rw q

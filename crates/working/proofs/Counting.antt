@@ -6,9 +6,6 @@ use native.Mathlib.Decide.{ℕ-discrete}
 use mathlib.Core.Path.{_≡_, refl, ap}
 use mathlib.Core.Logic.{_⊎_, inl, inr}
 use mathlib.Core.List.{List, [], _∷_, _++_, List·Memᴰ, List·Memᴰ·head, List·Memᴰ·tail, List·Memᴰ·cases-cons, List·Memᴰ·not-nil, Memᴰ·append-left, Memᴰ·append-right}
-use lib.ListN.{length, drop, length-drop}
-use lib.Seq.{length-take-le}
-use borrow.Author.Tests.{eq-eqb}
 use Rattle.laws.specs.Lists.{at}
 use Rattle.laws.specs.Sums.{sumOver}
 use Rattle.laws.proofs.Once.{Once}
@@ -18,12 +15,11 @@ use Rattle.rules.specs.Words.{usedOf, pageVals}
 use Rattle.rules.specs.Audit.{usedOn, usedBy}
 use Rattle.rules.specs.Seen.{seen, wordsAt}
 use Rattle.facts.proofs.Steps.{Stands, Steps, here, over, steps-le, steps-then, apart}
-use Rattle.facts.proofs.Laid.{mine, chain-body, page-in}
-use Rattle.facts.proofs.Looked.{page-holds, page-ends, look-at, home-at}
-use Rattle.facts.proofs.Filled.{vals-used}
-use Rattle.facts.proofs.Framed.{below-end}
-use Rattle.facts.proofs.Sound.{Sound}
-use Rattle.facts.proofs.Passing.{pages-are}
+use Rattle.facts.proofs.Laid.{mine, page-in}
+use Rattle.facts.proofs.Looked.{words-at-home}
+use Rattle.facts.proofs.Framed.{below-fin}
+use Rattle.facts.proofs.Sound.{Sound, descriptor-fits}
+use Rattle.facts.proofs.Passing.{pages-are, ends-at}
 use Rattle.working.proofs.Owned.{mine≢beyond}
 use Rattle.working.proofs.Invariant.{filledTo}
 
@@ -34,25 +30,15 @@ module _ (s : Store) (S : Sound s) where
   abbrev R : ℕ
   R = s .ctl .regions
 
-  big : 2 ≤ 2 ^ n
-  big = let b = S .laid .big in omega arith
-
-  inside : (k j : ℕ) → S .own k ≡ mine j → k * 2 ^ n + 2 ^ n ≤ length (s .heap)
-  inside k j o = page-in (S .laid) k (λ q. mine≢beyond o q)
-
   -- a page
-  page-used : (j k : ℕ) → S .own k ≡ mine j → usedOf (pageVals n (s .heap) k) ≡ filledTo n (S .fin) k
-  unfolding pageVals
-  page-used j k o =
-      let B = S .laid .mine-body j k o in
-      let u = vals-used (s .heap) (k * 2 ^ n + 2 ^ n) (B .filled) _ (page-holds n (s .heap) k (inside k j o) big) (page-ends n (s .heap) k (inside k j o) big) (B .rest) in
-      omega arith
+  page-used : (j k : ℕ) → j < R → List·Memᴰ k (S .pages j) → usedOf (pageVals n (s .heap) k) ≡ filledTo n (S .fin) k
+  page-used j k jR m = let e = ends-at s S j k jR m in omega arith
 
   pages-used : (j : ℕ) → j < R → (ks : List ℕ) → ((k : ℕ) → List·Memᴰ k ks → List·Memᴰ k (S .pages j)) → usedOn n (s .heap) ks ≡ sumOver (filledTo n (S .fin)) ks
   unfolding usedOn sumOver
   pages-used j jR [] sub = refl
   pages-used j jR (k ∷ ks) sub =
-      rw (page-used j k (S .laid .mine-own j k jR (sub k (List·Memᴰ·head refl))), pages-used j jR ks (λ x m. sub x (List·Memᴰ·tail m)))
+      rw (page-used j k jR (sub k (List·Memᴰ·head refl)), pages-used j jR ks (λ x m. sub x (List·Memᴰ·tail m)))
 
   -- a region
   pub used-filled : (j : ℕ) → j < R → usedBy n (s .heap) (s .table) j ≡ sumOver (filledTo n (S .fin)) (S .pages j)
@@ -64,13 +50,7 @@ module _ (s : Store) (S : Sound s) where
   module _ (j : ℕ) (jR : j < R) where
     value-words : (k a l : ℕ) → S .own k ≡ mine j → Steps (s .heap) (k * 2 ^ n + 2 ^ n) (k * 2 ^ n + 2) a → Stands (s .heap) (k * 2 ^ n + 2 ^ n) a l
         → wordsAt (seen s) j (4 * a) ≡ suc l
-    unfolding wordsAt
-    value-words k a l o t st =
-        let w = S .laid .mine-body j k o .whose in
-        let x = inside k j o in
-        let e = st .ends in
-        let d = length-drop a (s .heap) in
-        rw (home-at s k a l big x t st j jR w, eq-eqb (suc j) (suc j) refl, look-at s k a l big x t st j jR w) (length-take-le (suc l) (drop a (s .heap)) (omega arith))
+    value-words k a l o t st = words-at-home s k a l (descriptor-fits s S) (page-in (S .laid) k (mine≢beyond o)) t st j jR (S .laid .mine-body j k o .whose)
 
     -- pointers to values, what they sum to, and that all values of these pages are there
     record Listed (ks : List ℕ) : Type 0 where
@@ -129,10 +109,7 @@ module _ (s : Store) (S : Sound s) where
         omega arith
       where
         below : (k a l : ℕ) → List·Memᴰ k (S .pages j) → Steps (s .heap) (k * 2 ^ n + 2 ^ n) (k * 2 ^ n + 2) a → Stands (s .heap) (k * 2 ^ n + 2 ^ n) a l → a < S .fin k
-        below k a l m t st =
-            let B = chain-body (S .laid) j k jR m in
-            let e = below-end (s .heap) (k * 2 ^ n + 2 ^ n) (k * 2 ^ n + 2) (S .fin k) (B .filled) (B .rest) t st in
-            omega arith
+        below k a l m t st = let e = below-fin (S .laid) j k (S .laid .mine-own j k jR m) t st in omega arith
 
         go : (w : ℕ) (all : List ℕ) → ((k a : ℕ) → List·Memᴰ k (S .pages j) → Steps (s .heap) (k * 2 ^ n + 2 ^ n) (k * 2 ^ n + 2) a → a < S .fin k → List·Memᴰ (4 * a) all)
             → ((k : ℕ) × (a : ℕ) × (l : ℕ) × (w ≡ 4 * a) × List·Memᴰ k (S .pages j) × Steps (s .heap) (k * 2 ^ n + 2 ^ n) (k * 2 ^ n + 2) a × Stands (s .heap) (k * 2 ^ n + 2 ^ n) a l)

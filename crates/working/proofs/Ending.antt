@@ -5,30 +5,28 @@ use native.Mathlib.Nat.{mul-le-mul-right}
 use native.Mathlib.Omega.{arith}
 use mathlib.Core.Path.{_≡_, refl, sym, ap, _∙_, subst}
 use mathlib.Core.Bool.{true}
-use mathlib.Core.Option.{none, some}
+use mathlib.Core.Option.{Option·none-ne-some}
 use mathlib.Core.List.{List, [], _++_, List·Memᴰ, Memᴰ·append-left, Memᴰ·append-right}
 use lib.ListN.{length, length-append}
 use Rattle.laws.specs.Lists.{at}
 use Rattle.laws.specs.Sums.{sumOver}
-use Rattle.laws.proofs.Once.{Once, member?}
-use Rattle.rules.specs.Memory.{Store, lent, pageCount, origin, statusOf}
-use Rattle.rules.specs.Words.{wordOf, rec, headOf, lengthBy, isRecord}
+use Rattle.laws.proofs.Once.{member?}
+use Rattle.rules.specs.Memory.{Store, lent, pageCount, statusOf}
+use Rattle.rules.specs.Words.{wordOf, rec, headOf, isRecord}
 use Rattle.rules.specs.Pages.{Run, begun, recordAfter, giveBackAll}
 use Rattle.rules.specs.Collection.{fromSpace}
-use Rattle.rules.proofs.Whole.{pages-of, of-pages, pages-once}
-use Rattle.facts.proofs.Steps.{Stands, Steps, steps-le, steps-same, stands-same}
-use Rattle.facts.proofs.Laid.{Owner, old, spare, beyond, mine, Like, Layout, chain-body}
+use Rattle.facts.proofs.Steps.{Stands, Steps, record-length, steps-le, steps-same, stands-same}
+use Rattle.facts.proofs.Laid.{Owner, old, spare, beyond, mine, Like, Layout}
 use Rattle.facts.proofs.Copied.{to, Rel, num, stay, went}
 use Rattle.rules.proofs.Pointers.{pointer, is-number, record-head}
 use Rattle.facts.proofs.Sound.{Within, InHeap, Good, a-number, to-heap, to-const, Chained, in-free, in-region, Sound}
-use Rattle.facts.proofs.Passing.{pages-are}
-use Rattle.facts.proofs.Framed.{below-end}
+use Rattle.facts.proofs.Passing.{from-once, of-from}
+use Rattle.facts.proofs.Framed.{below-fin}
 use Rattle.facts.proofs.Given.{spared, spared-in, spared-out, GivenAll, given-all}
 use Rattle.working.proofs.Owned.{old≢mine, mine≢beyond}
-use Rattle.working.proofs.Log.{pointers, Copy}
+use Rattle.working.proofs.Log.{pointers, Copy, of-pointers}
 use Rattle.working.proofs.Aside.{stack-laid}
-use Rattle.working.proofs.Invariant.{Ghost, Kept, filledTo, Inv}
-use Rattle.working.proofs.Evacuating.{of-pointers}
+use Rattle.working.proofs.Invariant.{Ghost, Kept, filledTo, Inv, copy-known, from-old}
 use Rattle.working.proofs.Work.{asleep, none-waits}
 use Rattle.working.proofs.Running.{Ran}
 
@@ -60,32 +58,17 @@ module _ (s : Store) (S : Sound s) (roots : List ℕ) (r : Run) (A : Ran s S roo
 
   -- ---- the pages given back
 
-  ks-once : Once ks
-  unfolding origin
-  ks-once =
-      pages-once n (s .heap) (s .table) R (λ j b. rw (pages-are s S j b) (S .laid .mine-once j b))
-      (λ j k b m. chain-body (S .laid) j k b (rw (pages-are s S j b) at m) .whose)
-      R 0 (omega arith)
-
-  in-ks : (k : ℕ) → List·Memᴰ k ks → g .own k ≡ old
-  in-ks k m =
-      let t = pages-of n (s .heap) (s .table) R 0 k m in
-      let b : t .0 < R = (let c = t .2 in omega arith) in
-      I .from-space k .1 (t .0, b, rw (pages-are s S (t .0) b) at (t .3))
-
   of-ks : (k : ℕ) → g .own k ≡ old → List·Memᴰ k ks
-  of-ks k o =
-      let t = I .from-space k .0 o in
-      of-pages n (s .heap) (s .table) R 0 (t .0) k zero-le (let c = t .1 in omega arith) (rw (pages-are s S (t .0) (t .1)) (t .2))
+  of-ks k o = let t = I .from-space k .0 o in of-from s S (t .0) k (t .1) (t .2)
 
   G : GivenAll n N R (g .own) (g .fin) (g .pages) (g .free) ks r back
-  G = given-all n N R (g .fin) (g .pages) ks ks-once (g .own) (g .free) r (I .laid) in-ks
+  G = given-all n N R (g .fin) (g .pages) ks (from-once s S) (g .own) (g .free) r (I .laid) (from-old I)
 
   abbrev own′ : ℕ → Owner
   own′ = spared (g .own) ks
 
   not-back : (k j : ℕ) → g .own k ≡ mine j → List·Memᴰ k ks → ⊥
-  not-back k j o m = old≢mine (in-ks k m) o
+  not-back k j o m = old≢mine (from-old I k m) o
 
   own-mine : (k j : ℕ) → g .own k ≡ mine j → own′ k ≡ mine j
   own-mine k j o = spared-out (g .own) ks k (not-back k j o) ∙ o
@@ -113,23 +96,14 @@ module _ (s : Store) (S : Sound s) (roots : List ℕ) (r : Run) (A : Ran s S roo
     abbrev pub C : Copy n s (Kept s) (g .own) (g .fin) (r .heap) (g .log) (g .count) a b
     C = I .logged .copies m
 
-    lo : C .into * 2 ^ n + 2 ≤ b
-    lo = steps-le (C .into-steps)
-
-    hi : b + suc (C .len) ≤ C .into * 2 ^ n + 2 ^ n
-    hi = C .into-stands .ends
-
     pub copy-word : (i : ℕ) → i ≤ C .len → at (back .heap) (b + i) ≡ at (r .heap) (b + i)
-    copy-word i q = let p = lo in let t = hi in sym (word-same (C .into) (C .region) (b + i) (C .into-mine) (omega arith) (omega arith))
+    copy-word i q = let p = steps-le (C .into-steps) in let t = C .into-stands .ends in sym (word-same (C .into) (C .region) (b + i) (C .into-mine) (omega arith) (omega arith))
 
     pub copy-steps : Steps (back .heap) (C .into * 2 ^ n + 2 ^ n) (C .into * 2 ^ n + 2) b
-    copy-steps = let t = hi in steps-same (λ x p q. word-same (C .into) (C .region) x (C .into-mine) (omega arith) (omega arith)) (C .into-steps)
+    copy-steps = let t = C .into-stands .ends in steps-same (λ x p q. word-same (C .into) (C .region) x (C .into-mine) (omega arith) (omega arith)) (C .into-steps)
 
     pub copy-stands : Stands (back .heap) (C .into * 2 ^ n + 2 ^ n) b (C .len)
-    copy-stands = let p = lo in let t = hi in stands-same (word-same (C .into) (C .region) b (C .into-mine) (omega arith) (omega arith)) (C .into-stands)
-
-    pub copy-known : C .region < R
-    copy-known = I .owned .mines (C .into) (C .region) (C .into-mine) .0
+    copy-stands = let p = steps-le (C .into-steps) in let t = C .into-stands .ends in stands-same (word-same (C .into) (C .region) b (C .into-mine) (omega arith) (omega arith)) (C .into-stands)
 
     pub copy-there : C .into < N
     copy-there = I .laid .known (C .into) (λ q. mine≢beyond (C .into-mine) q)
@@ -144,7 +118,7 @@ module _ (s : Store) (S : Sound s) (roots : List ℕ) (r : Run) (A : Ran s S roo
     pub copy-scanned : (l : ℕ) → headOf (at (r .heap) b) ≡ rec l → l ≤ g .count b
     copy-scanned =
         I .pending .scanned m (λ j jR q. let q′ : List·Memᴰ b [] = subst (List·Memᴰ b) (none-waits s S (A .end) j jR) q in elim q′ [ ])
-        (λ q. let z : none ≡ some b = sym (A .end .none-open) ∙ q in let z′ : _≡_ {A = ℕ} 0 1 = cc in omega arith)
+        (λ q. Option·none-ne-some b (sym (A .end .none-open) ∙ q))
 
     pub copy-good : InHeap n R (back .heap) b
     copy-good =
@@ -153,7 +127,7 @@ module _ (s : Store) (S : Sound s) (roots : List ℕ) (r : Run) (A : Ran s S roo
           region = C .region;
           len = C .len;
           there = rw same-count copy-there;
-          known = copy-known;
+          known = copy-known I m;
           whose = copy-whose;
           steps = copy-steps;
           stands = copy-stands;
@@ -172,12 +146,11 @@ module _ (s : Store) (S : Sound s) (roots : List ℕ) (r : Run) (A : Ran s S roo
   pub is-copy : (j k b l : ℕ) → g .own k ≡ mine j → Steps (back .heap) (k * 2 ^ n + 2 ^ n) (k * 2 ^ n + 2) b → Stands (back .heap) (k * 2 ^ n + 2 ^ n) b l
       → (a : ℕ) × List·Memᴰ (to a b) (g .log)
   is-copy j k b l o t st =
-      let B = I .laid .mine-body j k o in
       let hi = st .ends in
       let lo = steps-le t in
       let t′ : Steps (r .heap) (k * 2 ^ n + 2 ^ n) (k * 2 ^ n + 2) b = steps-same (λ x p q. sym (word-same k j x o (omega arith) (omega arith))) t in
       let st′ : Stands (r .heap) (k * 2 ^ n + 2 ^ n) b l = stands-same (sym (word-same k j b o (omega arith) (omega arith))) st in
-      let below = below-end (r .heap) (k * 2 ^ n + 2 ^ n) (k * 2 ^ n + 2) (g .fin k) (B .filled) (B .rest) t′ st′ in
+      let below = below-fin (I .laid) j k o t′ st′ in
       I .logged .every k j b o t′ (omega arith)
 
   fields-good : (j k b l i : ℕ) → j < R → List·Memᴰ k (g .pages j) → Steps (back .heap) (k * 2 ^ n + 2 ^ n) (k * 2 ^ n + 2) b → Stands (back .heap) (k * 2 ^ n + 2 ^ n) b l
@@ -189,7 +162,7 @@ module _ (s : Store) (S : Sound s) (roots : List ℕ) (r : Run) (A : Ran s S roo
       let w₀ : at (back .heap) b ≡ at (r .heap) b = ap (at (back .heap)) (omega arith) ∙ copy-word (c .0) b (c .1) 0 zero-le ∙ ap (at (r .heap)) (omega arith) in
       let h : headOf (at (back .heap) b) ≡ rec l = record-head (headOf (at (back .heap) b)) l (st .head) kind in
       let h′ : headOf (at (r .heap) b) ≡ rec l = ap headOf (sym w₀) ∙ h in
-      let e : D .len ≡ l = (let p = D .into-stands .head in let q : lengthBy (headOf (at (r .heap) b)) ≡ some l = ap lengthBy h′ in cc) in
+      let e : D .len ≡ l = record-length (D .into-stands) h′ in
       let full = copy-scanned (c .0) b (c .1) l h′ in
       rw (copy-word (c .0) b (c .1) (suc i) (omega arith)) (rel-good (D .scanned i (omega arith) (omega arith)))
 

@@ -4,12 +4,11 @@ use Prim.Native.Nat.{ℕ, suc, _+_, _*_, _^_, _<_, zero-le}
 use native.Mathlib.Nat.{add-zero}
 use native.Mathlib.Omega.{arith}
 use mathlib.Core.Path.{_≡_, refl, sym, ap, _∙_, subst}
-use mathlib.Core.Bool.{false}
+use mathlib.Core.Bool.{false, false≢true}
 use mathlib.Core.Logic.{_⊎_, inl, inr}
 use mathlib.Core.Option.{none, some}
 use mathlib.Core.List.{List, [], List·Memᴰ, List·Memᴰ·head}
-use lib.ListN.{length, take, drop, length-drop}
-use lib.Seq.{length-take-le}
+use lib.ListN.{length, take, drop}
 use Rattle.laws.specs.Lists.{at}
 use borrow.Author.Tests.{lt-leb}
 use lib.Dec.{leb}
@@ -21,21 +20,25 @@ use Rattle.rules.specs.Collection.{moveOn, moveTo, regionAt, evacuateAt, evacua
 use Rattle.rules.proofs.Chains.{page-of}
 use Rattle.rules.specs.Seen.{seen, Reached}
 use Rattle.facts.proofs.Steps.{steps-le}
-use Rattle.facts.proofs.Laid.{old, page-in}
+use Rattle.facts.proofs.Laid.{old}
 use Rattle.facts.proofs.Copied.{to, Rel, num, stay, went}
 use Rattle.rules.proofs.Pointers.{pointer, pointer-is, forward-head}
-use Rattle.facts.proofs.Sound.{InHeap, Good, a-number, to-heap, to-const, Chained, in-free, in-region, Sound}
-use Rattle.working.proofs.Owned.{old≢beyond}
-use Rattle.working.proofs.Log.{pointers}
+use Rattle.facts.proofs.Sound.{InHeap, Good, a-number, to-heap, to-const, Sound, good-page}
+use Rattle.working.proofs.Log.{pointers, in-log, in-pointers}
 use Rattle.working.proofs.Placed.{Roomed}
 use Rattle.working.proofs.Moving.{still, still-whose}
 use Rattle.rules.specs.Wanted.{anyPage, joined, roomFor, moveFor, evacuateAtFor, evacuateFor}
 use Rattle.working.proofs.Dry.{Dry, page-dry, join-dry, forward-dry}
 use Rattle.working.proofs.Invariant.{lacking-on, Ghost, Kept, Inv, later-refl, Lacking, Became}
-use Rattle.working.proofs.Evacuating.{in-log, in-pointers, room-or}
-use Rattle.working.proofs.Copying.{Uncopied, fin₂, made, made-moves}
+use Rattle.working.proofs.Evacuating.{room-or}
+use Rattle.working.proofs.Copying.{Uncopied, value-length, after, fin₂, made, made-moves}
 use Rattle.working.proofs.CopyPending.{copied, copied-later, copied-count}
 use Rattle.working.proofs.CopyInv.{copied-inv}
+
+-- a pointer to the heap
+pub evacuate-pointer : (n a : ℕ) (r : Run) → evacuate n (4 * a) r ≡ evacuateAt n a r
+unfolding evacuate
+evacuate-pointer n a r = rw (pointer a, evacuate)
 
 module _ (s : Store) (S : Sound s) (g : Ghost) (r : Run) (I : Inv s S g r) where
   abbrev n : ℕ
@@ -48,20 +51,12 @@ module _ (s : Store) (S : Sound s) (g : Ghost) (r : Run) (I : Inv s S g r) where
   R = s .ctl .regions
 
   -- nothing changes
-  stays : (w v : ℕ) → Rel (Kept s) (pointers (g .log)) w v → Became s S g r w v r
+  unfoldable pub stays : (w v : ℕ) → Rel (Kept s) (pointers (g .log)) w v → Became s S g r w v r
   stays w v rel = record { ghost = g; inv = I; later = later-refl R g r; rel = rel; count = λ q. refl }
 
   -- the page of a good pointer is an old one
   pub old-page : (a : ℕ) (x : InHeap n R (s .heap) a) → g .own (x .page) ≡ old
-  old-page a x = go (S .chained (x .page) (x .there))
-    where
-      go : Chained R (S .own) (S .pages) (S .free) (x .page) → g .own (x .page) ≡ old
-      go (in-free o m) =
-          let b = S .laid .big in
-          let z = S .laid .free-clean (x .page) o .rest (x .page * 2 ^ n + 1) (omega arith) (omega arith) in
-          let w = x .whose in
-          absurd (omega arith)
-      go (in-region j jR o m) = I .from-space (x .page) .1 (j, jR, m)
+  old-page a x = I .from-space (x .page) .1 (x .region, x .known, good-page s S a x)
 
   module _ (a : ℕ) (x : InHeap n R (s .heap) a) (reached : Reached (seen s) (s .roots) (4 * a)) where
     abbrev f : ℕ
@@ -109,28 +104,23 @@ module _ (s : Store) (S : Sound s) (g : Ghost) (r : Run) (I : Inv s S g r) where
           = still-whose n s (Kept s) (g .own) (g .fin) (r .heap) (g .log) (g .count) (I .logged) f a l (old-page a x) (x .steps) (x .stands) new ∙ x .whose in
           rw (page-of n f a (omega arith) (omega arith)) (omega arith)
 
-      pub by-head : (y : Head) → headOf (at (s .heap) a) ≡ y → lengthBy y ≡ some l → evacuateAt n a r ≡ moveTo n j a l r
+      by-head : (y : Head) → headOf (at (s .heap) a) ≡ y → lengthBy y ≡ some l → evacuateAt n a r ≡ moveTo n j a l r
       unfolding evacuateAt
       by-head (rec m) q t = let e : headOf (at (r .heap) a) ≡ rec m = ap headOf header ∙ q in let d : m ≡ l = cc in rw (e, evacuateAt, region, d)
       by-head (raw m) q t = let e : headOf (at (r .heap) a) ≡ raw m = ap headOf header ∙ q in let d : m ≡ l = cc in rw (e, evacuateAt, region, d)
-      by-head (moved m) q t = let z : _≡_ {A = ℕ} 0 1 = cc in absurd (omega arith)
-      by-head wrong q t = let z : _≡_ {A = ℕ} 0 1 = cc in absurd (omega arith)
+      by-head (moved m) q t = absurd (false≢true cc)
+      by-head wrong q t = absurd (false≢true cc)
 
-      len : length (take (suc l) (drop a (r .heap))) ≡ suc l
-      len =
-          let p = I .laid .size in
-          let q = page-in (I .laid) f (λ q. old≢beyond (old-page a x) q) in
-          let z = length-drop a (r .heap) in
-          let w = x .stands .ends in
-          length-take-le (suc l) (drop a (r .heap)) (omega arith)
+      pub head : evacuateAt n a r ≡ moveTo n j a l r
+      head = by-head (headOf (at (s .heap) a)) refl (x .stands .head)
 
       -- and so goes the working with as many pages as it wants
       by-head-for : (y : Head) → headOf (at (s .heap) a) ≡ y → lengthBy y ≡ some l → evacuateAtFor n a r ≡ moveFor n j a l r
       unfolding evacuateAtFor
       by-head-for (rec m) q t = let e : headOf (at (r .heap) a) ≡ rec m = ap headOf header ∙ q in let d : m ≡ l = cc in rw (e, evacuateAtFor, region, d)
       by-head-for (raw m) q t = let e : headOf (at (r .heap) a) ≡ raw m = ap headOf header ∙ q in let d : m ≡ l = cc in rw (e, evacuateAtFor, region, d)
-      by-head-for (moved m) q t = let z : _≡_ {A = ℕ} 0 1 = cc in absurd (omega arith)
-      by-head-for wrong q t = let z : _≡_ {A = ℕ} 0 1 = cc in absurd (omega arith)
+      by-head-for (moved m) q t = absurd (false≢true cc)
+      by-head-for wrong q t = absurd (false≢true cc)
 
       over : g .free ≡ [] → endOf (r .table) j < topOf (r .table) j + suc l → Dry (length (s .heap) + 2 ^ n) (evacuateAtFor n a r .1)
       unfolding moveFor roomFor
@@ -143,41 +133,36 @@ module _ (s : Store) (S : Sound s) (g : Ghost) (r : Run) (I : Inv s S g r) where
           let dry : Dry (length (s .heap)) r = record { first = linked-none links; count = omega arith; long = omega arith } in
           let ws : List ℕ = take (suc l) (drop a (r .heap)) in
           let test : leb (topOf (r .table) j + length (take (suc l) (drop a (r .heap)))) (endOf (r .table) j) ≡ false
-          = lt-leb (topOf (r .table) j + length (take (suc l) (drop a (r .heap)))) (endOf (r .table) j) (rw len b) in
+          = lt-leb (topOf (r .table) j + length (take (suc l) (drop a (r .heap)))) (endOf (r .table) j) (rw (value-length s S g r I value) b) in
           rw (by-head-for (headOf (at (s .heap) a)) refl (x .stands .head), test, roomFor)
           (forward-dry n (length (s .heap) + 2 ^ n) j a ws (joined n j (anyPage n j r)) (join-dry n (length (s .heap) + 2 ^ n) j (anyPage n j r) (page-dry n (length (s .heap)) j r dry)))
 
       pub no-room : room n j (suc l) r ≡ none → moveTo n j a l r ≡ none
       unfolding moveTo place moveOn
-      no-room e = let q : place n j (take (suc l) (drop a (r .heap))) r ≡ none = rw (ap (λ y. room n j y r) len ∙ e, place) in rw q
+      no-room e = let q : place n j (take (suc l) (drop a (r .heap))) r ≡ none = rw (ap (λ y. room n j y r) (value-length s S g r I value) ∙ e, place) in rw q
+
+      -- there is room
+      unfoldable pub copied-became : (r₁ : Run) (K : Roomed n N R (g .own) (g .fin) (g .pages) (g .free) r j (suc l) r₁)
+          → Became s S g r (4 * a) (4 * topOf (r₁ .table) j) (after s S g r I value r₁ K)
+      copied-became r₁ K =
+          let M = made s S g r I value r₁ K in
+          record {
+            ghost = copied g j a (topOf (r₁ .table) j) (K .own₁) (fin₂ s S g r I value r₁ K) (K .pages₁) (K .free₁);
+            inv = copied-inv s S g r I value _ _ _ _ _ _ _ M;
+            later = copied-later s S g r I value _ _ _ _ _ _ _ M;
+            rel = went (List·Memᴰ·head refl);
+            count = copied-count s S g r I value _ _ _ _ _ _ _ M;
+          }
 
       now : ((evacuateAt n a r ≡ none) × Lacking s S (evacuateAtFor n a r .1)) ⊎ ((v : ℕ) × (r′ : Run) × (evacuateAt n a r ≡ some (v, r′)) × Became s S g r (4 * a) v r′)
       now = go (room-or n N R (g .own) (g .fin) (g .pages) (g .free) r (I .laid) j (suc l) (x .known) (let lo = steps-le (x .steps) in let hi = x .stands .ends in omega arith))
         where
-          head : evacuateAt n a r ≡ moveTo n j a l r
-          head = by-head (headOf (at (s .heap) a)) refl (x .stands .head)
-
           go : ((room n j (suc l) r ≡ none) × (g .free ≡ []) × (endOf (r .table) j < topOf (r .table) j + suc l))
               ⊎ ((r₁ : Run) × (room n j (suc l) r ≡ some r₁) × Roomed n N R (g .own) (g .fin) (g .pages) (g .free) r j (suc l) r₁)
               → ((evacuateAt n a r ≡ none) × Lacking s S (evacuateAtFor n a r .1)) ⊎ ((v : ℕ) × (r′ : Run) × (evacuateAt n a r ≡ some (v, r′)) × Became s S g r (4 * a) v r′)
           go (inl u) =
               inl (head ∙ no-room (u .0), record { ghost = g; run = r; inv = I; none-free = u .1; region = j; words = suc l; known = x .known; wants = u .2; over = over (u .1) (u .2) })
-          go (inr u) =
-              let r₁ = u .0 in
-              let K = u .2 in
-              let M = made s S g r I value r₁ K in
-              inr (
-                4 * topOf (r₁ .table) j,
-                _,
-                head ∙ made-moves s S g r I value r₁ K (u .1),
-                record {
-                  ghost = copied g j a (topOf (r₁ .table) j) (K .own₁) (fin₂ s S g r I value r₁ K) (K .pages₁) (K .free₁);
-                  inv = copied-inv s S g r I value _ _ _ _ _ _ _ M;
-                  later = copied-later s S g r I value _ _ _ _ _ _ _ M;
-                  rel = went (List·Memᴰ·head refl);
-                  count = copied-count s S g r I value _ _ _ _ _ _ _ M;
-                },
-              )
+          go (inr u) = inr (_, _, head ∙ made-moves s S g r I value (u .0) (u .2) (u .1), copied-became (u .0) (u .2))
 
     pub evacuates-at : ((evacuateAt n a r ≡ none) × Lacking s S (evacuateAtFor n a r .1)) ⊎ ((v : ℕ) × (r′ : Run) × (evacuateAt n a r ≡ some (v, r′)) × Became s S g r (4 * a) v r′)
     evacuates-at = go (in-log a (g .log))
@@ -197,13 +182,10 @@ module _ (s : Store) (S : Sound s) (g : Ghost) (r : Run) (I : Inv s S g r) where
       let p : w ≡ 4 * a = pointer-is w a e in
       rw p (go (evacuates-at a x (rw p at q)))
     where
-      by : evacuate n (4 * a) r ≡ evacuateAt n a r
-      by = rw (pointer a, evacuate)
-
       by-for : evacuateFor n (4 * a) r ≡ evacuateAtFor n a r
       by-for = rw (pointer a, evacuateFor)
 
       go : ((evacuateAt n a r ≡ none) × Lacking s S (evacuateAtFor n a r .1)) ⊎ ((v : ℕ) × (r′ : Run) × (evacuateAt n a r ≡ some (v, r′)) × Became s S g r (4 * a) v r′)
           → ((evacuate n (4 * a) r ≡ none) × Lacking s S (evacuateFor n (4 * a) r .1)) ⊎ ((v : ℕ) × (r′ : Run) × (evacuate n (4 * a) r ≡ some (v, r′)) × Became s S g r (4 * a) v r′)
-      go (inl u) = inl (by ∙ u .0, lacking-on (λ d. rw by-for d) (u .1))
-      go (inr u) = inr (u .0, u .1, by ∙ u .2, u .3)
+      go (inl u) = inl (evacuate-pointer n a r ∙ u .0, lacking-on (λ d. rw by-for d) (u .1))
+      go (inr u) = inr (u .0, u .1, evacuate-pointer n a r ∙ u .2, u .3)

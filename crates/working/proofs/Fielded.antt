@@ -12,8 +12,8 @@ use Rattle.laws.specs.Lists.{at}
 use Rattle.rules.specs.Memory.{link}
 use Rattle.rules.specs.Pages.{Run, withHeap}
 use Rattle.facts.proofs.Steps.{Stands, Steps, steps-le}
-use Rattle.facts.proofs.Inside.{other-page, steps-still}
-use Rattle.facts.proofs.Laid.{mine-inj, spare≢mine, linked-same, Owner, spare, mine, Body, Like, body-like, clean-like, Layout}
+use Rattle.facts.proofs.Inside.{other-page, no-descriptor, steps-still}
+use Rattle.facts.proofs.Laid.{mine-inj, spare≢mine, Owner, mine, Body, Like, body-like, Layout, heap-laid}
 
 module _ (n N R : ℕ) (own : ℕ → Owner) (fin : ℕ → ℕ) (pages : ℕ → List ℕ) (free : List ℕ) (r : Run) (L : Layout n N R own fin pages free r)
     (k j d l i v : ℕ) (own-k : own k ≡ mine j) (at-d : Steps (r .heap) (k * 2 ^ n + 2 ^ n) (k * 2 ^ n + 2) d)
@@ -24,29 +24,19 @@ module _ (n N R : ℕ) (own : ℕ → Owner) (fin : ℕ → ℕ) (pages : ℕ �
   keep : (y : ℕ) → y ≢ d + suc i → at (r .heap) y ≡ at h′ y
   keep y ne = sym (getD-set-other (r .heap) (d + suc i) y v 0 ne)
 
-  lo : k * 2 ^ n + 2 ≤ d
-  lo = steps-le at-d
-
   body : Body n (r .heap) k j (fin k)
   body = L .mine-body j k own-k
 
-  abbrev far : (m y : ℕ) → m ≢ k → m * 2 ^ n ≤ y → y < m * 2 ^ n + 2 ^ n → y ≢ d + suc i
-  far = other-page n (r .heap) k d l i at-d st i-in
-
   links : (m : ℕ) → link n (r .heap) m ≡ link n h′ m
   unfolding link
-  links m = keep (m * 2 ^ n) (go (ℕ-discrete m k))
-    where
-      go : Dec (m ≡ k) → m * 2 ^ n ≢ d + suc i
-      go (yes e) = let q : m * 2 ^ n ≡ k * 2 ^ n = ap (λ x. x * 2 ^ n) e in let a = lo in omega arith
-      go (no ne) = let b = L .big in far m (m * 2 ^ n) ne (le-refl _) (omega arith)
+  links m = let b = L .big in keep (m * 2 ^ n) (no-descriptor n (r .heap) k d l i at-d st i-in m (m * 2 ^ n) (omega arith) (le-refl _) (omega arith))
 
   like : (m : ℕ) → m ≢ k → Like n (r .heap) h′ m
-  like m ne = record { word = λ y p q. keep y (far m y ne (omega arith) q) }
+  like m ne = record { word = λ y p q. keep y (other-page n (r .heap) k d l i at-d st i-in m y ne (omega arith) q) }
 
   body′ : Body n h′ k j (fin k)
   body′ =
-      let a = lo in
+      let a = steps-le at-d in
       record {
         whose = sym (keep (k * 2 ^ n + 1) (omega arith)) ∙ body .whose;
         filled = steps-still n (r .heap) k d l i at-d st i-in h′ keep k (fin k) (body .filled) (body .inside);
@@ -61,25 +51,7 @@ module _ (n N R : ℕ) (own : ℕ → Owner) (fin : ℕ → ℕ) (pages : ℕ �
       go (yes e) = let q : m ≡ j = mine-inj (sym o ∙ ap own e ∙ own-k) in rw (e, q) body′
       go (no ne) = let b = L .big in body-like (omega arith) (like t ne) (L .mine-body m t o)
 
-  spare-not : (m : ℕ) → own m ≡ spare → m ≢ k
-  spare-not m o e = spare≢mine o (ap own e ∙ own-k)
-
   pub field-laid : Layout n N R own fin pages free (withHeap r (set (r .heap) (d + suc i) v))
   field-laid =
-      record {
-        size = length-set (r .heap) (d + suc i) v ∙ L .size;
-        big = L .big;
-        rows = L .rows;
-        known = L .known;
-        free-own = L .free-own;
-        free-once = L .free-once;
-        free-links = linked-same (λ m p. links m) (L .free-links);
-        free-last = L .free-last;
-        free-count = L .free-count;
-        free-clean = λ m o. clean-like (like m (spare-not m o)) (L .free-clean m o);
-        mine-own = L .mine-own;
-        mine-once = L .mine-once;
-        mine-links = λ m p. let t = L .mine-links m p in (t .0, t .1, linked-same (λ x q. links x) (t .2));
-        mine-body = bodies;
-        mine-top = L .mine-top;
-      }
+      heap-laid L (set (r .heap) (d + suc i) v) (length-set (r .heap) (d + suc i) v) (λ m ne. links m)
+      (λ m o. like m (λ e. spare≢mine o (ap own e ∙ own-k))) bodies

@@ -1,10 +1,11 @@
 -- One field of a copy set: the invariant after it. No header changes, so every row stays; only how many of the copy's fields are scanned does.
 use Prim.Native.Nat.{ℕ, suc, _+_, _*_, _^_, _<_}
 use native.Mathlib.Omega.{arith}
-use mathlib.Core.Path.{_≡_, sym, ap, _∙_}
+use mathlib.Core.Path.{_≡_, refl, sym, ap, _∙_}
 use mathlib.Core.Logic.{_≢_}
 use mathlib.Core.Option.{some}
 use mathlib.Core.List.{List·Memᴰ}
+use mathlib.Core.Bool.{false≢true}
 use lib.ListN.{length, set}
 use lib.Seq.{getD-set-other}
 use Rattle.laws.specs.Lists.{at}
@@ -21,7 +22,7 @@ use Rattle.working.proofs.Log.{pointers, Copy}
 use Rattle.working.proofs.Scanned.{scanned-log}
 use Rattle.working.proofs.Fielded.{field-laid}
 use Rattle.working.proofs.Rows.{row-in, row-headers}
-use Rattle.working.proofs.Invariant.{Ghost, Kept, Waits, Pending, Inv}
+use Rattle.working.proofs.Invariant.{Ghost, Kept, waits-still, Pending, Inv}
 
 -- i fields of the copy at d are scanned
 abbrev pub counted : Ghost → ℕ → ℕ → Ghost
@@ -77,9 +78,6 @@ module _ (s : Store) (S : Sound s) (g : Ghost) (r : Run) (I : Inv s S g r) (c d 
   P : Pending n R g r
   P = I .pending
 
-  waits : (t : _) → Waits R g (r .table) t → Waits R (counted g d (suc i)) (r .table) t
-  waits t W = record { known = W .known; awake = W .awake; other = W .other; rest = W .rest; begins = W .begins }
-
   pending : Pending n R (counted g d (suc i)) r′
   pending =
       record {
@@ -93,9 +91,9 @@ module _ (s : Store) (S : Sound s) (g : Ghost) (r : Run) (I : Inv s S g r) (c d 
             let D = I .logged .copies q in
             let e′ : headOf (at (r .heap) b) ≡ raw l = ap headOf (keep b (not-there (D .into) b (D .len) (D .into-steps) (D .into-stands))) ∙ e in
             upd-other (g .count) d (suc i) b
-            (λ t. let z : rec kind ≡ raw l = sym head ∙ ap (λ y. headOf (at (r .heap) y)) (sym t) ∙ e′ in let z′ : _≡_ {A = ℕ} 0 1 = cc in omega arith)
+            (λ t. let z : rec kind ≡ raw l = sym head ∙ ap (λ y. headOf (at (r .heap) y)) (sym t) ∙ e′ in false≢true cc)
             ∙ P .raws q l e′;
-        stacked = λ t q. waits t (P .stacked t q);
+        stacked = λ t q. waits-still t refl refl (P .stacked t q);
         once = P .once;
         at-work = P .at-work;
         idle = P .idle;

@@ -8,7 +8,7 @@ use mathlib.Core.Option.{none, some}
 use mathlib.Core.List.{List, [], _∷_, List·Memᴰ·head}
 use lib.ListN.{length}
 use Rattle.laws.specs.Lists.{at}
-use Rattle.laws.proofs.Once.{only, Linked, linked-none, linked-first}
+use Rattle.laws.proofs.Once.{Linked, linked-none, linked-first}
 use Rattle.rules.specs.Memory.{Store, pageCount, pageEnd, pageAddress, bodyAddress, link, statusOf, setRow}
 use Rattle.rules.specs.Pages.{Run, withTable, takePage}
 use Rattle.rules.specs.Collection.{freshen}

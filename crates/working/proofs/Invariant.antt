@@ -13,12 +13,14 @@ use Rattle.laws.specs.Sums.{sumOver}
 use Rattle.laws.proofs.Once.{Once}
 use Rattle.rules.specs.Memory.{Store, pageCount, bodyAddress, endOf, topOf, statusOf}
 use Rattle.rules.specs.Words.{inConst, wordOf, rec, raw, headOf}
-use Rattle.rules.specs.Pages.{Scan, Run}
+use Rattle.rules.specs.Pages.{Scan, Run, withTable, withStack}
 use Rattle.rules.specs.Seen.{seen, wordsAt}
-use Rattle.facts.proofs.Laid.{Owner, old, Layout}
+use Rattle.rules.specs.Collection.{fromSpace}
+use Rattle.facts.proofs.Laid.{Owner, old, Layout, page-in, rows-laid}
 use Rattle.facts.proofs.Copied.{Moved, to, Rel}
 use Rattle.facts.proofs.Sound.{InConst, Sound}
-use Rattle.working.proofs.Owned.{Owned, total}
+use Rattle.facts.proofs.Passing.{in-from}
+use Rattle.working.proofs.Owned.{Owned, total, old≢beyond}
 use Rattle.working.proofs.Log.{pointers, olds, Log}
 use Rattle.working.proofs.Next.{Row}
 use Rattle.working.proofs.Dry.{Dry}
@@ -59,6 +61,10 @@ pub record Waits (R : ℕ) (g : Ghost) (table : List ℕ) (t : Scan) : Type 0 wh
   pub rest : List ℕ
   pub begins : g .todo (t .region) ≡ t .address ∷ rest
 
+-- it waits as well where the same region is being scanned and the same values wait
+pub waits-still : {R : ℕ} {g g′ : Ghost} {table : List ℕ} (t : Scan) → g′ .cur ≡ g .cur → g′ .todo (t .region) ≡ g .todo (t .region) → Waits R g table t → Waits R g′ table t
+waits-still t e q W = record { known = W .known; awake = W .awake; other = λ p. W .other (sym e ∙ p); rest = W .rest; begins = q ∙ W .begins }
+
 -- what is still to be scanned
 pub record Pending (n R : ℕ) (g : Ghost) (r : Run) : Type 0 where
   pub rows : (j : ℕ) → j < R → Row n (r .heap) (g .fin) (g .pages j) (g .past j ++ g .todo j)
@@ -91,6 +97,19 @@ pub record Inv (s : Store) (S : Sound s) (g : Ghost) (r : Run) : Type 0 where
   pub width : length (r .table) ≡ 256
   pub past-rows : (x : ℕ) → 4 * s .ctl .regions ≤ x → at (r .table) x ≡ at (s .table) x
 
+module _ {s : Store} {S : Sound s} {g : Ghost} {r : Run} (I : Inv s S g r) where
+  -- an old page lies in the heap as it was
+  pub old-in : (k : ℕ) → g .own k ≡ old → k * 2 ^ s .ctl .n + 2 ^ s .ctl .n ≤ length (s .heap)
+  old-in k o = let a = S .laid .size in let b = I .laid .size in let c = page-in (I .laid) k (old≢beyond o) in omega arith
+
+  -- the old pages are the regions' pages of before, in their order
+  pub from-old : (k : ℕ) → List·Memᴰ k (fromSpace s) → g .own k ≡ old
+  from-old k m = I .from-space k .1 (in-from s S k m)
+
+  -- a copy's region is one of the heap's
+  pub copy-known : {a b : ℕ} (m : List·Memᴰ (to a b) (g .log)) → I .logged .copies m .region < s .ctl .regions
+  copy-known m = let C = I .logged .copies m in I .owned .mines (C .into) (C .region) (C .into-mine) .0
+
 -- the same copies; what is scanned, what waits and what is being scanned are told anew
 abbrev pub waiting : Ghost → (ℕ → List ℕ) → (ℕ → List ℕ) → Option ℕ → Option ℕ → Ghost
 waiting g past todo cur half =
@@ -107,20 +126,27 @@ waiting g past todo cur half =
       half = half;
     }
 
-pub waiting-inv : {s : Store} {S : Sound s} {g : Ghost} {r : Run} {past todo : ℕ → List ℕ} {cur half : Option ℕ} → Inv s S g r
-    → Pending (s .ctl .n) (s .ctl .regions) (waiting g past todo cur half) r → Inv s S (waiting g past todo cur half) r
-waiting-inv I P =
+-- the table may have other statuses, and the scan stack is any
+pub waiting-on : {s : Store} {S : Sound s} {g : Ghost} {r : Run} {past todo : ℕ → List ℕ} {cur half : Option ℕ} (t : List ℕ) (stack : List Scan) → Inv s S g r
+    → length t ≡ length (r .table) → ((x : ℕ) → 4 * s .ctl .regions ≤ x → at t x ≡ at (r .table) x)
+    → ((i x : ℕ) → i < s .ctl .regions → 4 * i ≤ x → x < 4 * i + 3 → at t x ≡ at (r .table) x)
+    → Pending (s .ctl .n) (s .ctl .regions) (waiting g past todo cur half) (withStack (withTable r t) stack) → Inv s S (waiting g past todo cur half) (withStack (withTable r t) stack)
+waiting-on {s} t stack I long past rows P =
     record {
-      laid = I .laid;
+      laid = rows-laid (I .laid) (s .ctl .regions) (le-refl _) t stack (rw long (I .laid .rows)) rows;
       logged = I .logged;
       pending = P;
       from-space = I .from-space;
       owned = I .owned;
       tallied = I .tallied;
       taken = I .taken;
-      width = I .width;
-      past-rows = I .past-rows;
+      width = long ∙ I .width;
+      past-rows = λ x b. past x b ∙ I .past-rows x b;
     }
+
+pub waiting-inv : {s : Store} {S : Sound s} {g : Ghost} {r : Run} {past todo : ℕ → List ℕ} {cur half : Option ℕ} (stack : List Scan) → Inv s S g r
+    → Pending (s .ctl .n) (s .ctl .regions) (waiting g past todo cur half) (withStack r stack) → Inv s S (waiting g past todo cur half) (withStack r stack)
+waiting-inv {r = r} stack I P = waiting-on (r .table) stack I refl (λ x b. refl) (λ i x b lo hi. refl) P
 
 -- ---- one state and a later one
 

@@ -6,15 +6,15 @@ use mathlib.Core.Path.{_≡_, refl, sym, ap, _∙_}
 use mathlib.Core.Logic.{_≢_, _⊎_, inl, inr}
 use mathlib.Core.Option.{Option, none, some}
 use mathlib.Core.List.{List, [], _∷_, List·Memᴰ, List·Memᴰ·head, List·Memᴰ·tail, List·Memᴰ·cases-cons}
+use mathlib.Core.Bool.{false≢true}
 use lib.ListN.{length-set}
 use lib.Seq.{getD-set-same, getD-set-other}
 use Rattle.laws.specs.Lists.{at}
 use Rattle.laws.proofs.Once.{Once, once-none, once-tail, once-head}
-use Rattle.rules.specs.Memory.{Store, pageCount, statusOf, setStatus}
+use Rattle.rules.specs.Memory.{Store, statusOf, setStatus}
 use Rattle.rules.specs.Pages.{Scan, Run, withTable, withStack}
 use Rattle.facts.proofs.Sound.{Sound}
-use Rattle.working.proofs.Aside.{status-laid}
-use Rattle.working.proofs.Invariant.{waiting, Ghost, regionsOf, Waits, Pending, Inv}
+use Rattle.working.proofs.Invariant.{waiting, waiting-on, Ghost, regionsOf, Waits, Pending, Inv}
 use Rattle.working.proofs.Waking.{in-regions}
 
 -- another region is scanned, or none
@@ -29,9 +29,16 @@ top-or-rest t ts i m = go (List·Memᴰ·cases-cons m)
     go (inl q) = inr (ap some (sym q))
     go (inr m) = inl m
 
+-- the region taken is on the stack no more
+pub top-once : (t : Scan) (ts : List Scan) → Once (regionsOf (t ∷ ts)) → (u : Scan) → List·Memᴰ u ts → some (t .region) ≢ some (u .region)
+top-once t ts o u m q = once-head o (rw (let z : t .region ≡ u .region = cc in z) (in-regions m))
+
 -- region j left
 abbrev pub left : ℕ → List Scan → Run → Run
 left j stack r = withStack (withTable r (setStatus (r .table) j 0)) stack
+
+pub left-empty : (j : ℕ) (r : Run) → r .stack ≡ [] → left j [] r ≡ withTable r (setStatus (r .table) j 0)
+left-empty j r e = ap (λ st. left j st r) (sym e)
 
 module _ (s : Store) (S : Sound s) (g : Ghost) (r : Run) (I : Inv s S g r) (j : ℕ) (cur : g .cur ≡ some j) (none-left : g .todo j ≡ []) where
   abbrev n : ℕ
@@ -93,29 +100,20 @@ module _ (s : Store) (S : Sound s) (g : Ghost) (r : Run) (I : Inv s S g r) (j : 
     pub left-inv : Inv s S (scanning g c) (left j st r)
     left-inv =
         let a = jR in
-        record {
-          laid = status-laid n (pageCount n (s .heap)) R (g .own) (g .fin) (g .pages) (g .free) r (I .laid) j 0 st;
-          logged = I .logged;
-          pending = left-pending;
-          from-space = I .from-space;
-          owned = I .owned;
-          tallied = I .tallied;
-          taken = I .taken;
-          width = length-set (r .table) (4 * j + 3) 0 ∙ I .width;
-          past-rows = λ x q. getD-set-other (r .table) (4 * j + 3) x 0 0 (omega arith) ∙ I .past-rows x q;
-        }
+        let else : (x : ℕ) → x ≢ 4 * j + 3 → at (setStatus (r .table) j 0) x ≡ at (r .table) x = λ x ne. getD-set-other (r .table) (4 * j + 3) x 0 0 ne in
+        waiting-on (setStatus (r .table) j 0) st I (length-set (r .table) (4 * j + 3) 0) (λ x q. else x (omega arith)) (λ i x b lo hi. else x (omega arith)) left-pending
 
   -- the stack is empty
   pub left-last : r .stack ≡ [] → Inv s S (scanning g none) (left j [] r)
   left-last e =
       left-inv none [] (λ t m. elim m [ ]) once-none (λ t m. elim m [ ])
-      (λ i q. let z : _≡_ {A = ℕ} 0 1 = cc in absurd (omega arith)) (λ i m. inl (rw e at m))
+      (λ i q. absurd (false≢true cc)) (λ i m. inl (rw e at m))
 
   -- the region on top is next
   pub left-next : (t : Scan) (ts : List Scan) → r .stack ≡ t ∷ ts → Inv s S (scanning g (some (t .region))) (left j ts r)
   left-next t ts e =
       left-inv (some (t .region)) ts (λ u m. rw e (List·Memᴰ·tail m)) (once-tail (rw e at (P .once)))
-      (λ u m q. once-head (rw e at (P .once)) (rw (let z : t .region ≡ u .region = cc in z) (in-regions m)))
+      (top-once t ts (rw e at (P .once)))
       (λ i q. let z : t .region ≡ i = cc in rw (← z) (top .known, top .awake, not-own t (rw e (List·Memᴰ·head refl))))
       (λ i m. top-or-rest t ts i (rw e at m))
     where

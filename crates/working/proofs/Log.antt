@@ -7,13 +7,13 @@ use native.Mathlib.Decide.{ℕ-discrete}
 use mathlib.Core.Path.{_≡_, refl, sym, ap, _∙_}
 use mathlib.Core.Logic.{_≢_, _↔_, _⊎_, inl, inr}
 use mathlib.Core.Option.{none}
-use mathlib.Core.List.{List, [], _∷_, List·Memᴰ, List·Memᴰ·head, List·Memᴰ·tail, List·Memᴰ·cases-cons}
+use mathlib.Core.List.{List, [], _∷_, List·Memᴰ, List·Memᴰ·head, List·Memᴰ·tail, List·Memᴰ·cases-cons, List·Memᴰ·not-nil}
 use Rattle.rules.specs.Memory.{Store}
 use Rattle.laws.specs.Lists.{at}
 use Rattle.rules.specs.Seen.{seen, Reached}
 use Rattle.laws.proofs.Lists.{one-part}
 use Rattle.facts.proofs.Steps.{Stands, Steps, steps-le, steps-same, stands-same, apart}
-use Rattle.laws.proofs.Once.{Once, once-more}
+use Rattle.laws.proofs.Once.{Once, once-more, member?}
 use Rattle.facts.proofs.Laid.{upd, upd-same, upd-other, Owner, old, mine}
 use Rattle.facts.proofs.Copied.{Moved, to, Rel, num, stay, went}
 
@@ -38,6 +38,44 @@ in-olds {a} (x ∷ xs) m = go (List·Memᴰ·cases-cons m) (λ p. in-olds xs p)
 pub olds-in : {a b : ℕ} {log : List Moved} → List·Memᴰ (to a b) log → List·Memᴰ a (olds log)
 olds-in (List·Memᴰ·head e) = List·Memᴰ·head (ap (λ (x : Moved). x .old) e)
 olds-in (List·Memᴰ·tail m) = List·Memᴰ·tail (olds-in m)
+
+-- the log has an entry of a, or none
+pub in-log : (a : ℕ) (log : List Moved) → ((b : ℕ) × List·Memᴰ (to a b) log) ⊎ ((b : ℕ) → List·Memᴰ (to a b) log → ⊥)
+in-log a log = go (member? a (olds log))
+  where
+    go : Dec (List·Memᴰ a (olds log)) → ((b : ℕ) × List·Memᴰ (to a b) log) ⊎ ((b : ℕ) → List·Memᴰ (to a b) log → ⊥)
+    go (yes m) = inl (in-olds log m)
+    go (no ne) = inr (λ b m. ne (olds-in m))
+
+-- the log's words are the pointers to its addresses
+pub in-pointers : {a b : ℕ} (ms : List Moved) → List·Memᴰ (to a b) ms → List·Memᴰ (to (4 * a) (4 * b)) (pointers ms)
+in-pointers [] m = absurd (List·Memᴰ·not-nil m)
+in-pointers {a} {b} (x ∷ ms) m = go (List·Memᴰ·cases-cons m) (λ p. in-pointers ms p)
+  where
+    go : (to a b ≡ x) ⊎ List·Memᴰ (to a b) ms → (List·Memᴰ (to a b) ms → List·Memᴰ (to (4 * a) (4 * b)) (pointers ms)) → List·Memᴰ (to (4 * a) (4 * b)) (pointers (x ∷ ms))
+    go (inl e) rest = List·Memᴰ·head (ap (λ (y : Moved). to (4 * y .old) (4 * y .new)) e)
+    go (inr p) rest = List·Memᴰ·tail (rest p)
+
+pub of-pointers : {v w : ℕ} (ms : List Moved) → List·Memᴰ (to v w) (pointers ms) → (a : ℕ) × (b : ℕ) × (v ≡ 4 * a) × (w ≡ 4 * b) × List·Memᴰ (to a b) ms
+of-pointers [] m = absurd (List·Memᴰ·not-nil m)
+of-pointers {v} {w} (x ∷ ms) m = go (List·Memᴰ·cases-cons m) (λ p. of-pointers ms p)
+  where
+    go : (to v w ≡ to (4 * x .old) (4 * x .new)) ⊎ List·Memᴰ (to v w) (pointers ms)
+        → (List·Memᴰ (to v w) (pointers ms) → (a : ℕ) × (b : ℕ) × (v ≡ 4 * a) × (w ≡ 4 * b) × List·Memᴰ (to a b) ms)
+        → (a : ℕ) × (b : ℕ) × (v ≡ 4 * a) × (w ≡ 4 * b) × List·Memᴰ (to a b) (x ∷ ms)
+    go (inl e) rest = (x .old, x .new, ap (λ (y : Moved). y .old) e, ap (λ (y : Moved). y .new) e, List·Memᴰ·head refl)
+    go (inr p) rest = let t = rest p in (t .0, t .1, t .2, t .3, List·Memᴰ·tail (t .4))
+
+-- a longer log relates what a shorter one does
+pub rel-grows : {kept : ℕ → Type 0} (log log′ : List Moved) → ((m : Moved) → List·Memᴰ m log → List·Memᴰ m log′) → {v w : ℕ} → Rel kept (pointers log) v w → Rel kept (pointers log′) v w
+rel-grows log log′ grew (num n) = num n
+rel-grows log log′ grew (stay k) = stay k
+rel-grows log log′ grew {v} {w} (went m) =
+    let t = of-pointers log m in
+    went (go (t .0) (t .1) (t .2) (t .3) (t .4))
+  where
+    go : (a b : ℕ) → v ≡ 4 * a → w ≡ 4 * b → List·Memᴰ (to a b) log → List·Memᴰ (to v w) (pointers log′)
+    go a b p q t = rw (p, q) (in-pointers log′ (grew (to a b) t))
 
 -- the entry m: where the value stood, where its copy stands, and what the copy holds. (kept: the pointers that stay.)
 pub record Copy (n : ℕ) (s : Store) (kept : ℕ → Type 0) (own : ℕ → Owner) (fin : ℕ → ℕ) (h : List ℕ) (log : List Moved) (done : ℕ → ℕ) (a b : ℕ) : Type 0 where
@@ -89,12 +127,6 @@ pub record Evacuated (n : ℕ) (s : Store) (own own′ : ℕ → Owner) (fin fin
   pub words : (i : ℕ) → i ≤ l → at h′ (b + i) ≡ at (s .heap) (a + i)
   pub forward : at h′ a ≡ 4 * b
 
--- a longer log relates what a shorter one does
-pub rel-more : {kept : ℕ → Type 0} (log : List Moved) (m : Moved) {v w : ℕ} → Rel kept (pointers log) v w → Rel kept (pointers (m ∷ log)) v w
-rel-more log m (num n) = num n
-rel-more log m (stay k) = stay k
-rel-more log m (went q) = went (List·Memᴰ·tail q)
-
 module _ (n : ℕ) (s : Store) (kept : ℕ → Type 0) (own own′ : ℕ → Owner) (fin fin′ : ℕ → ℕ) (h h′ : List ℕ) (log : List Moved) (done : ℕ → ℕ)
     (j l a b f p : ℕ) (L : Log n s kept own fin h log done) (E : Evacuated n s own own′ fin fin′ h h′ j l a b f p)
     (new : (c : ℕ) → List·Memᴰ (to a c) log → ⊥) (reached : Reached (seen s) (s .roots) (4 * a)) where
@@ -122,7 +154,7 @@ module _ (n : ℕ) (s : Store) (kept : ℕ → Type 0) (own own′ : ℕ → Own
         into-below = let g = E .grows (C .into) (C .region) (C .into-mine) in omega arith;
         head = sym (same d lo (omega arith)) ∙ C .head;
         forward = E .old-words (C .from) c (C .from-old) (omega arith) (omega arith) nc ∙ C .forward;
-        scanned = λ i q t. rw (← same (d + suc i) (omega arith) (omega arith)) (rel-more log (to a b) (C .scanned i q (rw (upd-other done b 0 d nd) at t)));
+        scanned = λ i q t. rw (← same (d + suc i) (omega arith) (omega arith)) (rel-grows log (to a b ∷ log) (λ m. List·Memᴰ·tail) (C .scanned i q (rw (upd-other done b 0 d nd) at t)));
         waiting = λ i q t. sym (same (d + suc i) (omega arith) (omega arith)) ∙ C .waiting i q (rw (upd-other done b 0 d nd) at t);
       }
 
@@ -130,25 +162,18 @@ module _ (n : ℕ) (s : Store) (kept : ℕ → Type 0) (own own′ : ℕ → Own
   pub other-place : {c d : ℕ} → Copy n s kept own fin h log done c d → d ≢ b
   other-place {c} {d} C q = go (ℕ-discrete (C .into) p)
     where
-      lo : C .into * 2 ^ n + 2 ≤ d
-      lo = steps-le (C .into-steps)
-
-      hi : d + suc (C .len) ≤ C .into * 2 ^ n + 2 ^ n
-      hi = C .into-stands .ends
-
-      lo′ : p * 2 ^ n + 2 ≤ b
-      lo′ = steps-le (E .b-steps)
-
-      hi′ : b + suc l ≤ p * 2 ^ n + 2 ^ n
-      hi′ = E .b-stands .ends
-
       here-too : C .into ≡ p → ((own p ≡ mine j) × (fin p ≡ b)) ⊎ ((b ≡ p * 2 ^ n + 2) × ((i : ℕ) → own p ≢ mine i)) → ⊥
       here-too e (inl t) = let x = C .into-below in let y : fin (C .into) ≡ fin p = ap fin e in let z = t .1 in omega arith
       here-too e (inr t) = t .1 (C .region) (ap own (sym e) ∙ C .into-mine)
 
       go : Dec (C .into ≡ p) → ⊥
       go (yes e) = here-too e (E .b-fresh)
-      go (no ne) = let w = lo in let x = hi in let y = lo′ in let z = hi′ in one-part (2 ^ n) (C .into) p d ne (omega arith) (omega arith) (omega arith) (omega arith)
+      go (no ne) =
+          let w = steps-le (C .into-steps) in
+          let x = C .into-stands .ends in
+          let y = steps-le (E .b-steps) in
+          let z = E .b-stands .ends in
+          one-part (2 ^ n) (C .into) p d ne (omega arith) (omega arith) (omega arith) (omega arith)
 
   new-copy : Copy n s kept own′ fin′ h′ (to a b ∷ log) (upd done b 0) a b
   new-copy =

@@ -7,15 +7,15 @@ use native.Mathlib.Decide.{ℕ-discrete}
 use mathlib.Core.Path.{_≡_, refl, sym, ap, _∙_, subst}
 use mathlib.Core.Logic.{_≢_, _⊎_, inl, inr}
 use mathlib.Core.List.{List, List·Memᴰ}
-use lib.ListN.{length, set, take, drop, length-drop}
-use lib.Seq.{getD-set-same, getD-set-other, length-take-le, getD-take, getD-drop}
+use lib.ListN.{length, set, take, drop}
+use lib.Seq.{getD-set-same, getD-set-other}
 use Rattle.rules.specs.Words.{headOf, lengthBy}
 use Rattle.rules.specs.Memory.{Store, endOf, topOf}
 use Rattle.laws.specs.Lists.{at, put}
 use Rattle.rules.specs.Pages.{Run}
-use Rattle.laws.proofs.Lists.{one-part, starts-differ, put-elsewhere, length-put, at-put-below, at-put-in}
+use Rattle.laws.proofs.Lists.{one-part, starts-differ, put-elsewhere, length-put, at-put-below, at-put-in, word-in}
 use Rattle.facts.proofs.Steps.{Stands, Steps, steps-le, steps-same, apart}
-use Rattle.facts.proofs.Laid.{old≢spare, old≢mine, old≢beyond, spare≢mine, mine≢beyond, upd, upd-same, upd-other, last-in, Owner, old, spare, mine, Body, Layout, Value, page-in}
+use Rattle.facts.proofs.Laid.{old≢spare, old≢beyond, spare≢mine, mine≢beyond, upd, upd-same, upd-other, Owner, old, spare, mine, Body, Layout, Value, page-in, words-in, old-mine-apart, last-own, last-low, top-in-heap}
 use Rattle.facts.proofs.Copied.{Moved, to}
 use Rattle.working.proofs.Log.{Log, Evacuated}
 use Rattle.working.proofs.Placed.{Roomed}
@@ -57,26 +57,14 @@ module _ (n N R : ℕ) (s : Store) (kept : ℕ → Type 0) (own : ℕ → Owner)
   abbrev ws : List ℕ
   ws = take (suc l) (drop a (r .heap))
 
-  a-lo : f * 2 ^ n + 2 ≤ a
-  a-lo = steps-le at-a
-
-  a-hi : a + suc l ≤ f * 2 ^ n + 2 ^ n
-  a-hi = st .ends
-
-  f-in : f * 2 ^ n + 2 ^ n ≤ length (r .heap)
-  f-in = page-in L f (λ q. old≢beyond o q)
-
-  pub len : length ws ≡ suc l
-  len = let x = f-in in let y = a-hi in let z = length-drop a (r .heap) in length-take-le (suc l) (drop a (r .heap)) (omega arith)
-
   word : (i : ℕ) → i ≤ l → at ws i ≡ at (s .heap) (a + i)
-  word i b = getD-take (suc l) (drop a (r .heap)) i 0 (omega arith) ∙ getD-drop a (r .heap) i 0 ∙ still n s kept own fin (r .heap) log done G f a l o at-a st new i b
+  word i b = word-in (r .heap) a (suc l) i (omega arith) ∙ still n s kept own fin (r .heap) log done G f a l o at-a st new i b
 
   pub val : Value ws l
-  val = record { head = ap (λ w. lengthBy (headOf w)) (word 0 zero-le ∙ ap (at (s .heap)) (add-zero a)) ∙ st .head; size = len }
+  val = record { head = ap (λ w. lengthBy (headOf w)) (word 0 zero-le ∙ ap (at (s .heap)) (add-zero a)) ∙ st .head; size = words-in L f a l (old≢beyond o) st }
 
   pub fits : topOf (r₁ .table) j + length ws ≤ endOf (r₁ .table) j
-  fits = let x = M .fits in let y = len in omega arith
+  fits = let x = M .fits in let y = val .size in omega arith
 
   abbrev p : ℕ
   p = M .laid .mine-top j jR .0
@@ -91,35 +79,32 @@ module _ (n N R : ℕ) (s : Store) (kept : ℕ → Type 0) (own : ℕ → Owner)
   e-is = M .laid .mine-top j jR .2
 
   own-p : M .own₁ p ≡ mine j
-  own-p = M .laid .mine-own j p jR (last-in (M .laid .mine-top j jR .1))
+  own-p = last-own (M .laid) j jR
 
   body : Body n (r₁ .heap) p j (M .fin₁ p)
   body = M .laid .mine-body j p own-p
 
   b-lo : p * 2 ^ n + 2 ≤ b
-  b-lo = let x = steps-le (body .filled) in let y = b-is in omega arith
+  b-lo = last-low (M .laid) j jR
 
   b-hi : b + suc l ≤ p * 2 ^ n + 2 ^ n
-  b-hi = let x = fits in let y = len in let z = e-is in omega arith
-
-  p-in : p * 2 ^ n + 2 ^ n ≤ length (r₁ .heap)
-  p-in = page-in (M .laid) p (λ q. mine≢beyond own-p q)
+  b-hi = let x = fits in let y = val .size in let z = e-is in omega arith
 
   b-in : b + length ws ≤ length (r₁ .heap)
-  b-in = let x = p-in in let y = b-hi in let z = len in omega arith
+  b-in = top-in-heap (M .laid) j jR (length ws) fits
 
   abbrev h′ : List ℕ
   h′ = set (put (r₁ .heap) b ws) a (4 * b)
 
   -- page f is no page of the region
   far : (k x : ℕ) → k ≢ f → k * 2 ^ n ≤ x → x < k * 2 ^ n + 2 ^ n → x ≢ a
-  far k x ne q t e = let y = a-lo in let z = a-hi in one-part (2 ^ n) k f x ne q t (omega arith) (omega arith)
+  far k x ne q t e = let y = steps-le at-a in let z = st .ends in one-part (2 ^ n) k f x ne q t (omega arith) (omega arith)
 
   f≢p : f ≢ p
-  f≢p e = old≢mine (M .old-kept f .0 o) (ap (M .own₁) e ∙ own-p)
+  f≢p = old-mine-apart (M .own₁) (M .old-kept f .0 o) own-p
 
   elsewhere : (k x : ℕ) → k ≢ p → k * 2 ^ n ≤ x → x < k * 2 ^ n + 2 ^ n → at (put (r₁ .heap) b ws) x ≡ at (r₁ .heap) x
-  elsewhere k x ne q t = let y = b-lo in let z = b-hi in let w = len in put-elsewhere (2 ^ n) (r₁ .heap) p b ws k x b-in (omega arith) (omega arith) ne q t
+  elsewhere k x ne q t = let y = b-lo in let z = b-hi in let w = val .size in put-elsewhere (2 ^ n) (r₁ .heap) p b ws k x b-in (omega arith) (omega arith) ne q t
 
   unset : (x : ℕ) → x ≢ a → at h′ x ≡ at (put (r₁ .heap) b ws) x
   unset x ne = getD-set-other (put (r₁ .heap) b ws) a x (4 * b) 0 ne
@@ -146,8 +131,7 @@ module _ (n N R : ℕ) (s : Store) (kept : ℕ → Type 0) (own : ℕ → Owner)
   mine-words : (k i x : ℕ) → own k ≡ mine i → k * 2 ^ n + 2 ≤ x → x < fin k → at h′ x ≡ at (r .heap) x
   mine-words k i x q t u =
       let top = L .mine-body i k q .inside in
-      let k≢f : k ≢ f = λ e. old≢mine o (ap own (sym e) ∙ q) in
-      unset x (far k x k≢f (omega arith) (omega arith)) ∙ go (ℕ-discrete k p)
+      unset x (far k x (λ e. old-mine-apart own o q (sym e)) (omega arith) (omega arith)) ∙ go (ℕ-discrete k p)
       ∙ M .words k x (λ z. spare≢mine z q) (λ z. mine≢beyond q z) (omega arith) (omega arith)
     where
       go : Dec (k ≡ p) → at (put (r₁ .heap) b ws) x ≡ at (r₁ .heap) x
@@ -178,10 +162,10 @@ module _ (n N R : ℕ) (s : Store) (kept : ℕ → Type 0) (own : ℕ → Owner)
   a-in : a < length (put (r₁ .heap) b ws)
   a-in =
       let x = length-put (r₁ .heap) b ws b-in in
-      let y = f-in in
+      let y = page-in L f (old≢beyond o) in
       let z = L .size in
       let w = M .laid .size in
-      let u = a-hi in
+      let u = st .ends in
       omega arith
 
   -- what it does
@@ -190,14 +174,14 @@ module _ (n N R : ℕ) (s : Store) (kept : ℕ → Type 0) (own : ℕ → Owner)
       let lo = b-lo in
       let hi = b-hi in
       let eb = b-is in
-      let el = len in
+      let el = val .size in
       let in-p : (x : ℕ) → p * 2 ^ n ≤ x → x < p * 2 ^ n + 2 ^ n → x ≢ a = λ x q t. far p x (λ e. f≢p (sym e)) q t in
       record {
         old-kept = M .old-kept;
         mine-kept = λ k i q. M .mine-kept k i q .0;
         mine-from = froms;
         old-words = λ k x q t u ne.
-            unset x ne ∙ elsewhere k x (λ e. old≢mine (M .old-kept k .0 q) (ap (M .own₁) e ∙ own-p)) t u ∙ own-words k x q t u (ℕ-discrete x (k * 2 ^ n));
+            unset x ne ∙ elsewhere k x (old-mine-apart (M .own₁) (M .old-kept k .0 q) own-p) t u ∙ own-words k x q t u (ℕ-discrete x (k * 2 ^ n));
         mine-words = mine-words;
         grows = grown;
         a-old = o;

@@ -7,20 +7,20 @@ use native.Mathlib.Omega.{arith}
 use native.Mathlib.Decide.{ℕ-discrete}
 use mathlib.Core.Path.{_≡_, refl, sym, ap, _∙_}
 use mathlib.Core.Logic.{_≢_, _⊎_, inl, inr}
-use mathlib.Core.Bool.{Bool, true, false, _||_}
+use mathlib.Core.Bool.{true, false, _||_}
 use mathlib.Core.List.{List, [], _∷_, _++_, append-nil, List·Memᴰ, List·Memᴰ·head, List·Memᴰ·tail}
 use lib.Arith.{digits-mod}
 use lib.Dec.{eqb}
 use borrow.Author.Tests.{eq-eqb, ne-eqb}
 use Rattle.rules.specs.Words.{headOf, wordsBy}
 use Rattle.laws.specs.Lists.{at}
+use Rattle.laws.proofs.Facts.{or-right}
 use Rattle.rules.specs.Memory.{link, topOf}
 use Rattle.rules.specs.Pages.{Run}
 use Rattle.rules.specs.Collection.{nextFrom, nextScan}
-use Rattle.laws.proofs.Lists.{one-part}
-use Rattle.facts.proofs.Steps.{Stands, steps-le}
+use Rattle.facts.proofs.Steps.{Stands}
 use Rattle.laws.proofs.Once.{once-tail, once-head}
-use Rattle.facts.proofs.Laid.{Once, Last, only, later, last-in, Linked, Owner, mine, Body, Layout, chain-body}
+use Rattle.facts.proofs.Laid.{Once, Last, only, later, last-in, Linked, Owner, mine, Layout, not-top}
 use Rattle.rules.proofs.Pointers.{words-of}
 use Rattle.facts.proofs.Framed.{no-zero}
 use Rattle.rules.proofs.Chains.{page-of}
@@ -46,22 +46,8 @@ module _ (n N R : ℕ) (own : ℕ → Owner) (fin : ℕ → ℕ) (pages : ℕ �
   abbrev z : ℕ
   z = L .mine-top j jR .0
 
-  top-is : topOf (r .table) j ≡ fin z
-  top-is = L .mine-top j jR .3
-
-  z-body : Body n (r .heap) z j (fin z)
-  z-body = chain-body L j z jR (last-in (L .mine-top j jR .1))
-
   t-is : s + wordsBy (headOf (at (r .heap) s)) ≡ s + suc l
   t-is = ap (λ x. s + x) (words-of (headOf (at (r .heap) s)) l (st .head))
-
-  -- the end of what stands in one page is not the end of another
-  not-top : (t : ℕ) → k * 2 ^ n + 2 ≤ t → t ≤ k * 2 ^ n + 2 ^ n → k ≢ z → t ≢ topOf (r .table) j
-  not-top t p q ne e =
-      let x = top-is in
-      let y = steps-le (z-body .filled) in
-      let w = z-body .inside in
-      one-part (2 ^ n) k z (t - 1) ne (omega arith) (omega arith) (omega arith) (omega arith)
 
   -- the next value stands right behind
   pub next-here : (m : ℕ) → Stands (r .heap) (k * 2 ^ n + 2 ^ n) (s + suc l) m → s + suc l < fin k → nextScan n j s r ≡ s + suc l
@@ -73,8 +59,8 @@ module _ (n N R : ℕ) (own : ℕ → Owner) (fin : ℕ → ℕ) (pages : ℕ �
       ap (λ t. nextFrom n j s t r) t-is ∙ rw (e₁, nextFrom, e₂, e₃)
     where
       not-it : Dec (k ≡ z) → s + suc l ≢ topOf (r .table) j
-      not-it (yes e) = let x = top-is in let y : fin k ≡ fin z = ap fin e in omega arith
-      not-it (no ne) = let hi = st .ends in not-top (s + suc l) (omega arith) (omega arith) ne
+      not-it (yes e) = let x = L .mine-top j jR .3 in let y : fin k ≡ fin z = ap fin e in omega arith
+      not-it (no ne) = let hi = st .ends in not-top L j jR k (s + suc l) (omega arith) (omega arith) ne
 
       not-end : (s + suc l) % 2 ^ n ≢ 0
       not-end q =
@@ -95,14 +81,10 @@ module _ (n N R : ℕ) (own : ℕ → Owner) (fin : ℕ → ℕ) (pages : ℕ �
   unfolding nextScan nextFrom
   next-page k′ e ne lk =
       let hi = st .ends in
-      let e₁ : eqb (s + suc l) (topOf (r .table) j) ≡ false = ne-eqb _ _ (not-top (s + suc l) (omega arith) (omega arith) ne) in
+      let e₁ : eqb (s + suc l) (topOf (r .table) j) ≡ false = ne-eqb _ _ (not-top L j jR k (s + suc l) (omega arith) (omega arith) ne) in
       let e₂ : (eqb ((s + suc l) % 2 ^ n) 0 || eqb (at (r .heap) (s + suc l)) 0) ≡ true = ended (ℕ-discrete (fin k) (k * 2 ^ n + 2 ^ n)) in
       ap (λ t. nextFrom n j s t r) t-is ∙ rw (e₁, nextFrom, e₂, page-of n k s (omega arith) (omega arith), lk, sub-one (suc k′))
     where
-      or-right : (a : Bool) {b : Bool} → b ≡ true → (a || b) ≡ true
-      or-right true q = refl
-      or-right false q = q
-
       ended : Dec (fin k ≡ k * 2 ^ n + 2 ^ n) → (eqb ((s + suc l) % 2 ^ n) 0 || eqb (at (r .heap) (s + suc l)) 0) ≡ true
       ended (yes q) =
           let w : s + suc l ≡ suc k * 2 ^ n = omega arith in
@@ -113,7 +95,7 @@ module _ (n N R : ℕ) (own : ℕ → Owner) (fin : ℕ → ℕ) (pages : ℕ �
           let b = L .mine-body j k own-k in
           let i = b .inside in
           let u : eqb (at (r .heap) (s + suc l)) 0 ≡ true = eq-eqb _ _ (b .rest (s + suc l) (omega arith) (omega arith)) in
-          or-right (eqb ((s + suc l) % 2 ^ n) 0) u
+          or-right (eqb ((s + suc l) % 2 ^ n) 0) _ u
 
 -- ---- the order of a region's values
 

@@ -8,13 +8,13 @@ use mathlib.Core.Logic.{_≢_, _⊎_, inl, inr}
 use mathlib.Core.List.{List, [], _∷_, List·Memᴰ, List·Memᴰ·head, List·Memᴰ·not-nil, List·Memᴰ·eq-of-singleton}
 use lib.ListN.{length}
 use Rattle.laws.specs.Lists.{at}
-use Rattle.laws.proofs.Once.{Once, once-none, once-more, in-tail, Last, only, Linked, linked-single}
+use Rattle.laws.proofs.Once.{Once, once-none, once-more, Last, only, Linked, linked-single}
 use Rattle.rules.specs.Memory.{pageEnd, pageAddress, bodyAddress, link, endOf, firstOf, topOf, statusOf, setRow}
 use Rattle.rules.specs.Pages.{Run, withTable}
 use Rattle.rules.proofs.Rows.{row-width, row-else, row-end, row-first, row-top, row-status}
-use Rattle.facts.proofs.Laid.{mine-inj, old≢mine, spare≢mine, mine≢beyond, Owner, old, spare, beyond, mine, Layout, upd, upd-same, upd-other}
-use Rattle.working.proofs.Owned.{Owned}
-use Rattle.working.proofs.Taken.{taken, taken-laid, k-link}
+use Rattle.facts.proofs.Laid.{mine-inj, old≢mine, mine≢beyond, Owner, old, beyond, mine, Layout, upd, upd-same, upd-other, upd-cases, upd-back}
+use Rattle.working.proofs.Owned.{Owned, spares-left}
+use Rattle.working.proofs.Taken.{taken, taken-laid, k-link, taken-table}
 
 -- region R gets page k
 module _ (n N R : ℕ) (own : ℕ → Owner) (fin : ℕ → ℕ) (pages : ℕ → List ℕ) (k : ℕ) (ks : List ℕ) (r : Run) (L : Layout n N R own fin pages (k ∷ ks) r)
@@ -39,21 +39,17 @@ module _ (n N R : ℕ) (own : ℕ → Owner) (fin : ℕ → ℕ) (pages : ℕ �
 
   -- ---- the table
 
-  same-table : r₁ .table ≡ r .table
-  unfolding taken
-  same-table = refl
-
   inside : 4 * R + 3 < length (r₁ .table)
-  inside = rw same-table wide
+  inside = rw (taken-table n R k r) wide
 
   pub same-width : length table′ ≡ length (r .table)
-  same-width = row-width (r₁ .table) R (pageEnd n k) (pageAddress n k) (bodyAddress n k) 0 ∙ ap length same-table
+  same-width = row-width (r₁ .table) R (pageEnd n k) (pageAddress n k) (bodyAddress n k) 0 ∙ ap length (taken-table n R k r)
 
   kept : (x : ℕ) → (x < 4 * R) ⊎ (4 * R + 3 < x) → at table′ x ≡ at (r₁ .table) x
   kept = row-else (r₁ .table) R (pageEnd n k) (pageAddress n k) (bodyAddress n k) 0
 
   pub else-row : (x : ℕ) → (x < 4 * R) ⊎ (4 * R + 3 < x) → at table′ x ≡ at (r .table) x
-  else-row x q = kept x q ∙ ap (λ t. at t x) same-table
+  else-row x q = kept x q ∙ ap (λ t. at t x) (taken-table n R k r)
 
   pub status-new : (i : ℕ) → i ≡ R → statusOf table′ i ≡ 0
   status-new i e = ap (statusOf table′) e ∙ row-status (r₁ .table) R (pageEnd n k) (pageAddress n k) (bodyAddress n k) 0 inside
@@ -66,9 +62,6 @@ module _ (n N R : ℕ) (own : ℕ → Owner) (fin : ℕ → ℕ) (pages : ℕ �
       go (no q) = inr (omega arith)
 
   -- ---- the pages
-
-  spare-k : own k ≡ spare
-  spare-k = L .free-own k (List·Memᴰ·head refl)
 
   pub own-new : own′ k ≡ mine R
   own-new = upd-same own k (mine R) k refl
@@ -134,39 +127,17 @@ module _ (n N R : ℕ) (own : ℕ → Owner) (fin : ℕ → ℕ) (pages : ℕ �
 
   -- ---- whose each page is
 
-  own-cases : (l : ℕ) (o : Owner) → own′ l ≡ o → ((l ≡ k) × (o ≡ mine R)) ⊎ ((l ≢ k) × (own l ≡ o))
-  own-cases l o e = go (ℕ-discrete l k)
-    where
-      go : Dec (l ≡ k) → ((l ≡ k) × (o ≡ mine R)) ⊎ ((l ≢ k) × (own l ≡ o))
-      go (yes q) = inl (q, sym e ∙ upd-same own k (mine R) l q)
-      go (no ne) = inr (ne, sym (upd-other own k (mine R) l ne) ∙ e)
-
   pub old-before : (l : ℕ) → own′ l ≡ old → own l ≡ old
-  old-before l e = go (own-cases l old e)
-    where
-      go : ((l ≡ k) × (old ≡ mine R)) ⊎ ((l ≢ k) × (own l ≡ old)) → own l ≡ old
-      go (inl t) = old≢mine refl (t .1)
-      go (inr t) = t .1
+  old-before l = upd-back own k (mine R) l old (old≢mine refl)
 
   pub region-owned : Owned N R own pages (k ∷ ks) → Owned N (suc R) own′ pages′ ks
-  region-owned W = record { whole = whole; spares = spares; mines = mines }
+  region-owned W = record { whole = whole; spares = spares-left own k R ks (W .spares); mines = mines }
     where
       whole : (l : ℕ) → l < N → own′ l ≢ beyond
-      whole l b e = go (own-cases l beyond e)
-        where
-          go : ((l ≡ k) × (beyond ≡ mine R)) ⊎ ((l ≢ k) × (own l ≡ beyond)) → ⊥
-          go (inl t) = mine≢beyond (t .1) refl
-          go (inr t) = W .whole l b (t .1)
-
-      spares : (l : ℕ) → own′ l ≡ spare → List·Memᴰ l ks
-      spares l e = go (own-cases l spare e)
-        where
-          go : ((l ≡ k) × (spare ≡ mine R)) ⊎ ((l ≢ k) × (own l ≡ spare)) → List·Memᴰ l ks
-          go (inl t) = spare≢mine refl (t .1)
-          go (inr t) = in-tail (t .0) (W .spares l (t .1))
+      whole l b e = W .whole l b (upd-back own k (mine R) l beyond (λ q. mine≢beyond q refl) e)
 
       mines : (l j : ℕ) → own′ l ≡ mine j → (j < suc R) × List·Memᴰ l (pages′ j)
-      mines l j e = go (own-cases l (mine j) e)
+      mines l j e = go (upd-cases own k (mine R) l (mine j) e)
         where
           go : ((l ≡ k) × (mine j ≡ mine R)) ⊎ ((l ≢ k) × (own l ≡ mine j)) → (j < suc R) × List·Memᴰ l (pages′ j)
           go (inl t) = let q : j ≡ R = mine-inj (t .1) in (omega arith, rw (pages-new j q) (List·Memᴰ·head (t .0)))

@@ -4,14 +4,14 @@ use Prim.Native.Nat.{ℕ, zero, suc, _+_, _<_}
 use native.Mathlib.Omega.{arith}
 use native.Mathlib.Decide.{ℕ-discrete}
 use mathlib.Core.Path.{_≡_, refl, sym, ap, _∙_}
-use mathlib.Core.Logic.{_≢_}
+use mathlib.Core.Logic.{_≢_, _⊎_, inl, inr}
 use mathlib.Core.List.{List, [], _∷_, _++_, List·Memᴰ, List·Memᴰ·head, Memᴰ·append-left, Memᴰ·append-right}
 use lib.ListN.{length, length-append}
 pub use Rattle.facts.proofs.Laid.{mine-inj, old≢spare, old≢mine, old≢beyond, spare≢mine, spare≢beyond, mine≢beyond}
 use Rattle.laws.proofs.Once.{in-tail}
 use Rattle.rules.specs.Memory.{Store, pageCount}
-use Rattle.facts.proofs.Sound.{Chained, in-free, in-region, Sound}
-use Rattle.facts.proofs.Laid.{upd, upd-same, upd-other, Owner, spare, beyond, mine}
+use Rattle.facts.proofs.Sound.{Chained, in-free, in-region, Sound, chained-mine, chained-spare}
+use Rattle.facts.proofs.Laid.{upd, upd-same, upd-other, Owner, spare, beyond, mine, upd-cases, upd-back}
 
 pub record Owned (N R : ℕ) (own : ℕ → Owner) (pages : ℕ → List ℕ) (free : List ℕ) : Type 0 where
   pub whole : (k : ℕ) → k < N → own k ≢ beyond
@@ -62,37 +62,34 @@ total-tail f j x xs (suc m) b e = go (ℕ-discrete m j) (λ q. total-tail f j x 
         let v = rest (omega arith) in
         rw u (omega arith)
 
+-- page k taken: what is free still was behind it in the free list
+pub spares-left : (own : ℕ → Owner) (k j : ℕ) (ks : List ℕ) → ((l : ℕ) → own l ≡ spare → List·Memᴰ l (k ∷ ks)) → (l : ℕ) → upd own k (mine j) l ≡ spare → List·Memᴰ l ks
+spares-left own k j ks free l e = go (upd-cases own k (mine j) l spare e)
+  where
+    go : ((l ≡ k) × (spare ≡ mine j)) ⊎ ((l ≢ k) × (own l ≡ spare)) → List·Memᴰ l ks
+    go (inl t) = spare≢mine refl (t .1)
+    go (inr t) = in-tail (t .0) (free l (t .1))
+
 -- page k taken for region j
 pub taken-owned : (N R : ℕ) (own : ℕ → Owner) (pages : ℕ → List ℕ) (k : ℕ) (ks : List ℕ) (j : ℕ) → j < R → own k ≡ spare → Owned N R own pages (k ∷ ks)
     → Owned N R (upd own k (mine j)) (upd pages j (pages j ++ k ∷ [])) ks
-taken-owned N R own pages k ks j jR own-k W = record { whole = whole; spares = spares; mines = mines }
+taken-owned N R own pages k ks j jR own-k W = record { whole = whole; spares = spares-left own k j ks (W .spares); mines = mines }
   where
     whole : (l : ℕ) → l < N → upd own k (mine j) l ≢ beyond
-    whole l b e = go (ℕ-discrete l k)
-      where
-        go : Dec (l ≡ k) → ⊥
-        go (yes q) = mine≢beyond (upd-same own k (mine j) l q) e
-        go (no ne) = W .whole l b (sym (upd-other own k (mine j) l ne) ∙ e)
-
-    spares : (l : ℕ) → upd own k (mine j) l ≡ spare → List·Memᴰ l ks
-    spares l e = go (ℕ-discrete l k)
-      where
-        go : Dec (l ≡ k) → List·Memᴰ l ks
-        go (yes q) = spare≢mine e (upd-same own k (mine j) l q)
-        go (no ne) = in-tail ne (W .spares l (sym (upd-other own k (mine j) l ne) ∙ e))
+    whole l b e = W .whole l b (upd-back own k (mine j) l beyond (λ q. mine≢beyond q refl) e)
 
     mines : (l i : ℕ) → upd own k (mine j) l ≡ mine i → (i < R) × List·Memᴰ l (upd pages j (pages j ++ k ∷ []) i)
-    mines l i e = go (ℕ-discrete l k)
+    mines l i e = go (upd-cases own k (mine j) l (mine i) e)
       where
         by : (i < R) × List·Memᴰ l (pages i) → Dec (i ≡ j) → (i < R) × List·Memᴰ l (upd pages j (pages j ++ k ∷ []) i)
         by t (yes q) = (t .0, rw (upd-same pages j (pages j ++ k ∷ []) i q) (Memᴰ·append-left (k ∷ []) (rw q at (t .1))))
         by t (no ne) = (t .0, rw (upd-other pages j (pages j ++ k ∷ []) i ne) (t .1))
 
-        go : Dec (l ≡ k) → (i < R) × List·Memᴰ l (upd pages j (pages j ++ k ∷ []) i)
-        go (yes q) =
-            let ij : i ≡ j = mine-inj (sym e ∙ upd-same own k (mine j) l q) in
-            (rw ij jR, rw (upd-same pages j (pages j ++ k ∷ []) i ij) (Memᴰ·append-right (pages j) (List·Memᴰ·head q)))
-        go (no ne) = by (W .mines l i (sym (upd-other own k (mine j) l ne) ∙ e)) (ℕ-discrete i j)
+        go : ((l ≡ k) × (mine i ≡ mine j)) ⊎ ((l ≢ k) × (own l ≡ mine i)) → (i < R) × List·Memᴰ l (upd pages j (pages j ++ k ∷ []) i)
+        go (inl t) =
+            let ij : i ≡ j = mine-inj (t .1) in
+            (rw ij jR, rw (upd-same pages j (pages j ++ k ∷ []) i ij) (Memᴰ·append-right (pages j) (List·Memᴰ·head (t .0))))
+        go (inr t) = by (W .mines l i (t .1)) (ℕ-discrete i j)
 
 -- ---- before a collection
 
@@ -105,7 +102,12 @@ module _ (s : Store) (S : Sound s) where
   R = s .ctl .regions
 
   pub sound-owned : Owned (pageCount n (s .heap)) R (S .own) (S .pages) (S .free)
-  sound-owned = record { whole = whole; spares = spares; mines = mines }
+  sound-owned =
+      record {
+        whole = whole;
+        spares = λ k e. chained-spare (S .chained k (S .laid .known k (spare≢beyond e))) e;
+        mines = λ k j e. chained-mine (S .chained k (S .laid .known k (mine≢beyond e))) e;
+      }
     where
       whole : (k : ℕ) → k < pageCount n (s .heap) → S .own k ≢ beyond
       whole k b e = go (S .chained k b)
@@ -113,17 +115,3 @@ module _ (s : Store) (S : Sound s) where
           go : Chained R (S .own) (S .pages) (S .free) k → ⊥
           go (in-free o m) = spare≢beyond o e
           go (in-region j b o m) = mine≢beyond o e
-
-      spares : (k : ℕ) → S .own k ≡ spare → List·Memᴰ k (S .free)
-      spares k e = go (S .chained k (S .laid .known k (spare≢beyond e)))
-        where
-          go : Chained R (S .own) (S .pages) (S .free) k → List·Memᴰ k (S .free)
-          go (in-free o m) = m
-          go (in-region j b o m) = spare≢mine e o
-
-      mines : (k j : ℕ) → S .own k ≡ mine j → (j < R) × List·Memᴰ k (S .pages j)
-      mines k j e = go (S .chained k (S .laid .known k (mine≢beyond e)))
-        where
-          go : Chained R (S .own) (S .pages) (S .free) k → (j < R) × List·Memᴰ k (S .pages j)
-          go (in-free o m) = spare≢mine o e
-          go (in-region i b o m) = let q : i ≡ j = mine-inj (sym o ∙ e) in rw (← q) (b, m)

@@ -3,14 +3,12 @@
 use Prim.Native.Nat.{ℕ, suc, _+_, _-_, _*_, _^_, _≤_, _<_}
 use native.Mathlib.Nat.{le-refl}
 use native.Mathlib.Omega.{arith}
-use native.Mathlib.Decide.{ℕ-discrete}
 use mathlib.Core.Path.{_≡_, refl, sym, ap, _∙_}
 use mathlib.Core.Logic.{_≢_, _↔_, _⊎_, inl, inr}
 use mathlib.Core.Bool.{true, false}
 use mathlib.Core.Option.{some}
 use mathlib.Core.List.{List, [], _∷_, _++_, List·Memᴰ, List·Memᴰ·head}
 use lib.ListN.{length, set, length-set}
-use lib.Seq.{getD-set-other}
 use lib.Dec.{leb}
 use borrow.Author.Tests.{leb-true}
 use Rattle.working.proofs.Taken as T
@@ -18,7 +16,7 @@ use Rattle.working.proofs.Roomy as Q
 use Rattle.rules.specs.Memory.{link, endOf, topOf}
 use Rattle.laws.specs.Lists.{at}
 use Rattle.rules.specs.Pages.{Run, join, room}
-use Rattle.facts.proofs.Laid.{upd, upd-same, upd-other, Owner, old, spare, beyond, mine, Like, Layout}
+use Rattle.facts.proofs.Laid.{upd, upd-same, upd-other, Owner, old, spare, beyond, mine, Like, Layout, upd-cases, upd-back}
 use Rattle.working.proofs.Taken.{taken, last-is}
 use Rattle.working.proofs.Owned.{mine-inj, old≢spare, old≢mine, spare≢mine, Owned, total, total-snoc, taken-owned}
 
@@ -116,26 +114,19 @@ module _ (n N R : ℕ) (own : ℕ → Owner) (fin : ℕ → ℕ) (pages : ℕ �
     not-k : (l : ℕ) → own l ≢ spare → l ≢ k
     not-k l ne e = ne (ap own e ∙ spare-k)
 
-    back : (l : ℕ) (o : Owner) → o ≢ mine j → upd own k (mine j) l ≡ o → own l ≡ o
-    back l o ne e = go (ℕ-discrete l k)
-      where
-        go : Dec (l ≡ k) → own l ≡ o
-        go (yes q) = absurd (ne (sym e ∙ upd-same own k (mine j) l q))
-        go (no f) = sym (upd-other own k (mine j) l f) ∙ e
-
     from : (l i : ℕ) → upd own k (mine j) l ≡ mine i
         → (own l ≡ mine i) ⊎ ((own l ≡ spare) × (i ≡ j) × (upd fin k (k * 2 ^ n + 2) l ≡ l * 2 ^ n + 2) × (endOf (join n j k r₀ .table) j ≡ l * 2 ^ n + 2 ^ n))
-    from l i e = go (ℕ-discrete l k)
+    from l i e = go (upd-cases own k (mine j) l (mine i) e)
       where
-        go : Dec (l ≡ k) → (own l ≡ mine i) ⊎ ((own l ≡ spare) × (i ≡ j) × (upd fin k (k * 2 ^ n + 2) l ≡ l * 2 ^ n + 2) × (endOf (join n j k r₀ .table) j ≡ l * 2 ^ n + 2 ^ n))
-        go (yes q) =
+        go : ((l ≡ k) × (mine i ≡ mine j)) ⊎ ((l ≢ k) × (own l ≡ mine i)) → (own l ≡ mine i) ⊎ ((own l ≡ spare) × (i ≡ j) × (upd fin k (k * 2 ^ n + 2) l ≡ l * 2 ^ n + 2) × (endOf (join n j k r₀ .table) j ≡ l * 2 ^ n + 2 ^ n))
+        go (inl (q, t)) =
             inr (
               ap own q ∙ spare-k,
-              mine-inj (sym e ∙ upd-same own k (mine j) l q),
+              mine-inj t,
               upd-same fin k (k * 2 ^ n + 2) l q ∙ ap (λ t. t * 2 ^ n + 2) (sym q),
               end-is ∙ ap (λ t. t * 2 ^ n + 2 ^ n) (sym q),
             )
-        go (no f) = inl (sym (upd-other own k (mine j) l f) ∙ e)
+        go (inr t) = inl (t .1)
 
     abbrev QL : (l : ℕ) → Like n (r₀ .heap) (set (r₀ .heap) (endOf (r₀ .table) j - 2 ^ n) (suc k)) l
     QL = Q.like n N R (upd own k (mine j)) (upd fin k (k * 2 ^ n + 2)) pages ks r₀ L₀ j k jR own-new k-new taken-link fin-new
@@ -159,9 +150,7 @@ module _ (n N R : ℕ) (own : ℕ → Owner) (fin : ℕ → ℕ) (pages : ℕ �
 
     same-row : (x : ℕ) → x ≢ 4 * j → x ≢ 4 * j + 2 → at (join n j k r₀ .table) x ≡ at (r .table) x
     unfolding taken join
-    same-row x p q =
-        getD-set-other (set (r .table) (4 * j) (k * 2 ^ n + 2 ^ n)) (4 * j + 2) x (k * 2 ^ n + 2) 0 q
-        ∙ getD-set-other (r .table) (4 * j) x (k * 2 ^ n + 2 ^ n) 0 p
+    same-row = Q.row n N R (upd own k (mine j)) (upd fin k (k * 2 ^ n + 2)) pages ks r₀ L₀ j k jR own-new k-new taken-link fin-new
 
     same-stack : join n j k r₀ .stack ≡ r .stack
     unfolding taken join
@@ -178,7 +167,7 @@ module _ (n N R : ℕ) (own : ℕ → Owner) (fin : ℕ → ℕ) (pages : ℕ �
         free₁ = ks;
         laid = L₁;
         fits = let a = end-is in let b = top-is in omega arith;
-        old-kept = λ l. (λ o. upd-other own k (mine j) l (not-k l (λ q. old≢spare o q)) ∙ o, λ o. back l old (λ q. old≢mine refl q) o);
+        old-kept = λ l. (λ o. upd-other own k (mine j) l (not-k l (λ q. old≢spare o q)) ∙ o, upd-back own k (mine j) l old (old≢mine refl));
         mine-kept = λ l i o.
             let ne : l ≢ k = not-k l (λ q. spare≢mine q o) in
             (upd-other own k (mine j) l ne ∙ o, upd-other fin k (k * 2 ^ n + 2) l ne);

@@ -6,6 +6,7 @@ use native.Mathlib.Omega.{arith}
 use mathlib.Core.Path.{_≡_, refl, sym, ap, _∙_}
 use mathlib.Core.Logic.{_↔_, _⊎_, inl, inr}
 use mathlib.Core.List.{List}
+use mathlib.Core.Bool.{false≢true}
 use lib.ListN.{length, length-append}
 use Rattle.rules.specs.declared.Refusal.{Refusal}
 use Rattle.rules.specs.declared.Plain.{Plain}
@@ -90,8 +91,7 @@ module _ (s : Store) (S : Sound s) where
       there e (inl u) = refusing-more (u .1)
       there e (inr u) =
           let q = ap (λ (o : Outcome Plain). o .answer) (sym e ∙ u .2) in
-          let z : _≡_ {A = ℕ} 0 1 = cc in
-          absurd (omega arith)
+          absurd (false≢true cc)
 
       back : s .ctl .count < wanted s
           → ((collected s ≡ refused s Refusal.NoPage) × Refusing s S) ⊎ ((roots : List ℕ) × (r : Run) × (collected s ≡ ending s roots (finished r)) × Ran s S roots r)

@@ -1,5 +1,5 @@
 -- An empty page of region j becomes its last: the only words that change are the link of the page that was last, and the region's e and a.
-use Prim.Native.Nat.{ℕ, suc, _+_, _-_, _*_, _^_, _≤_, _<_}
+use Prim.Native.Nat.{ℕ, suc, _+_, _-_, _*_, _^_, _<_}
 use native.Mathlib.Omega.{arith}
 use native.Mathlib.Decide.{ℕ-discrete}
 use mathlib.Core.Path.{_≡_, sym, ap, _∙_}
@@ -10,7 +10,7 @@ use lib.Seq.{getD-set-same, getD-set-other}
 use Rattle.rules.specs.Memory.{link, endOf, firstOf, topOf}
 use Rattle.laws.specs.Lists.{at}
 use Rattle.rules.specs.Pages.{Run, join}
-use Rattle.facts.proofs.Laid.{mine-inj, spare≢mine, mine≢beyond, upd, upd-same, upd-other, Once, Last, last-in, Linked, linked-same, Owner, spare, mine, Like, body-like, clean-like, like-relinked, link-relinked, Layout, page-in}
+use Rattle.facts.proofs.Laid.{mine-inj, spare≢mine, upd, upd-same, upd-other, Once, Last, last-in, Linked, linked-same, Owner, spare, mine, Like, body-like, clean-like, like-relinked, link-relinked, Layout, last-own, last-in-heap, last-start}
 use Rattle.working.proofs.Taken.{linked-snoc, last-snoc, in-snoc, once-snoc}
 
 -- page k, which belongs to region j and holds nothing yet, becomes the region's last page
@@ -24,16 +24,13 @@ module _ (n N R : ℕ) (own : ℕ → Owner) (fin : ℕ → ℕ) (pages : ℕ �
   z = L .mine-top j jR .0
 
   pub own-z : own z ≡ mine j
-  own-z = L .mine-own j z jR (last-in (L .mine-top j jR .1))
+  own-z = last-own L j jR
 
   abbrev pub x : ℕ
   x = endOf (r .table) j - P
 
   x-is : x ≡ z * P
-  x-is = let e = L .mine-top j jR .2 in omega arith
-
-  z-in : z * P + P ≤ length (r .heap)
-  z-in = page-in L z (λ q. mine≢beyond own-z q)
+  x-is = last-start L j jR
 
   abbrev pub h′ : List ℕ
   h′ = set (r .heap) x (suc k)
@@ -47,7 +44,7 @@ module _ (n N R : ℕ) (own : ℕ → Owner) (fin : ℕ → ℕ) (pages : ℕ �
 
   z-link : link n h′ z ≡ suc k
   unfolding link
-  z-link = ap (at h′) (sym x-is) ∙ getD-set-same (r .heap) x (suc k) 0 (let b = L .big in let a = z-in in let c = x-is in omega arith)
+  z-link = ap (at h′) (sym x-is) ∙ getD-set-same (r .heap) x (suc k) 0 (let b = L .big in let a = last-in-heap L j jR in let c = x-is in omega arith)
 
   abbrev pub pages′ : ℕ → List ℕ
   pages′ = upd pages j (pages j ++ k ∷ [])
@@ -55,7 +52,7 @@ module _ (n N R : ℕ) (own : ℕ → Owner) (fin : ℕ → ℕ) (pages : ℕ �
   abbrev table′ : List ℕ
   table′ = set (set (r .table) (4 * j) (k * P + P)) (4 * j + 2) (k * P + 2)
 
-  row : (y : ℕ) → y ≢ 4 * j → y ≢ 4 * j + 2 → at table′ y ≡ at (r .table) y
+  pub row : (y : ℕ) → y ≢ 4 * j → y ≢ 4 * j + 2 → at table′ y ≡ at (r .table) y
   row y p q =
       getD-set-other (set (r .table) (4 * j) (k * P + P)) (4 * j + 2) y (k * P + 2) 0 q ∙ getD-set-other (r .table) (4 * j) y (k * P + P) 0 p
 

@@ -3,41 +3,27 @@ use Prim.Native.Nat.{ℕ, zero, suc, _+_, _*_, _≤_, _<_, zero-le, suc-le-suc}
 use native.Mathlib.Omega.{arith}
 use mathlib.Core.Path.{_≡_, refl, sym, ap, _∙_}
 use mathlib.Core.Logic.{_⊎_, inl, inr}
-use mathlib.Core.Option.{none, some}
+use mathlib.Core.Option.{none, some, Option·none-ne-some}
 use mathlib.Core.List.{List, [], _∷_, List·Memᴰ, List·Memᴰ·head, List·Memᴰ·tail}
 use lib.ListN.{length}
 use Rattle.laws.specs.Lists.{at}
-use Rattle.laws.proofs.Once.{once-tail, once-head}
-use Rattle.rules.specs.Memory.{Store, pageCount, topOf}
+use Rattle.laws.proofs.Once.{once-tail}
+use Rattle.rules.specs.Memory.{Store, topOf}
 use Rattle.rules.specs.Pages.{Scan, Run, withStack}
 use Rattle.rules.specs.Collection.{finished, lacksPage, evacuate, evacuateAll, work, workStack}
 use Rattle.rules.specs.Seen.{seen, Reached}
-use Rattle.facts.proofs.Copied.{Moved, to, Rel, num, stay, went}
+use Rattle.facts.proofs.Copied.{Rel}
 use Rattle.facts.proofs.Sound.{Good, Sound}
 use Rattle.working.proofs.Owned.{total}
-use Rattle.working.proofs.Log.{pointers}
+use Rattle.working.proofs.Log.{pointers, rel-grows}
 use Rattle.working.proofs.Next.{headOr}
-use Rattle.working.proofs.Aside.{stack-laid}
 use Rattle.rules.specs.Wanted.{evacuateFor, rootsFor, workFor, stackFor}
 use Rattle.working.proofs.Wanting.{follows-some, evacuate-follows}
 use Rattle.working.proofs.Dry.{roots-dry}
-use Rattle.working.proofs.Invariant.{lacking-on, Ghost, Kept, regionsOf, Waits, Pending, Inv, Later, later-refl, later-trans, Lacking, Became, Enough}
-use Rattle.working.proofs.Waking.{in-regions}
-use Rattle.working.proofs.Evacuating.{in-pointers, of-pointers}
+use Rattle.working.proofs.Invariant.{waiting-inv, lacking-on, Ghost, Kept, regionsOf, Waits, Pending, Inv, Later, later-refl, later-trans, Lacking, Became, Enough}
 use Rattle.working.proofs.Evacuation.{evacuates}
-use Rattle.working.proofs.Leaving.{top-or-rest, scanning}
-use Rattle.working.proofs.Work.{Finished, works}
-
--- a longer log relates what a shorter one does
-pub rel-grows : {kept : ℕ → Type 0} (log log′ : List Moved) → ((m : Moved) → List·Memᴰ m log → List·Memᴰ m log′) → {v w : ℕ} → Rel kept (pointers log) v w → Rel kept (pointers log′) v w
-rel-grows log log′ grew (num n) = num n
-rel-grows log log′ grew (stay k) = stay k
-rel-grows log log′ grew {v} {w} (went m) =
-    let t = of-pointers log m in
-    went (go (t .0) (t .1) (t .2) (t .3) (t .4))
-  where
-    go : (a b : ℕ) → v ≡ 4 * a → w ≡ 4 * b → List·Memᴰ (to a b) log → List·Memᴰ (to v w) (pointers log′)
-    go a b p q t = rw (p, q) (in-pointers log′ (grew (to a b) t))
+use Rattle.working.proofs.Leaving.{top-or-rest, scanning, top-once}
+use Rattle.working.proofs.Work.{Finished, finished-from, works}
 
 -- the words ws became the words vs
 pub record AllBecame (s : Store) (S : Sound s) (g : Ghost) (r : Run) (ws vs : List ℕ) (r′ : Run) : Type 0 where
@@ -117,7 +103,7 @@ module _ (s : Store) (S : Sound s) where
               record {
                 known = W .known;
                 awake = W .awake;
-                other = λ q. once-head (rw e at (P .once)) (rw (let z : t .region ≡ u .region = cc in z) (in-regions m));
+                other = top-once t ts (rw e at (P .once)) u m;
                 rest = W .rest;
                 begins = W .begins;
               };
@@ -129,21 +115,10 @@ module _ (s : Store) (S : Sound s) where
       where
         go : (i : ℕ) → List·Memᴰ i (regionsOf (r .stack)) ⊎ (g .cur ≡ some i) → List·Memᴰ i (regionsOf ts) ⊎ (some (t .region) ≡ some i)
         go i (inl m) = top-or-rest t ts i (rw e at m)
-        go i (inr q) = let z : none ≡ some i = sym none-cur ∙ q in let z′ : _≡_ {A = ℕ} 0 1 = cc in absurd (omega arith)
+        go i (inr q) = absurd (Option·none-ne-some i (sym none-cur ∙ q))
 
     pub entered-inv : Inv s S (scanning g (some (t .region))) (withStack r ts)
-    entered-inv =
-        record {
-          laid = stack-laid n (pageCount n (s .heap)) R (g .own) (g .fin) (g .pages) (g .free) r (I .laid) ts;
-          logged = I .logged;
-          pending = entered-pending;
-          from-space = I .from-space;
-          owned = I .owned;
-          tallied = I .tallied;
-          taken = I .taken;
-          width = I .width;
-          past-rows = I .past-rows;
-        }
+    entered-inv = waiting-inv ts I entered-pending
 
     -- the scan of the top's region begins at what waits in it
     abbrev pub begin : ℕ
@@ -163,10 +138,6 @@ module _ (s : Store) (S : Sound s) where
         let b = S .laid .size in
         let c : length (r .stack) ≡ suc (length ts) = ap length e in
         record { steps = omega arith }
-
-    -- what it finishes is finished from here
-    unfoldable pub entered-finished : {r′ : Run} → Finished s S (scanning g (some (t .region))) r′ → Finished s S g r′
-    entered-finished F = record { ghost = F .ghost; inv = F .inv; no-cur = F .no-cur; none-open = F .none-open; stack = F .stack; log = F .log }
 
   -- nothing waits
   module _ (g : Ghost) (r : Run) (I : Inv s S g r) (none-cur : g .cur ≡ none) (none-open : g .half ≡ none) (e : r .stack ≡ []) where
@@ -194,14 +165,11 @@ module _ (s : Store) (S : Sound s) where
           a : ℕ
           a = begin g r I none-cur t ts e
 
-          is : workStack n r ≡ work n f (t .region) a (withStack r ts)
-          is = begins-work g r I none-cur t ts e
-
           is-for : stackFor n r ≡ workFor n f (t .region) a (withStack r ts)
           is-for = rw (e, stackFor) (ap (λ x. workFor n f (t .region) x (withStack r ts)) (begins-at g r I none-cur t ts e))
 
           by : ((work n f (t .region) a (withStack r ts) ≡ lacksPage) × Lacking s S (workFor n f (t .region) a (withStack r ts)))
               ⊎ ((r′ : Run) × (work n f (t .region) a (withStack r ts) ≡ finished r′) × Finished s S (scanning g (some (t .region))) r′)
               → ((workStack n r ≡ lacksPage) × Lacking s S (stackFor n r)) ⊎ ((r′ : Run) × (workStack n r ≡ finished r′) × Finished s S g r′)
-          by (inl u) = inl (is ∙ u .0, lacking-on (λ y. rw is-for y) (u .1))
-          by (inr u) = inr (u .0, is ∙ u .1, entered-finished g r I none-cur t ts e (u .2))
+          by (inl u) = inl (begins-work g r I none-cur t ts e ∙ u .0, lacking-on (λ y. rw is-for y) (u .1))
+          by (inr u) = inr (u .0, begins-work g r I none-cur t ts e ∙ u .1, finished-from (λ x m. m) (u .2))

@@ -119,7 +119,4 @@ pub row-once : {n : ℕ} {h : List ℕ} {fin : ℕ → ℕ} {ks vs : List ℕ} �
 row-once (row-last v) o = vals-once v
 row-once {n} {h} {fin} (row-more {k} {k′} {ks} {vs} {bs} v ne t) (once-more f o) =
     once-append bs (vals-once v) (row-once t o)
-    (λ b p q. let w : Row n h fin (k ∷ []) vs = row-last v in let x = row-in w p in let y = row-in t q in pages-differ x y (λ e. f (rw (← e, one (x .here)) at (y .here))) refl)
-  where
-    one : {a b : ℕ} → List·Memᴰ a (b ∷ []) → a ≡ b
-    one m = List·Memᴰ·eq-of-singleton m
+    (λ b p q. let w : Row n h fin (k ∷ []) vs = row-last v in let x = row-in w p in let y = row-in t q in pages-differ x y (λ e. f (rw (← e, List·Memᴰ·eq-of-singleton (x .here)) at (y .here))) refl)

@@ -1,10 +1,11 @@
 -- The whole run up to its end: fresh pages, roots, scan. It ends with all scanned, or for want of a page, and never for want of fuel.
-use Prim.Native.Nat.{ℕ, zero, suc, _+_, _-_, _*_, _^_, _<_}
+use Prim.Native.Nat.{ℕ, zero, suc, _+_, _-_, _*_, _^_, _<_, _≤_}
 use native.Mathlib.Omega.{arith}
 use mathlib.Core.Path.{_≡_, refl, sym, ap, _∙_, subst}
 use mathlib.Core.Logic.{_⊎_, inl, inr}
 use mathlib.Core.Option.{none, some}
 use mathlib.Core.List.{List, [], _∷_, List·Memᴰ, List·Memᴰ·eq-of-singleton}
+use mathlib.Core.Bool.{false≢true}
 use lib.ListN.{length}
 use Rattle.laws.specs.Lists.{at}
 use Rattle.laws.specs.Sums.{sumOver}
@@ -20,7 +21,7 @@ use Rattle.facts.proofs.Laid.{mine}
 use Rattle.facts.proofs.Copied.{Rel}
 use Rattle.facts.proofs.Sound.{Sound}
 use Rattle.working.proofs.Owned.{total}
-use Rattle.working.proofs.Log.{pointers, Log}
+use Rattle.working.proofs.Log.{pointers, Log, rel-grows}
 use Rattle.working.proofs.Next.{Row, row-last, Vals, vals-none}
 use Rattle.rules.specs.Wanted.{freshenFor, rootsFor, stackFor, unbounded}
 use Rattle.working.proofs.Wanting.{follows-some, ends-finished, fresh-follows, roots-follow, stack-ends}
@@ -28,7 +29,7 @@ use Rattle.working.proofs.Dry.{Dry, roots-dry, stack-dry}
 use Rattle.working.proofs.Invariant.{lacking-on, Ghost, Kept, Pending, Inv, Lacking}
 use Rattle.working.proofs.Fresh.{Fresh, fresh-start}
 use Rattle.working.proofs.Freshening.{freshens}
-use Rattle.working.proofs.Roots.{rel-grows, AllBecame, evacuates-all, works-stack}
+use Rattle.working.proofs.Roots.{AllBecame, evacuates-all, works-stack}
 use Rattle.working.proofs.Work.{Finished}
 
 total-ones : (f : ℕ → List ℕ) (m : ℕ) → ((i : ℕ) → i < m → (k : ℕ) × (f i ≡ k ∷ [])) → total f m ≡ m
@@ -107,7 +108,7 @@ module _ (s : Store) (S : Sound s) (r : Run) (F : Fresh s S (s .ctl .regions) r)
         raws = λ m l e. elim m [ ];
         stacked = λ t m. let m′ : List·Memᴰ t [] = rw (F .stack) at m in elim m′ [ ];
         once = rw (F .stack) once-none;
-        at-work = λ j e. let z : _≡_ {A = ℕ} 0 1 = cc in absurd (omega arith);
+        at-work = λ j e. absurd (false≢true cc);
         idle = λ j jR e. refl;
         busy = λ j jR ne. absurd (ne (F .asleep j jR));
       }
@@ -149,6 +150,31 @@ pub record Ran (s : Store) (S : Sound s) (roots : List ℕ) (r : Run) : Type 0 w
   pub unbound : unbounded s ≡ r
   pub rels : (i : ℕ) → i < length (s .roots) → Rel (Kept s) (pointers (end .ghost .log)) (at (s .roots) i) (at roots i)
 
+-- a run in its order: fresh pages, roots, scan
+module _ (s : Store) (S : Sound s) (r : Run) (F : Fresh s S (s .ctl .regions) r) (e : freshen (s .ctl .n) (s .ctl .regions) 0 (begun s) ≡ some r) where
+  pub fresh-is : freshenFor (s .ctl .n) (s .ctl .regions) 0 (begun s) ≡ r
+  fresh-is = follows-some r (fresh-follows (s .ctl .n) (s .ctl .regions) 0 (begun s)) e
+
+  module _ (roots : List ℕ) (r₁ : Run) (A : AllBecame s S (first s S r F) r (s .roots) roots r₁) where
+    -- what waits costs no more than the log pays
+    pub rooted-cost : total (A .ghost .todo) (s .ctl .regions) + length (r₁ .stack) ≤ 2 * length (A .ghost .log)
+    rooted-cost =
+        let cost = A .later .cost in
+        let z = none-total (s .ctl .regions) in
+        let d : length (r .stack) ≡ 0 = ap length (F .stack) in
+        omega arith
+
+    unfoldable pub ran : evacuateAll (s .ctl .n) (s .roots) r ≡ some (roots, r₁) → (r₂ : Run) → workStack (s .ctl .n) r₁ ≡ finished r₂ → Finished s S (A .ghost) r₂ → Ran s S roots r₂
+    unfolding unbounded
+    ran e₁ r₂ w G =
+        record {
+          start = A .ghost;
+          end = G;
+          count = A .count;
+          unbound = rw (fresh-is, roots-follow (s .ctl .n) (s .roots) roots r r₁ e₁) (ends-finished r₂ (stack-ends (s .ctl .n) r₁) w);
+          rels = λ i b. rel-grows (A .ghost .log) (G .ghost .log) (G .log) (A .rels i b);
+        }
+
 module _ (s : Store) (S : Sound s) where
   pub runs : ((collected s ≡ refused s Refusal.NoPage) × Refusing s S)
       ⊎ ((roots : List ℕ) × (r : Run) × (collected s ≡ ending s roots (finished r)) × Ran s S roots r)
@@ -158,37 +184,20 @@ module _ (s : Store) (S : Sound s) where
       Result : Type 0
       Result = ((collected s ≡ refused s Refusal.NoPage) × Refusing s S) ⊎ ((roots : List ℕ) × (r : Run) × (collected s ≡ ending s roots (finished r)) × Ran s S roots r)
 
-      fresh-is : (r : Run) → freshen (s .ctl .n) (s .ctl .regions) 0 (begun s) ≡ some r → freshenFor (s .ctl .n) (s .ctl .regions) 0 (begun s) ≡ r
-      fresh-is r e = follows-some r (fresh-follows (s .ctl .n) (s .ctl .regions) 0 (begun s)) e
-
       scanned : (r : Run) (F : Fresh s S (s .ctl .regions) r) → freshen (s .ctl .n) (s .ctl .regions) 0 (begun s) ≡ some r
           → (roots : List ℕ) (r₁ : Run) → evacuateAll (s .ctl .n) (s .roots) r ≡ some (roots, r₁) → (A : AllBecame s S (first s S r F) r (s .roots) roots r₁)
           → ((workStack (s .ctl .n) r₁ ≡ lacksPage) × Lacking s S (stackFor (s .ctl .n) r₁)) ⊎ ((r₂ : Run) × (workStack (s .ctl .n) r₁ ≡ finished r₂) × Finished s S (A .ghost) r₂) → Result
-      scanned r F e roots r₁ e₁ A (inl u) = inl (rw (e, collected, e₁, u .0), out (lacking-on (λ y. rw (fresh-is r e, roots-follow (s .ctl .n) (s .roots) roots r r₁ e₁) y) (u .1)))
+      scanned r F e roots r₁ e₁ A (inl u) = inl (rw (e, collected, e₁, u .0), out (lacking-on (λ y. rw (fresh-is s S r F e, roots-follow (s .ctl .n) (s .roots) roots r r₁ e₁) y) (u .1)))
       scanned r F e roots r₁ e₁ A (inr u) =
-          inr (
-            roots,
-            u .0,
-            rw (e, collected, e₁, u .1),
-            record {
-              start = A .ghost;
-              end = u .2;
-              count = A .count;
-              unbound = rw (fresh-is r e, roots-follow (s .ctl .n) (s .roots) roots r r₁ e₁) (ends-finished (u .0) (stack-ends (s .ctl .n) r₁) (u .1));
-              rels = λ i b. rel-grows (A .ghost .log) (u .2 .ghost .log) (u .2 .log) (A .rels i b);
-            },
-          )
+          inr (roots, u .0, rw (e, collected, e₁, u .1), ran s S r F e roots r₁ A e₁ (u .0) (u .1) (u .2))
 
       rooted : (r : Run) (F : Fresh s S (s .ctl .regions) r) → freshen (s .ctl .n) (s .ctl .regions) 0 (begun s) ≡ some r
           → ((evacuateAll (s .ctl .n) (s .roots) r ≡ none) × Lacking s S (rootsFor (s .ctl .n) (s .roots) r))
           ⊎ ((roots : List ℕ) × (r₁ : Run) × (evacuateAll (s .ctl .n) (s .roots) r ≡ some (roots, r₁)) × AllBecame s S (first s S r F) r (s .roots) roots r₁) → Result
-      rooted r F e (inl u) = inl (rw (e, collected, u .0), out (lacking-on (λ y. rw (fresh-is r e) (stack-dry (s .ctl .n) (length (s .heap) + 2 ^ s .ctl .n) (rootsFor (s .ctl .n) (s .roots) r) y)) (u .1)))
+      rooted r F e (inl u) = inl (rw (e, collected, u .0), out (lacking-on (λ y. rw (fresh-is s S r F e) (stack-dry (s .ctl .n) (length (s .heap) + 2 ^ s .ctl .n) (rootsFor (s .ctl .n) (s .roots) r) y)) (u .1)))
       rooted r F e (inr u) =
           let A = u .3 in
-          let cost = A .later .cost in
-          let z = none-total (s .ctl .regions) in
-          let d : length (r .stack) ≡ 0 = ap length (F .stack) in
-          scanned r F e (u .0) (u .1) (u .2) A (works-stack s S (A .ghost) (u .1) (A .inv) (A .later .cur) (A .later .half) (omega arith))
+          scanned r F e (u .0) (u .1) (u .2) A (works-stack s S (A .ghost) (u .1) (A .inv) (A .later .cur) (A .later .half) (rooted-cost s S r F e (u .0) (u .1) A))
 
       freshened : ((freshen (s .ctl .n) (s .ctl .regions) 0 (begun s) ≡ none) × (s .ctl .count < s .ctl .regions)
           × Dry (length (s .heap) + 2 ^ s .ctl .n) (freshenFor (s .ctl .n) (s .ctl .regions) 0 (begun s)))

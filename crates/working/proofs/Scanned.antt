@@ -3,7 +3,7 @@ use Prim.Native.Nat.{ℕ, suc, _+_, _*_, _^_, _≤_, _<_}
 use native.Mathlib.Nat.{le-refl}
 use native.Mathlib.Omega.{arith}
 use native.Mathlib.Decide.{ℕ-discrete}
-use mathlib.Core.Path.{_≡_, refl, sym, ap, _∙_}
+use mathlib.Core.Path.{_≡_, refl, sym, _∙_}
 use mathlib.Core.Logic.{_≢_, _⊎_, inl, inr}
 use mathlib.Core.List.{List, List·Memᴰ}
 use lib.ListN.{length, set}
@@ -12,7 +12,7 @@ use Rattle.rules.specs.Memory.{Store}
 use Rattle.laws.specs.Lists.{at}
 use Rattle.facts.proofs.Steps.{Stands, Steps, steps-le, stands-same, apart}
 use Rattle.facts.proofs.Inside.{other-page, steps-still}
-use Rattle.facts.proofs.Laid.{old≢mine, upd, upd-same, upd-other, Owner, old, mine}
+use Rattle.facts.proofs.Laid.{upd, upd-same, upd-other, Owner, old, mine, old-mine-apart}
 use Rattle.facts.proofs.Copied.{Moved, to, Rel}
 use Rattle.working.proofs.Log.{pointers, Copy, Log}
 
@@ -28,18 +28,12 @@ module _ (n : ℕ) (s : Store) (kept : ℕ → Type 0) (own : ℕ → Owner) (fi
   agree : (y : ℕ) → y ≢ d + suc i → at h y ≡ at h′ y
   agree y ne = sym (getD-set-other h (d + suc i) y v 0 ne)
 
-  lo : C .into * 2 ^ n + 2 ≤ d
-  lo = steps-le (C .into-steps)
-
-  hi : d + suc (C .len) ≤ C .into * 2 ^ n + 2 ^ n
-  hi = C .into-stands .ends
-
   -- the word lies in its own page
   abbrev apart-from : (k y : ℕ) → k ≢ C .into → k * 2 ^ n ≤ y → y < k * 2 ^ n + 2 ^ n → y ≢ d + suc i
   apart-from = other-page n h (C .into) d (C .len) i (C .into-steps) (C .into-stands) i-in
 
   old-page : (k y : ℕ) → own k ≡ old → k * 2 ^ n ≤ y → y < k * 2 ^ n + 2 ^ n → y ≢ d + suc i
-  old-page k y o = apart-from k y (λ e. old≢mine o (ap own e ∙ C .into-mine))
+  old-page k y o = apart-from k y (old-mine-apart own o (C .into-mine))
 
   -- stepping through any page goes as before
   abbrev steps-any : (k e : ℕ) → Steps h (k * 2 ^ n + 2 ^ n) (k * 2 ^ n + 2) e → e ≤ k * 2 ^ n + 2 ^ n → Steps h′ (k * 2 ^ n + 2 ^ n) (k * 2 ^ n + 2) e
@@ -49,12 +43,6 @@ module _ (n : ℕ) (s : Store) (kept : ℕ → Type 0) (own : ℕ → Owner) (fi
   elsewhere : {c′ d′ : ℕ} (D : Copy n s kept own fin h log done c′ d′) → d′ ≢ d → (y : ℕ) → d′ ≤ y → y < d′ + suc (D .len) → y ≢ d + suc i
   elsewhere {c′} {d′} D ne y p q = go (ℕ-discrete (D .into) (C .into))
     where
-      lo′ : D .into * 2 ^ n + 2 ≤ d′
-      lo′ = steps-le (D .into-steps)
-
-      hi′ : d′ + suc (D .len) ≤ D .into * 2 ^ n + 2 ^ n
-      hi′ = D .into-stands .ends
-
       both : (d′ ≤ d) ⊎ (d + suc (C .len) ≤ d′) → (d ≤ d′) ⊎ (d′ + suc (D .len) ≤ d) → y ≢ d + suc i
       both (inl a) (inl b) = absurd (ne (omega arith))
       both (inl a) (inr b) = omega arith
@@ -65,10 +53,13 @@ module _ (n : ℕ) (s : Store) (kept : ℕ → Type 0) (own : ℕ → Owner) (fi
           let S : Steps h (C .into * 2 ^ n + 2 ^ n) (C .into * 2 ^ n + 2) d′ = rw e at (D .into-steps) in
           let T : Stands h (C .into * 2 ^ n + 2 ^ n) d′ (D .len) = rw e at (D .into-stands) in
           both (apart (C .into-steps) (C .into-stands) S) (apart S T (C .into-steps))
-      go (no f) = let a = lo′ in let b = hi′ in apart-from (D .into) y f (omega arith) (omega arith)
+      go (no f) = let a = steps-le (D .into-steps) in let b = D .into-stands .ends in apart-from (D .into) y f (omega arith) (omega arith)
 
-  other-copy : {c′ d′ : ℕ} (D : Copy n s kept own fin h log done c′ d′) → d′ ≢ d → Copy n s kept own fin h′ log (upd done d (suc i)) c′ d′
-  other-copy {c′} {d′} D ne =
+  -- a copy whose header is not the word is a copy still, once its fields are told anew
+  copy-still : {c′ d′ : ℕ} (D : Copy n s kept own fin h log done c′ d′) → d′ ≢ d + suc i
+      → ((f : ℕ) → f < D .len → f < upd done d (suc i) d′ → Rel kept (pointers log) (at (s .heap) (c′ + suc f)) (at h′ (d′ + suc f)))
+      → ((f : ℕ) → f < D .len → upd done d (suc i) d′ ≤ f → at h′ (d′ + suc f) ≡ at (s .heap) (c′ + suc f)) → Copy n s kept own fin h′ log (upd done d (suc i)) c′ d′
+  copy-still {c′} {d′} D ne scanned waiting =
       let lo₀ = steps-le (D .from-steps) in
       let hi₀ = D .from-stands .ends in
       let hi₁ = D .into-stands .ends in
@@ -83,40 +74,28 @@ module _ (n : ℕ) (s : Store) (kept : ℕ → Type 0) (own : ℕ → Owner) (fi
         from-stands = D .from-stands;
         into-mine = D .into-mine;
         into-steps = steps-any (D .into) d′ (D .into-steps) (omega arith);
-        into-stands = stands-same (agree d′ (elsewhere D ne d′ (le-refl d′) (omega arith))) (D .into-stands);
+        into-stands = stands-same (agree d′ ne) (D .into-stands);
         into-below = D .into-below;
-        head = sym (agree d′ (elsewhere D ne d′ (le-refl d′) (omega arith))) ∙ D .head;
+        head = sym (agree d′ ne) ∙ D .head;
         forward = sym (agree c′ (old-page (D .from) c′ (D .from-old) (omega arith) (omega arith))) ∙ D .forward;
-        scanned = λ f q t. rw (← agree (d′ + suc f) (elsewhere D ne (d′ + suc f) (omega arith) (omega arith))) (D .scanned f q (rw (upd-other done d (suc i) d′ ne) at t));
-        waiting = λ f q t. sym (agree (d′ + suc f) (elsewhere D ne (d′ + suc f) (omega arith) (omega arith))) ∙ D .waiting f q (rw (upd-other done d (suc i) d′ ne) at t);
+        scanned = scanned;
+        waiting = waiting;
       }
+
+  other-copy : {c′ d′ : ℕ} (D : Copy n s kept own fin h log done c′ d′) → d′ ≢ d → Copy n s kept own fin h′ log (upd done d (suc i)) c′ d′
+  other-copy {c′} {d′} D ne =
+      copy-still D (elsewhere D ne d′ (le-refl d′) (omega arith))
+      (λ f q t. rw (← agree (d′ + suc f) (elsewhere D ne (d′ + suc f) (omega arith) (omega arith))) (D .scanned f q (rw (upd-other done d (suc i) d′ ne) at t)))
+      (λ f q t. sym (agree (d′ + suc f) (elsewhere D ne (d′ + suc f) (omega arith) (omega arith))) ∙ D .waiting f q (rw (upd-other done d (suc i) d′ ne) at t))
 
   own-copy : Copy n s kept own fin h′ log (upd done d (suc i)) c d
   own-copy =
-      let lo₀ = steps-le (C .from-steps) in
-      let hi₀ = C .from-stands .ends in
-      let hi₁ = hi in
-      record {
-        from = C .from;
-        into = C .into;
-        region = C .region;
-        len = C .len;
-        from-old = C .from-old;
-        from-whose = C .from-whose;
-        from-steps = C .from-steps;
-        from-stands = C .from-stands;
-        into-mine = C .into-mine;
-        into-steps = steps-any (C .into) d (C .into-steps) (omega arith);
-        into-stands = stands-same (agree d (omega arith)) (C .into-stands);
-        into-below = C .into-below;
-        head = sym (agree d (omega arith)) ∙ C .head;
-        forward = sym (agree c (old-page (C .from) c (C .from-old) (omega arith) (omega arith))) ∙ C .forward;
-        scanned = λ f q t. now f q (rw (upd-same done d (suc i) d refl) at t) (ℕ-discrete f i);
-        waiting = λ f q t.
-            let t′ = rw (upd-same done d (suc i) d refl) at t in
-            let w = i-next in
-            sym (agree (d + suc f) (omega arith)) ∙ C .waiting f q (omega arith);
-      }
+      copy-still C (omega arith)
+      (λ f q t. now f q (rw (upd-same done d (suc i) d refl) at t) (ℕ-discrete f i))
+      (λ f q t.
+      let t′ = rw (upd-same done d (suc i) d refl) at t in
+      let w = i-next in
+      sym (agree (d + suc f) (omega arith)) ∙ C .waiting f q (omega arith))
     where
       now : (f : ℕ) → f < C .len → f < suc i → Dec (f ≡ i) → Rel kept (pointers log) (at (s .heap) (c + suc f)) (at h′ (d + suc f))
       now f q t (yes e) = rw (e, getD-set-same h (d + suc i) v 0 x-in) rel
@@ -128,7 +107,7 @@ module _ (n : ℕ) (s : Store) (kept : ℕ → Type 0) (own : ℕ → Owner) (fi
 
   -- and back
   steps-back : (k e : ℕ) → Steps h′ (k * 2 ^ n + 2 ^ n) (k * 2 ^ n + 2) e → e ≤ k * 2 ^ n + 2 ^ n → Steps h (k * 2 ^ n + 2 ^ n) (k * 2 ^ n + 2) e
-  unfolding own-copy
+  unfolding own-copy copy-still
   steps-back = steps-still n h′ (C .into) d (C .len) i (own-copy .into-steps) (own-copy .into-stands) i-in h (λ y ne. sym (agree y ne))
 
   -- the log after the field

@@ -1,31 +1,31 @@
 -- A copy scanned, whole: its fields one after the other, each evacuated and set. Its region's copies to be scanned lose it, and get those
 -- copied meanwhile at their end.
-use Prim.Native.Nat.{ℕ, zero, suc, _+_, _*_, _^_, _≤_, _<_}
+use Prim.Native.Nat.{ℕ, zero, suc, _+_, _*_, _^_, _<_}
 use native.Mathlib.Omega.{arith}
 use mathlib.Core.Path.{_≡_, refl, ap, _∙_, subst}
 use mathlib.Core.Logic.{_⊎_, inl, inr}
 use mathlib.Core.Bool.{true}
 use mathlib.Core.Option.{none, some}
-use mathlib.Core.List.{List, List·Memᴰ}
-use lib.ListN.{length, set, take, drop, length-drop}
-use lib.Seq.{length-take-le, getD-take, getD-drop}
+use mathlib.Core.List.{List·Memᴰ}
+use lib.ListN.{length, set, take, drop}
 use Rattle.laws.specs.Lists.{at}
+use Rattle.laws.proofs.Lists.{part-length, word-in}
 use Rattle.rules.specs.Memory.{Store}
-use Rattle.rules.specs.Words.{rec, headOf, lengthBy, recordBy, isRecord}
+use Rattle.rules.specs.Words.{rec, headOf, recordBy, isRecord}
 use Rattle.rules.specs.Pages.{Run, withHeap}
 use Rattle.rules.specs.Collection.{evacuate, scanFields}
 use Rattle.rules.specs.Calls.{lookIn, headerIn, fieldsIn}
 use Rattle.rules.specs.Seen.{seen, Reached, field}
-use Rattle.facts.proofs.Laid.{upd-same, page-in}
+use Rattle.facts.proofs.Steps.{record-length}
+use Rattle.facts.proofs.Laid.{upd-same}
 use Rattle.facts.proofs.Copied.{to}
-use Rattle.facts.proofs.Looked.{look-at}
-use Rattle.facts.proofs.Sound.{Good, Sound}
-use Rattle.working.proofs.Owned.{old≢beyond}
+use Rattle.facts.proofs.Looked.{look-at, words-head}
+use Rattle.facts.proofs.Sound.{Good, Sound, descriptor-fits}
 use Rattle.working.proofs.Log.{Copy}
 use Rattle.rules.specs.Wanted.{evacuateFor, fieldSet, fieldsFor}
 use Rattle.working.proofs.Wanting.{follows-some, evacuate-follows}
 use Rattle.working.proofs.Dry.{Dry, field-dry, fields-dry}
-use Rattle.working.proofs.Invariant.{lacking-on, Ghost, Kept, Inv, Later, later-trans, Lacking, Became}
+use Rattle.working.proofs.Invariant.{lacking-on, Ghost, Kept, Inv, old-in, copy-known, Later, later-trans, Lacking, Became}
 use Rattle.working.proofs.Evacuation.{evacuates}
 use Rattle.working.proofs.Fielding.{counted, field-inv}
 
@@ -42,17 +42,8 @@ module _ (s : Store) (S : Sound s) (g : Ghost) (r : Run) (I : Inv s S g r) (c d 
   abbrev C : Copy n s (Kept s) (g .own) (g .fin) (r .heap) (g .log) (g .count) c d
   C = I .logged .copies m
 
-  old-in : C .from * 2 ^ n + 2 ^ n ≤ length (s .heap)
-  old-in = let a = S .laid .size in let b = I .laid .size in let c = page-in (I .laid) (C .from) (λ q. old≢beyond (C .from-old) q) in omega arith
-
-  pub region-known : C .region < R
-  region-known = I .owned .mines (C .into) (C .region) (C .into-mine) .0
-
-  big : 2 ≤ 2 ^ n
-  big = let b = S .laid .big in omega arith
-
   pub seen-old : lookIn s (4 * c) ≡ take (suc (C .len)) (drop c (s .heap))
-  seen-old = look-at s (C .from) c (C .len) big old-in (C .from-steps) (C .from-stands) (C .region) region-known (C .from-whose)
+  seen-old = look-at s (C .from) c (C .len) (descriptor-fits s S) (old-in I (C .from) (C .from-old)) (C .from-steps) (C .from-stands) (C .region) (copy-known I m) (C .from-whose)
 
   module _ (kind : isRecord (at (s .heap) c) ≡ true) (f : ℕ) (f-in : f < C .len) where
     pub field-good : Good n R (s .heap) (s .consts) (at (s .heap) (c + suc f))
@@ -62,15 +53,12 @@ module _ (s : Store) (S : Sound s) (g : Ghost) (r : Run) (I : Inv s S g r) (c d 
 
     pub field-reached : Reached (seen s) (s .roots) (at (s .heap) (c + suc f))
     field-reached =
-        let inside = old-in in
+        let inside = old-in I (C .from) (C .from-old) in
         let ends = C .from-stands .ends in
-        let ld = length-drop c (s .heap) in
-        let ws : List ℕ = take (suc (C .len)) (drop c (s .heap)) in
-        let word : (i : ℕ) → i ≤ C .len → at ws i ≡ at (s .heap) (c + i) = λ i b. getD-take (suc (C .len)) (drop c (s .heap)) i 0 (omega arith) ∙ getD-drop c (s .heap) i 0 in
-        let len : length ws ≡ suc (C .len) = length-take-le (suc (C .len)) (drop c (s .heap)) (omega arith) in
-        let e : at (lookIn s (4 * c)) (suc f) ≡ at (s .heap) (c + suc f) = ap (λ v. at v (suc f)) seen-old ∙ word (suc f) (omega arith) in
+        let len = part-length (s .heap) c (suc (C .len)) (omega arith) in
+        let e : at (lookIn s (4 * c)) (suc f) ≡ at (s .heap) (c + suc f) = ap (λ v. at v (suc f)) seen-old ∙ word-in (s .heap) c (suc (C .len)) (suc f) (omega arith) in
         let k : isRecord (headerIn (lookIn s (4 * c))) ≡ true
-        = ap (λ v. isRecord (headerIn v)) seen-old ∙ ap isRecord (word 0 (omega arith) ∙ ap (at (s .heap)) (omega arith)) ∙ kind in
+        = ap (λ v. isRecord (headerIn v)) seen-old ∙ ap isRecord (words-head (s .heap) c (C .len)) ∙ kind in
         let b : f < fieldsIn (lookIn s (4 * c)) = rw seen-old (omega arith) in
         subst (Reached (seen s) (s .roots)) e (field f (I .logged .live m) k b)
 
@@ -87,7 +75,7 @@ module _ (s : Store) (S : Sound s) (g₀ : Ghost) (r₀ : Run) (c d l : ℕ) whe
 
   module _ (head : headOf (at (s .heap) c) ≡ rec l) where
     pub len-is : {r : Run} {i : ℕ} (Q : Ready r i) → Q .inv .logged .copies (Q .entry) .len ≡ l
-    len-is Q = let e = Q .inv .logged .copies (Q .entry) .from-stands .head in let t : lengthBy (headOf (at (s .heap) c)) ≡ some l = ap lengthBy head in cc
+    len-is Q = record-length (Q .inv .logged .copies (Q .entry) .from-stands) head
 
     pub kind : isRecord (at (s .heap) c) ≡ true
     unfolding isRecord
@@ -100,13 +88,27 @@ module _ (s : Store) (S : Sound s) (g₀ : Ghost) (r₀ : Run) (c d l : ℕ) whe
         let e = Q .next in
         Q .inv .logged .copies (Q .entry) .waiting i (omega arith) (omega arith)
 
+    -- what the run makes of the word
+    pub field-lacks : {r : Run} {i : ℕ} (m : ℕ) → i < l → Ready r i → evacuate (s .ctl .n) (at (s .heap) (c + suc i)) r ≡ none → scanFields (s .ctl .n) (suc m) (d + suc i) r ≡ none
+    unfolding scanFields
+    field-lacks {r} {i} m b Q q =
+        let q′ : evacuate (s .ctl .n) (at (r .heap) (d + suc i)) r ≡ none = ap (λ x. evacuate (s .ctl .n) x r) (unscanned b Q) ∙ q in
+        rw (q′, scanFields)
+
+    pub field-scans : {r : Run} {i : ℕ} (m : ℕ) → i < l → Ready r i → (v : ℕ) (r′ : Run) → evacuate (s .ctl .n) (at (s .heap) (c + suc i)) r ≡ some (v, r′)
+        → scanFields (s .ctl .n) (suc m) (d + suc i) r ≡ scanFields (s .ctl .n) m (d + suc (suc i)) (withHeap r′ (set (r′ .heap) (d + suc i) v))
+    unfolding scanFields
+    field-scans {r} {i} m b Q v r′ q =
+        let q′ : evacuate (s .ctl .n) (at (r .heap) (d + suc i)) r ≡ some (v, r′) = ap (λ x. evacuate (s .ctl .n) x r) (unscanned b Q) ∙ q in
+        let t : suc (d + suc i) ≡ d + suc (suc i) = omega arith in
+        rw (q′, scanFields) (ap (λ x. scanFields (s .ctl .n) m x (withHeap r′ (set (r′ .heap) (d + suc i) v))) t)
+
     -- one field
     unfoldable pub stepped : {r : Run} {i : ℕ} → i < l → (Q : Ready r i) (v : ℕ) (r′ : Run) → Became s S (Q .ghost) r (at (s .heap) (c + suc i)) v r′
         → Ready (withHeap r′ (set (r′ .heap) (d + suc i) v)) (suc i)
     stepped {r} {i} b Q v r′ O =
         let m = O .later .log (to c d) (Q .entry) in
-        let e : O .inv .logged .copies m .len ≡ l
-        = (let q = O .inv .logged .copies m .from-stands .head in let t : lengthBy (headOf (at (s .heap) c)) ≡ some l = ap lengthBy head in cc) in
+        let e : O .inv .logged .copies m .len ≡ l = record-length (O .inv .logged .copies m .from-stands) head in
         let gone : (j : ℕ) → j < s .ctl .regions → List·Memᴰ d (O .ghost .todo j) → ⊥ = λ j jR q. Q .gone j jR (O .later .waits (Q .entry) j q) in
         let mid : O .ghost .half ≡ some d = O .later .half ∙ Q .mid in
         let L = later-trans (Q .later) (O .later) in
@@ -136,13 +138,6 @@ module _ (s : Store) (S : Sound s) (g₀ : Ghost) (r₀ : Run) (c d l : ℕ) whe
         w-is : at (r .heap) (d + suc i) ≡ at (s .heap) (c + suc i)
         w-is = unscanned (omega arith) Q
 
-        step : (v : ℕ) (r′ : Run) → evacuate (s .ctl .n) (at (s .heap) (c + suc i)) r ≡ some (v, r′)
-            → scanFields (s .ctl .n) (suc m) (d + suc i) r ≡ scanFields (s .ctl .n) m (d + suc (suc i)) (withHeap r′ (set (r′ .heap) (d + suc i) v))
-        step v r′ q =
-            let q′ : evacuate (s .ctl .n) (at (r .heap) (d + suc i)) r ≡ some (v, r′) = ap (λ x. evacuate (s .ctl .n) x r) w-is ∙ q in
-            let t : suc (d + suc i) ≡ d + suc (suc i) = omega arith in
-            rw (q′, scanFields) (ap (λ x. scanFields (s .ctl .n) m x (withHeap r′ (set (r′ .heap) (d + suc i) v))) t)
-
         -- and so goes the working with as many pages as it wants
         step-for : (v : ℕ) (r′ : Run) → evacuate (s .ctl .n) (at (s .heap) (c + suc i)) r ≡ some (v, r′)
             → fieldsFor (s .ctl .n) (suc m) (d + suc i) r ≡ fieldsFor (s .ctl .n) m (d + suc (suc i)) (withHeap r′ (set (r′ .heap) (d + suc i) v))
@@ -170,7 +165,6 @@ module _ (s : Store) (S : Sound s) (g₀ : Ghost) (r₀ : Run) (c d l : ℕ) whe
             ⊎ ((v : ℕ) × (r′ : Run) × (evacuate (s .ctl .n) (at (s .heap) (c + suc i)) r ≡ some (v, r′)) × Became s S (Q .ghost) r (at (s .heap) (c + suc i)) v r′)
             → Result r (suc m) i
         go rest (inl q) =
-            let q′ : evacuate (s .ctl .n) (at (r .heap) (d + suc i)) r ≡ none = ap (λ x. evacuate (s .ctl .n) x r) w-is ∙ q .0 in
-            inl (rw (q′, scanFields), lacking-on on (q .1))
+            inl (field-lacks m (omega arith) Q (q .0), lacking-on on (q .1))
         go rest (inr u) =
-            up _ (step (u .0) (u .1) (u .2)) (step-for (u .0) (u .1) (u .2)) (rest (withHeap (u .1) (set (u .1 .heap) (d + suc i) (u .0))) (stepped (omega arith) Q (u .0) (u .1) (u .3)))
+            up _ (field-scans m (omega arith) Q (u .0) (u .1) (u .2)) (step-for (u .0) (u .1) (u .2)) (rest (withHeap (u .1) (set (u .1 .heap) (d + suc i) (u .0))) (stepped (omega arith) Q (u .0) (u .1) (u .3)))

@@ -14,8 +14,8 @@ use Rattle.rules.specs.Memory.{link, endOf, firstOf, topOf}
 use Rattle.laws.specs.Lists.{at, put}
 use Rattle.rules.specs.Pages.{Run, store}
 use Rattle.laws.proofs.Lists.{put-elsewhere, length-put, at-put-below, at-put-in, at-put-above}
-use Rattle.facts.proofs.Steps.{Stands, here, over, steps-le, steps-then, steps-same}
-use Rattle.facts.proofs.Laid.{mine-inj, spare≢mine, spare≢beyond, mine≢beyond, upd, upd-same, upd-other, Last, last-in, Linked, linked-same, Owner, beyond, mine, Body, Like, body-like, clean-like, Layout, Value, page-in}
+use Rattle.facts.proofs.Steps.{Stands, here, over, steps-then, steps-same}
+use Rattle.facts.proofs.Laid.{mine-inj, spare≢mine, spare≢beyond, mine≢beyond, upd, upd-same, upd-other, Last, last-in, Linked, linked-same, Owner, beyond, mine, Body, Like, body-like, clean-like, Layout, Value, last-own, last-low, top-in-heap}
 
 module _ (n N R : ℕ) (own : ℕ → Owner) (fin : ℕ → ℕ) (pages : ℕ → List ℕ) (free : List ℕ) (r : Run) (L : Layout n N R own fin pages free r)
     (j l : ℕ) (ws : List ℕ) (jR : j < R) (val : Value ws l) (fits : topOf (r .table) j + length ws ≤ endOf (r .table) j) where
@@ -24,7 +24,7 @@ module _ (n N R : ℕ) (own : ℕ → Owner) (fin : ℕ → ℕ) (pages : ℕ �
   lastPage = L .mine-top j jR .0
 
   own-k : own lastPage ≡ mine j
-  own-k = L .mine-own j lastPage jR (last-in (L .mine-top j jR .1))
+  own-k = last-own L j jR
 
   e-is : endOf (r .table) j ≡ lastPage * 2 ^ n + 2 ^ n
   e-is = L .mine-top j jR .2
@@ -36,13 +36,10 @@ module _ (n N R : ℕ) (own : ℕ → Owner) (fin : ℕ → ℕ) (pages : ℕ �
   body = L .mine-body j lastPage own-k
 
   low : lastPage * 2 ^ n + 2 ≤ topOf (r .table) j
-  low = let b = steps-le (body .filled) in let a = a-is in omega arith
-
-  k-known : own lastPage ≢ beyond
-  k-known q = mine≢beyond own-k q
+  low = last-low L j jR
 
   top-in : topOf (r .table) j + length ws ≤ length (r .heap)
-  top-in = let p = page-in L lastPage k-known in let e = e-is in omega arith
+  top-in = top-in-heap L j jR (length ws) fits
 
   heap′ : List ℕ
   heap′ = put (r .heap) (topOf (r .table) j) ws

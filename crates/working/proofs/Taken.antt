@@ -4,7 +4,7 @@ use Prim.Native.Nat.{ℕ, suc, _+_, _-_, _*_, _^_, _≤_, _<_}
 use native.Mathlib.Nat.{le-refl}
 use native.Mathlib.Omega.{arith}
 use native.Mathlib.Decide.{ℕ-discrete}
-use mathlib.Core.Path.{_≡_, refl, sym, ap, _∙_}
+use mathlib.Core.Path.{_≡_, refl, sym, _∙_}
 use mathlib.Core.Logic.{_≢_}
 use mathlib.Core.Option.{none, some}
 use mathlib.Core.List.{List, [], _∷_, List·Memᴰ, List·Memᴰ·head, List·Memᴰ·tail}
@@ -18,7 +18,7 @@ use Rattle.rules.specs.Pages.{Run, takePage, withFree, lastIf}
 use Rattle.laws.proofs.Lists.{set-elsewhere}
 use Rattle.facts.proofs.Steps.{here}
 use Rattle.laws.proofs.Once.{once-tail, once-head}
-use Rattle.facts.proofs.Laid.{mine-inj, spare≢mine, spare≢beyond, upd, upd-same, upd-other, last-in, linked-same, Owner, spare, beyond, mine, Body, Clean, Like, body-like, clean-like, Layout, page-in}
+use Rattle.facts.proofs.Laid.{mine-inj, spare≢mine, spare≢beyond, upd, upd-same, upd-other, last-in, linked-same, Owner, spare, mine, Body, Clean, Like, body-like, clean-like, Layout, page-in, like-kept, link-kept, chain-apart, upd-known}
 
 -- the run after page k is taken
 unfoldable pub taken : ℕ → ℕ → ℕ → Run → Run
@@ -28,6 +28,15 @@ taken n j k r =
 pub takes : (n j k : ℕ) (r : Run) → r .first ≡ suc k → takePage n j r ≡ some (k, taken n j k r)
 unfolding takePage taken
 takes n j k r e = rw (e, takePage)
+
+-- the table is as it was, and the heap as long
+pub taken-table : (n j k : ℕ) (r : Run) → taken n j k r .table ≡ r .table
+unfolding taken
+taken-table n j k r = refl
+
+pub taken-long : (n j k : ℕ) (r : Run) → length (taken n j k r .heap) ≡ length (r .heap)
+unfolding taken
+taken-long n j k r = length-set (set (r .heap) (k * 2 ^ n) 0) (k * 2 ^ n + 1) (suc j) ∙ length-set (r .heap) (k * 2 ^ n) 0
 
 pub takes-none : (n j : ℕ) (r : Run) → r .first ≡ 0 → takePage n j r ≡ none
 unfolding takePage
@@ -61,11 +70,10 @@ module _ (n N R : ℕ) (own : ℕ → Owner) (fin : ℕ → ℕ) (pages : ℕ �
       ∙ set-elsewhere P (r .heap) k (k * P) 0 l x (le-refl _) (omega arith) ne p q
 
   like : (l : ℕ) → l ≢ k → Like n (r .heap) h′ l
-  like l ne = record { word = λ x p q. sym (others l x ne (omega arith) q) }
+  like l ne = like-kept n (r .heap) h′ l (λ x. others l x ne)
 
   links : (l : ℕ) → l ≢ k → link n (r .heap) l ≡ link n h′ l
-  unfolding link
-  links l ne = let b = L .big in sym (others l (l * P) ne (le-refl _) (omega arith))
+  links l ne = link-kept n (r .heap) h′ l (λ x. others l x ne) (L .big)
 
   k-body : Body n h′ k j (k * P + 2)
   k-body =
@@ -91,9 +99,6 @@ module _ (n N R : ℕ) (own : ℕ → Owner) (fin : ℕ → ℕ) (pages : ℕ �
 
   own-other : (l : ℕ) → l ≢ k → own′ l ≡ own l
   own-other l ne = upd-other own k (mine j) l ne
-
-  not-k : (o : Owner) → o ≢ spare → (l : ℕ) → own l ≡ o → l ≢ k
-  not-k o ns l e q = ns (sym e ∙ ap own q ∙ own-k)
 
   rest-not-k : (l : ℕ) → List·Memᴰ l ks → l ≢ k
   rest-not-k l m q = once-head (L .free-once) (rw q at m)
@@ -121,15 +126,8 @@ module _ (n N R : ℕ) (own : ℕ → Owner) (fin : ℕ → ℕ) (pages : ℕ �
       go (yes e) = spare≢mine o (upd-same own k (mine j) l e)
       go (no ne) = clean-like (like l ne) (L .free-clean l (sym (own-other l ne) ∙ o))
 
-  knowns : (l : ℕ) → own′ l ≢ beyond → l < N
-  knowns l ne = go (ℕ-discrete l k)
-    where
-      go : Dec (l ≡ k) → l < N
-      go (yes e) = L .known l (λ q. spare≢beyond (ap own e ∙ own-k) q)
-      go (no f) = L .known l (λ q. ne (own-other l f ∙ q))
-
   mine-not-k : (i l : ℕ) → i < R → List·Memᴰ l (pages i) → l ≢ k
-  mine-not-k i l b m = not-k (mine i) (λ q. spare≢mine q refl) l (L .mine-own i l b m)
+  mine-not-k = chain-apart L (λ i. spare≢mine own-k)
 
   counts : r .count - 1 ≡ length ks
   counts = let c = L .free-count in omega arith
@@ -139,10 +137,10 @@ module _ (n N R : ℕ) (own : ℕ → Owner) (fin : ℕ → ℕ) (pages : ℕ �
   taken-laid =
       let f = linked-first (L .free-links) in
       record {
-        size = length-set (set (r .heap) (k * P) 0) (k * P + 1) (suc j) ∙ length-set (r .heap) (k * P) 0 ∙ L .size;
+        size = taken-long n j k r ∙ L .size;
         big = L .big;
         rows = L .rows;
-        known = knowns;
+        known = upd-known L k (mine j) (spare≢beyond own-k);
         free-own = λ l m. own-other l (rest-not-k l m) ∙ L .free-own l (List·Memᴰ·tail m);
         free-once = once-tail (L .free-once);
         free-links = linked-same (λ l m. links l (rest-not-k l m)) (f .1);

@@ -5,8 +5,9 @@ use native.Mathlib.Omega.{arith}
 use native.Mathlib.Decide.{ℕ-discrete}
 use mathlib.Core.Path.{_≡_, refl, sym, ap, _∙_, subst}
 use mathlib.Core.Logic.{_≢_, _⊎_, inl, inr}
-use mathlib.Core.Option.{none, some}
+use mathlib.Core.Option.{none, some, Option·none-ne-some}
 use mathlib.Core.List.{List, [], _∷_, _++_, append-assoc, List·Memᴰ, List·Memᴰ·head, List·Memᴰ·tail, Memᴰ·append-right}
+use mathlib.Core.Bool.{false≢true}
 use lib.ListN.{length}
 use Rattle.laws.specs.Lists.{at}
 use Rattle.laws.proofs.Once.{Once, once-more, once-tail, in-tail}
@@ -21,7 +22,7 @@ use Rattle.working.proofs.Owned.{mine-inj, total, total-tail}
 use Rattle.working.proofs.Next.{Row}
 use Rattle.working.proofs.Rows.{InRow, row-in, row-once, pages-differ}
 use Rattle.rules.specs.Wanted.{fieldsFor, valueFor}
-use Rattle.working.proofs.Invariant.{waiting, waiting-inv, lacking-on, Ghost, Waits, Pending, Inv, Later, later-refl, Lacking}
+use Rattle.working.proofs.Invariant.{waits-still, waiting, waiting-inv, lacking-on, Ghost, Waits, Pending, Inv, Later, later-refl, Lacking}
 use Rattle.working.proofs.Scanning.{Ready, scans-fields}
 
 -- the copy at b, the first that waits in region j, is being scanned; ts wait behind it
@@ -87,7 +88,7 @@ module _ (s : Store) (S : Sound s) (g : Ghost) (r : Run) (I : Inv s S g r) (j b 
   waits : (t : Scan) → Waits R g (r .table) t → Waits R (opened g j b ts) (r .table) t
   waits t W =
       let ne : t .region ≢ j = λ q. W .other (cur ∙ ap some (sym q)) in
-      record { known = W .known; awake = W .awake; other = W .other; rest = W .rest; begins = upd-other (g .todo) j ts (t .region) ne ∙ W .begins }
+      waits-still t refl (upd-other (g .todo) j ts (t .region) ne) W
 
   opened-pending : Pending n R (opened g j b ts) r
   opened-pending =
@@ -96,7 +97,7 @@ module _ (s : Store) (S : Sound s) (g : Ghost) (r : Run) (I : Inv s S g r) (j b 
         untouched = λ i c iR m. P .untouched i c iR (before i c (ℕ-discrete i j) m);
         scanned = λ {b = c} m gone ne l e.
             P .scanned m (λ i iR q. gone i iR (still i c (λ t. ne (ap some (sym t))) (ℕ-discrete i j) q))
-            (λ q. let z : none ≡ some c = sym none-open ∙ q in let z′ : _≡_ {A = ℕ} 0 1 = cc in omega arith) l e;
+            (λ q. Option·none-ne-some c (sym none-open ∙ q)) l e;
         raws = P .raws;
         stacked = λ t m. waits t (P .stacked t m);
         once = P .once;
@@ -106,7 +107,7 @@ module _ (s : Store) (S : Sound s) (g : Ghost) (r : Run) (I : Inv s S g r) (j b 
       }
 
   pub opened-inv : Inv s S (opened g j b ts) r
-  opened-inv = waiting-inv I opened-pending
+  opened-inv = waiting-inv (r .stack) I opened-pending
 
   -- it is a copy
   pub b-entry : (c : ℕ) × List·Memᴰ (to c b) (g .log)
@@ -131,7 +132,7 @@ module _ (s : Store) (S : Sound s) (g : Ghost) (r : Run) (I : Inv s S g r) (d : 
         untouched = P .untouched;
         scanned = λ {b = c} m gone ne l e. go c (ℕ-discrete c d) l e (λ q. P .scanned m gone q l e);
         raws = P .raws;
-        stacked = λ t m. let W = P .stacked t m in record { known = W .known; awake = W .awake; other = W .other; rest = W .rest; begins = W .begins };
+        stacked = λ t m. waits-still t refl refl (P .stacked t m);
         once = P .once;
         at-work = P .at-work;
         idle = P .idle;
@@ -143,7 +144,7 @@ module _ (s : Store) (S : Sound s) (g : Ghost) (r : Run) (I : Inv s S g r) (d : 
       go c (no ne) l e rest = rest (λ q. ne (let z : some d ≡ some c = sym mid ∙ q in cc))
 
   pub closed-inv : Inv s S (closed g) r
-  closed-inv = waiting-inv I closed-pending
+  closed-inv = waiting-inv (r .stack) I closed-pending
 
 -- ---- a turn
 
@@ -214,7 +215,7 @@ module _ (s : Store) (S : Sound s) (g : Ghost) (r : Run) (I : Inv s S g r) (j b 
   by-head : (y : Head) → headOf (at (r .heap) b) ≡ y → ((scanValue (s .ctl .n) b r ≡ none) × Lacking s S (valueFor (s .ctl .n) b r)) ⊎ ((r′ : Run) × (scanValue (s .ctl .n) b r ≡ some r′) × Turned s S g r j b r′)
   unfolding scanValue valueFor
   by-head (raw l) e =
-      inr (r, rw (e, scanValue), turned start (later-refl _ _ _) (λ k q. let z : raw l ≡ rec k = sym e ∙ q in let z′ : _≡_ {A = ℕ} 0 1 = cc in absurd (omega arith)))
+      inr (r, rw (e, scanValue), turned start (later-refl _ _ _) (λ k q. let z : raw l ≡ rec k = sym e ∙ q in absurd (false≢true cc)))
   by-head (rec l) e = go (scans-fields s S (opened g j b ts) r c b l (ap headOf (sym header) ∙ e) l r 0 (omega arith) (ready l e))
     where
       is-for : valueFor (s .ctl .n) b r ≡ fieldsFor (s .ctl .n) l (b + suc 0) r
@@ -224,14 +225,8 @@ module _ (s : Store) (S : Sound s) (g : Ghost) (r : Run) (I : Inv s S g r) (j b 
           → ((scanValue (s .ctl .n) b r ≡ none) × Lacking s S (valueFor (s .ctl .n) b r)) ⊎ ((r′ : Run) × (scanValue (s .ctl .n) b r ≡ some r′) × Turned s S g r j b r′)
       go (inl u) = inl (scan-is l e ∙ u .0, lacking-on (λ y. rw is-for y) (u .1))
       go (inr u) = inr (u .0, scan-is l e ∙ u .1, turned (u .2 .inv) (u .2 .later) (full l e (u .0) (u .2)))
-  by-head (moved k) e = no-head (sym (ap lengthBy e) ∙ I .logged .copies m .into-stands .head)
-    where
-      no-head : {A : Type 0} {l : ℕ} → none ≡ some l → A
-      no-head z = let z′ : _≡_ {A = ℕ} 0 1 = cc in absurd (omega arith)
-  by-head wrong e = no-head (sym (ap lengthBy e) ∙ I .logged .copies m .into-stands .head)
-    where
-      no-head : {A : Type 0} {l : ℕ} → none ≡ some l → A
-      no-head z = let z′ : _≡_ {A = ℕ} 0 1 = cc in absurd (omega arith)
+  by-head (moved k) e = absurd (Option·none-ne-some _ (sym (ap lengthBy e) ∙ I .logged .copies m .into-stands .head))
+  by-head wrong e = absurd (Option·none-ne-some _ (sym (ap lengthBy e) ∙ I .logged .copies m .into-stands .head))
 
   pub scans-value : ((scanValue (s .ctl .n) b r ≡ none) × Lacking s S (valueFor (s .ctl .n) b r)) ⊎ ((r′ : Run) × (scanValue (s .ctl .n) b r ≡ some r′) × Turned s S g r j b r′)
   scans-value = by-head (headOf (at (r .heap) b)) refl

@@ -1,46 +1,30 @@
 -- The views before and after: the collection leaves a copy. A constant is what it was; a moved value has its old header and length, its raw
 -- words are the old ones, and each field of a record stands for the old field.
-use Prim.Native.Nat.{ℕ, zero, suc, _+_, _*_, _^_, _≤_, _<_, zero-le}
+use Prim.Native.Nat.{ℕ, zero, suc, _+_, _*_, _≤_, _<_, zero-le}
 use native.Mathlib.Omega.{arith}
 use mathlib.Core.Path.{_≡_, refl, sym, ap, _∙_, subst}
 use mathlib.Core.Logic.{_≢_}
 use mathlib.Core.Bool.{true, false}
 use mathlib.Core.List.{List, List·Memᴰ}
-use lib.ListN.{length, take, drop, length-drop}
-use lib.Seq.{length-take-le, getD-take, getD-drop, ext-getD}
+use lib.ListN.{length, take, drop}
+use lib.Seq.{ext-getD}
 use Rattle.laws.specs.Lists.{at}
+use Rattle.laws.proofs.Lists.{part-length, word-in}
 use Rattle.rules.specs.Memory.{Store}
-use Rattle.rules.specs.Words.{wordOf, rec, raw, headOf, recordBy, isRecord, goodConst, valueAt, look}
+use Rattle.rules.specs.Words.{wordOf, rec, raw, headOf, recordBy, isRecord}
 use Rattle.rules.specs.Pages.{Run}
-use Rattle.rules.specs.Calls.{lookIn, headerIn, isNumber}
+use Rattle.rules.specs.Calls.{lookIn, isNumber}
 use Rattle.rules.specs.Seen.{homeIn, seen}
 use Rattle.facts.proofs.Copied.{Moved, to, Rel, num, stay, OneValue, Copied}
-use Rattle.rules.proofs.Pointers.{pointer, words-of, record-head, raw-head}
-use Rattle.facts.proofs.Looked.{look-at, home-at, seen-plain}
-use Rattle.facts.proofs.Sound.{GoodConst, number-there, const-there, Sound}
-use Rattle.facts.proofs.Goods.{const-in}
-use Rattle.working.proofs.Owned.{old≢beyond}
-use Rattle.working.proofs.Log.{pointers, Copy}
-use Rattle.working.proofs.Invariant.{Kept}
-use Rattle.working.proofs.Evacuating.{of-pointers}
+use Rattle.rules.proofs.Pointers.{pointer, record-head, raw-head}
+use Rattle.facts.proofs.Looked.{look-at, home-at, seen-plain, words-head}
+use Rattle.facts.proofs.Sound.{GoodConst, number-there, const-there, Sound, descriptor-fits}
+use Rattle.facts.proofs.Goods.{const-seen, const-home}
+use Rattle.working.proofs.Log.{pointers, Copy, of-pointers}
+use Rattle.working.proofs.Invariant.{Kept, old-in, copy-known}
 use Rattle.working.proofs.Scanning.{seen-old}
 use Rattle.working.proofs.Running.{Ran}
-use Rattle.working.proofs.Ending.{back, left-store, copy-word, copy-steps, copy-stands, copy-known, copy-inside, copy-whose, copy-scanned}
-use Rattle.facts.proofs.Laid.{page-in}
-
--- a value's words in a list
-module _ (h : List ℕ) (a l : ℕ) (inside : a + suc l ≤ length h) where
-  abbrev ws : List ℕ
-  ws = take (suc l) (drop a h)
-
-  pub words-length : length ws ≡ suc l
-  words-length = let d = length-drop a h in length-take-le (suc l) (drop a h) (omega arith)
-
-  pub words-at : (i : ℕ) → i ≤ l → at ws i ≡ at h (a + i)
-  words-at i b = getD-take (suc l) (drop a h) i 0 (omega arith) ∙ getD-drop a h i 0
-
-  pub words-head : headerIn ws ≡ at h a
-  words-head = words-at 0 zero-le ∙ ap (at h) (omega arith)
+use Rattle.working.proofs.Ending.{back, left-store, copy-word, copy-steps, copy-stands, copy-inside, copy-whose, copy-scanned}
 
 module _ (s : Store) (S : Sound s) (roots : List ℕ) (r : Run) (A : Ran s S roots r) where
   abbrev n : ℕ
@@ -58,16 +42,6 @@ module _ (s : Store) (S : Sound s) (roots : List ℕ) (r : Run) (A : Ran s S roo
   -- ---- constants
 
   module _ (v : ℕ) (k : Kept s v) where
-    const-value : (t : Store) → t .consts ≡ s .consts → lookIn t v ≡ take (suc (k .good .len)) (drop (k .address) (s .consts))
-    unfolding look valueAt
-    const-value t e =
-        let c : goodConst (t .consts) (k .address) ≡ true = rw e (const-in (s .consts) (k .address) (k .good)) in
-        rw (k .word, look, c, e, words-of (headOf (at (s .consts) (k .address))) (k .good .len) (k .good .stands .head))
-
-    homeless : (t : Store) → homeIn t v ≡ 0
-    unfolding homeIn
-    homeless t = rw (k .word)
-
     pointed : isNumber (wordOf v) ≡ false
     pointed = rw (k .word)
 
@@ -80,11 +54,11 @@ module _ (s : Store) (S : Sound s) (roots : List ℕ) (r : Run) (A : Ran s S roo
 
     const-same : OneValue (seen s) (seen s′) R v v
     const-same =
-        let x = const-value s refl in
-        let y = const-value s′ refl in
+        let x = const-seen s v (k .address) (k .word) (k .good) in
+        let y = const-seen s′ v (k .address) (k .word) (k .good) in
         let l : ℕ = k .good .len in
         let inside = k .good .stands .ends in
-        let len = words-length (s .consts) (k .address) l inside in
+        let len = part-length (s .consts) (k .address) (suc l) inside in
         record {
           before = pointed;
           after = pointed;
@@ -95,11 +69,11 @@ module _ (s : Store) (S : Sound s) (roots : List ℕ) (r : Run) (A : Ran s S roo
                 size = refl;
                 fields = λ kind f b.
                     let b′ : f < l = omega arith in
-                    rw (words-at (s .consts) (k .address) l inside (suc f) (omega arith))
-                    (const-field l f refl (ap isRecord (sym (words-head (s .consts) (k .address) l inside)) ∙ kind) b′);
+                    rw (word-in (s .consts) (k .address) (suc l) (suc f) (omega arith))
+                    (const-field l f refl (ap isRecord (sym (words-head (s .consts) (k .address) l)) ∙ kind) b′);
                 text = λ kind. refl;
               });
-          home = homeless s ∙ sym (homeless s′);
+          home = const-home s v (k .address) (k .word) ∙ sym (const-home s′ v (k .address) (k .word));
         }
 
   -- ---- what moved
@@ -108,31 +82,23 @@ module _ (s : Store) (S : Sound s) (roots : List ℕ) (r : Run) (A : Ran s S roo
     abbrev D : Copy n s (Kept s) (A .end .ghost .own) (A .end .ghost .fin) (r .heap) (A .end .ghost .log) (A .end .ghost .count) a b
     D = A .end .inv .logged .copies m
 
-    big : 2 ≤ 2 ^ n
-    big = let x = S .laid .big in omega arith
-
-    old-inside : D .from * 2 ^ n + 2 ^ n ≤ length (s .heap)
-    old-inside =
-        let x = S .laid .size in
-        let y = A .end .inv .laid .size in
-        let z = page-in (A .end .inv .laid) (D .from) (λ q. old≢beyond (D .from-old) q) in
-        omega arith
-
     value-before : lookIn s (4 * a) ≡ take (suc (D .len)) (drop a (s .heap))
     value-before = seen-old s S (A .end .ghost) r (A .end .inv) a b m
 
     value-after : lookIn s′ (4 * b) ≡ take (suc (D .len)) (drop b (back s S roots r A .heap))
     value-after =
-        look-at s′ (D .into) b (D .len) big (copy-inside s S roots r A a b m) (copy-steps s S roots r A a b m) (copy-stands s S roots r A a b m)
-        (D .region) (copy-known s S roots r A a b m) (copy-whose s S roots r A a b m)
+        look-at s′ (D .into) b (D .len) (descriptor-fits s S) (copy-inside s S roots r A a b m) (copy-steps s S roots r A a b m) (copy-stands s S roots r A a b m)
+        (D .region) (copy-known (A .end .inv) m) (copy-whose s S roots r A a b m)
 
     pub home-before : homeIn s (4 * a) ≡ suc (D .region)
-    home-before = home-at s (D .from) a (D .len) big old-inside (D .from-steps) (D .from-stands) (D .region) (copy-known s S roots r A a b m) (D .from-whose)
+    home-before =
+        home-at s (D .from) a (D .len) (descriptor-fits s S) (old-in (A .end .inv) (D .from) (D .from-old)) (D .from-steps) (D .from-stands)
+        (D .region) (copy-known (A .end .inv) m) (D .from-whose)
 
     home-after : homeIn s′ (4 * b) ≡ suc (D .region)
     home-after =
-        home-at s′ (D .into) b (D .len) big (copy-inside s S roots r A a b m) (copy-steps s S roots r A a b m) (copy-stands s S roots r A a b m)
-        (D .region) (copy-known s S roots r A a b m) (copy-whose s S roots r A a b m)
+        home-at s′ (D .into) b (D .len) (descriptor-fits s S) (copy-inside s S roots r A a b m) (copy-steps s S roots r A a b m) (copy-stands s S roots r A a b m)
+        (D .region) (copy-known (A .end .inv) m) (copy-whose s S roots r A a b m)
 
     abbrev h : List ℕ
     h = s .heap
@@ -141,7 +107,7 @@ module _ (s : Store) (S : Sound s) (roots : List ℕ) (r : Run) (A : Ran s S roo
     h′ = back s S roots r A .heap
 
     in-before : a + suc (D .len) ≤ length h
-    in-before = let x = old-inside in let y = D .from-stands .ends in omega arith
+    in-before = let x = old-in (A .end .inv) (D .from) (D .from-old) in let y = D .from-stands .ends in omega arith
 
     in-after : b + suc (D .len) ≤ length h′
     in-after = let x = copy-inside s S roots r A a b m in let y = D .into-stands .ends in omega arith
@@ -167,10 +133,10 @@ module _ (s : Store) (S : Sound s) (roots : List ℕ) (r : Run) (A : Ran s S roo
 
     text : isRecord (at h a) ≡ false → take (suc (D .len)) (drop a h) ≡ take (suc (D .len)) (drop b h′)
     text kind =
-        let x = words-length h a (D .len) in-before in
-        let y = words-length h′ b (D .len) in-after in
+        let x = part-length h a (suc (D .len)) in-before in
+        let y = part-length h′ b (suc (D .len)) in-after in
         ext-getD 0 _ _ (x ∙ sym y)
-        (λ i q. words-at h a (D .len) in-before i (omega arith) ∙ each i (omega arith) ∙ sym (words-at h′ b (D .len) in-after i (omega arith)))
+        (λ i q. word-in h a (suc (D .len)) i (omega arith) ∙ each i (omega arith) ∙ sym (word-in h′ b (suc (D .len)) i (omega arith)))
       where
         each : (i : ℕ) → i < suc (D .len) → at h (a + i) ≡ at h′ (b + i)
         each zero q = ap (at h) (omega arith) ∙ sym same-head ∙ ap (at h′) (omega arith)
@@ -178,10 +144,10 @@ module _ (s : Store) (S : Sound s) (roots : List ℕ) (r : Run) (A : Ran s S roo
 
     moved-same : OneValue (seen s) (seen s′) R (4 * a) (4 * b)
     moved-same =
-        let x = words-length h a (D .len) in-before in
-        let y = words-length h′ b (D .len) in-after in
-        let p = words-head h a (D .len) in-before in
-        let q = words-head h′ b (D .len) in-after in
+        let x = part-length h a (suc (D .len)) in-before in
+        let y = part-length h′ b (suc (D .len)) in-after in
+        let p = words-head h a (D .len) in
+        let q = words-head h′ b (D .len) in
         record {
           before = rw (pointer a);
           after = rw (pointer b);
@@ -191,7 +157,7 @@ module _ (s : Store) (S : Sound s) (roots : List ℕ) (r : Run) (A : Ran s S roo
                 header = p ∙ sym same-head ∙ sym q;
                 size = x ∙ sym y;
                 fields = λ kind f t.
-                    rw (words-at h a (D .len) in-before (suc f) (omega arith), words-at h′ b (D .len) in-after (suc f) (omega arith))
+                    rw (word-in h a (suc (D .len)) (suc f) (omega arith), word-in h′ b (suc (D .len)) (suc f) (omega arith))
                     (fields (ap isRecord (sym p) ∙ kind) f (omega arith));
                 text = λ kind. text (ap isRecord (sym p) ∙ kind);
               });
@@ -233,7 +199,7 @@ module _ (s : Store) (S : Sound s) (roots : List ℕ) (r : Run) (A : Ran s S roo
         plain′ = seen-plain s′;
         count = A .count;
         roots = A .rels;
-        staying = λ {v} k. (const-same v k, homeless v k s);
+        staying = λ {v} k. (const-same v k, const-home s v (k .address) (k .word));
         moving = moves;
         one-new = one-new;
         one-old = one-old;

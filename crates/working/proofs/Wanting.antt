@@ -1,10 +1,9 @@
 -- The working with as many pages as it wants goes the working's way as long as there are free pages; once there are none it takes pages behind
 -- the heap, and the free list stays empty. The two differ only in what they do when no page is free.
 use Prim.Native.Nat.{ℕ, zero, suc, _+_, _*_}
-use native.Mathlib.Omega.{arith}
 use mathlib.Core.Path.{_≡_, refl, sym, ap, _∙_}
-use mathlib.Core.Bool.{Bool, true, false}
-use mathlib.Core.Option.{Option, none, some}
+use mathlib.Core.Bool.{Bool, true, false, false≢true}
+use mathlib.Core.Option.{Option, none, some, Option·none-ne-some}
 use mathlib.Core.List.{List, [], _∷_}
 use lib.ListN.{length, take, drop}
 use lib.Dec.{leb, eqb}
@@ -23,8 +22,14 @@ pub data Follows {A : Type 0} (o : Option A) (x : A) : Type 0 where
   gives : o ≡ some x → Follows o x
 
 pub follows-some : {A : Type 0} {o : Option A} {x : A} (y : A) → Follows o x → o ≡ some y → x ≡ y
-follows-some y (lacks e) q = let z : none ≡ some y = sym e ∙ q in let z′ : _≡_ {A = ℕ} 0 1 = cc in absurd (omega arith)
+follows-some y (lacks e) q = absurd (Option·none-ne-some y (sym e ∙ q))
 follows-some y (gives e) q = let z : some _ ≡ some y = sym e ∙ q in cc
+
+-- a working that begins with another lacks a page with it, and goes on from what it gives
+follows-then : {A B : Type 0} {o : Option A} {x : A} {p q : Option B} {y : B} → Follows o x → (o ≡ none → p ≡ none) → (o ≡ some x → p ≡ q) → Follows q y → Follows p y
+follows-then (lacks e) stops goes t = lacks (stops e)
+follows-then (gives e) stops goes (lacks t) = lacks (goes e ∙ t)
+follows-then (gives e) stops goes (gives t) = gives (goes e ∙ t)
 
 pub data Ends (e : Ended) (x : Run) : Type 0 where
   lacks-page : e ≡ lacksPage → Ends e x
@@ -32,8 +37,8 @@ pub data Ends (e : Ended) (x : Run) : Type 0 where
   done : e ≡ finished x → Ends e x
 
 pub ends-finished : {e : Ended} {x : Run} (y : Run) → Ends e x → e ≡ finished y → x ≡ y
-ends-finished y (lacks-page e) q = let z : lacksPage ≡ finished y = sym e ∙ q in let z′ : _≡_ {A = ℕ} 0 1 = cc in absurd (omega arith)
-ends-finished y (no-fuel e) q = let z : unfinished ≡ finished y = sym e ∙ q in let z′ : _≡_ {A = ℕ} 0 1 = cc in absurd (omega arith)
+ends-finished y (lacks-page e) q = let z : lacksPage ≡ finished y = sym e ∙ q in absurd (false≢true cc)
+ends-finished y (no-fuel e) q = let z : unfinished ≡ finished y = sym e ∙ q in absurd (false≢true cc)
 ends-finished {x = x} y (done e) q = let z : finished x ≡ finished y = sym e ∙ q in cc
 
 second : {p q : List ℕ × Run} → some p ≡ some q → p .1 ≡ q .1
@@ -51,22 +56,15 @@ module _ (n : ℕ) where
   pub fresh-follows : (m j : ℕ) (r : Run) → Follows (freshen n m j r) (freshenFor n m j r)
   unfolding freshen freshenFor
   fresh-follows zero j r = gives refl
-  fresh-follows (suc m) j r = go (page-follows j r) (fresh-follows m (suc j) (freshRow n j (anyPage n j r)))
-    where
-      go : Follows (takePage n j r) (anyPage n j r) → Follows (freshen n m (suc j) (freshRow n j (anyPage n j r))) (freshenFor n m (suc j) (freshRow n j (anyPage n j r)))
-          → Follows (freshen n (suc m) j r) (freshenFor n (suc m) j r)
-      go (lacks e) rest = lacks (rw (e, freshen))
-      go (gives e) (lacks q) = lacks (rw (e, freshen) q)
-      go (gives e) (gives q) = gives (rw (e, freshen) q)
+  fresh-follows (suc m) j r = follows-then (page-follows j r) (λ e. rw (e, freshen)) (λ e. rw (e, freshen)) (fresh-follows m (suc j) (freshRow n j (anyPage n j r)))
 
   room-follows : (j m : ℕ) (r : Run) → Follows (room n j m r) (roomFor n j m r)
   unfolding room roomFor
-  room-follows j m r = go (leb (topOf (r .table) j + m) (endOf (r .table) j)) refl (page-follows j r)
+  room-follows j m r = go (leb (topOf (r .table) j + m) (endOf (r .table) j)) refl
     where
-      go : (b : Bool) → leb (topOf (r .table) j + m) (endOf (r .table) j) ≡ b → Follows (takePage n j r) (anyPage n j r) → Follows (room n j m r) (roomFor n j m r)
-      go true e p = gives (rw (e, room, roomFor))
-      go false e (lacks q) = lacks (rw (e, room, q))
-      go false e (gives q) = gives (rw (e, room, roomFor, q))
+      go : (b : Bool) → leb (topOf (r .table) j + m) (endOf (r .table) j) ≡ b → Follows (room n j m r) (roomFor n j m r)
+      go true e = gives (rw (e, room, roomFor))
+      go false e = follows-then (page-follows j r) (λ q. rw (e, room, q)) (λ q. rw (e, room, roomFor, q)) (gives refl)
 
   move-follows : (j a l : ℕ) (r : Run) → Follows (moveTo n j a l r) (moveFor n j a l r)
   unfolding moveTo moveFor place moveOn
@@ -100,14 +98,9 @@ module _ (n : ℕ) where
   pub fields-follow : (m x : ℕ) (r : Run) → Follows (scanFields n m x r) (fieldsFor n m x r)
   unfolding scanFields fieldsFor
   fields-follow zero x r = gives refl
-  fields-follow (suc m) x r = go (evacuate-follows (at (r .heap) x) r) (fields-follow m (suc x) (fieldSet n x (evacuateFor n (at (r .heap) x) r)))
-    where
-      go : Follows (evacuate n (at (r .heap) x) r) (evacuateFor n (at (r .heap) x) r)
-          → Follows (scanFields n m (suc x) (fieldSet n x (evacuateFor n (at (r .heap) x) r))) (fieldsFor n m (suc x) (fieldSet n x (evacuateFor n (at (r .heap) x) r)))
-          → Follows (scanFields n (suc m) x r) (fieldsFor n (suc m) x r)
-      go (lacks e) rest = lacks (rw (e, scanFields))
-      go (gives e) (lacks q) = lacks (rw (e, scanFields) q)
-      go (gives e) (gives q) = gives (rw (e, scanFields) q)
+  fields-follow (suc m) x r =
+      follows-then (evacuate-follows (at (r .heap) x) r) (λ e. rw (e, scanFields)) (λ e. rw (e, scanFields))
+      (fields-follow m (suc x) (fieldSet n x (evacuateFor n (at (r .heap) x) r)))
 
   pub value-follows : (s : ℕ) (r : Run) → Follows (scanValue n s r) (valueFor n s r)
   unfolding scanValue valueFor
@@ -124,13 +117,10 @@ module _ (n : ℕ) where
   roots-follow [] vs r r′ q = second q
   roots-follow (w ∷ ws) vs r r′ q = go (evacuate-follows w r) (evacuateAll n ws (evacuateFor n w r .1)) refl (λ us t. roots-follow ws us (evacuateFor n w r .1) r′ t)
     where
-      no : {A : Type 0} {p : List ℕ × Run} → none ≡ some p → A
-      no z = let z′ : _≡_ {A = ℕ} 0 1 = cc in absurd (omega arith)
-
       go : Follows (evacuate n w r) (evacuateFor n w r) → (o : Option (List ℕ × Run)) → evacuateAll n ws (evacuateFor n w r .1) ≡ o
           → ((us : List ℕ) → evacuateAll n ws (evacuateFor n w r .1) ≡ some (us, r′) → rootsFor n ws (evacuateFor n w r .1) ≡ r′) → rootsFor n (w ∷ ws) r ≡ r′
-      go (lacks e) o t rest = no (sym (rw (e, evacuateAll)) ∙ q)
-      go (gives e) none t rest = no (sym (rw (e, evacuateAll, t)) ∙ q)
+      go (lacks e) o t rest = absurd (Option·none-ne-some (vs, r′) (sym (rw (e, evacuateAll)) ∙ q))
+      go (gives e) none t rest = absurd (Option·none-ne-some (vs, r′) (sym (rw (e, evacuateAll, t)) ∙ q))
       go (gives e) (some p) t rest =
           let z : _≡_ {A = Option (List ℕ × Run)} (some (evacuateFor n w r .0 ∷ p .0, p .1)) (some (vs, r′)) = sym (rw (e, evacuateAll, t)) ∙ q in
           rest (p .0) (t ∙ ap (λ x. some (p .0, x)) (second z))

@@ -1,35 +1,33 @@
 -- The scan stack worked to its end. Each turn scans one copy or leaves one region, and each copy made costs two turns, so the fuel, two for
 -- each word of the heap, never runs out: no more values can be copied than the heap has words.
-use Prim.Native.Nat.{ℕ, zero, suc, _+_, _-_, _^_, _≤_, _<_}
+use Prim.Native.Nat.{ℕ, zero, suc, _+_, _-_, _≤_, _<_}
 use native.Mathlib.Omega.{arith}
 use native.Mathlib.Decide.{ℕ-discrete}
 use mathlib.Core.Path.{_≡_, refl, sym, ap, _∙_, subst}
 use mathlib.Core.Logic.{_≢_, _⊎_, inl, inr}
 use mathlib.Core.Bool.{true, false}
-use mathlib.Core.Option.{none, some}
+use mathlib.Core.Option.{none, some, Option·none-ne-some}
 use mathlib.Core.List.{List, [], _∷_, _++_, List·Memᴰ, List·Memᴰ·head, Memᴰ·append-right}
 use lib.ListN.{length}
 use lib.Dec.{eqb}
 use borrow.Author.Tests.{eq-eqb, ne-eqb}
-use Rattle.laws.proofs.Lists.{one-part}
-use Rattle.laws.proofs.Once.{last-in, once-most}
-use Rattle.rules.specs.Memory.{Store, pageCount, topOf, statusOf, setStatus}
-use Rattle.rules.specs.Pages.{Scan, Run, withTable, withStack}
+use Rattle.laws.proofs.Once.{once-most}
+use Rattle.rules.specs.Memory.{Store, pageCount, topOf, statusOf}
+use Rattle.rules.specs.Pages.{Scan, Run}
 use Rattle.rules.specs.Collection.{finished, lacksPage, scanValue, nextScan, work}
 use Rattle.facts.proofs.Steps.{steps-le}
-use Rattle.facts.proofs.Laid.{Body, chain-body, page-in}
+use Rattle.facts.proofs.Laid as Laid
 use Rattle.facts.proofs.Copied.{Moved}
 use Rattle.facts.proofs.Sound.{Sound}
-use Rattle.working.proofs.Owned.{old≢beyond}
 use Rattle.working.proofs.Log.{olds, in-olds}
 use Rattle.working.proofs.Next.{Row, headOr, After, after-here, after-there, next-row}
 use Rattle.working.proofs.Rows.{InRow, row-in}
 use Rattle.rules.specs.Wanted.{valueFor, workFor}
 use Rattle.working.proofs.Wanting.{follows-some, value-follows}
 use Rattle.working.proofs.Dry.{work-dry}
-use Rattle.working.proofs.Invariant.{lacking-on, Ghost, regionsOf, Inv, Lacking, Enough}
+use Rattle.working.proofs.Invariant.{lacking-on, Ghost, regionsOf, Inv, old-in, Lacking, Enough}
 use Rattle.working.proofs.Turn.{Turned, scans-value}
-use Rattle.working.proofs.Leaving.{scanning, left, left-last, left-next}
+use Rattle.working.proofs.Leaving.{scanning, left, left-empty, left-last, left-next}
 
 -- all is scanned
 pub record Finished (s : Store) (S : Sound s) (g : Ghost) (r : Run) : Type 0 where
@@ -39,6 +37,10 @@ pub record Finished (s : Store) (S : Sound s) (g : Ghost) (r : Run) : Type 0 whe
   pub none-open : ghost .half ≡ none
   pub stack : r .stack ≡ []
   pub log : (x : Moved) → List·Memᴰ x (g .log) → List·Memᴰ x (ghost .log)
+
+-- from an earlier state too
+unfoldable pub finished-from : {s : Store} {S : Sound s} {g g′ : Ghost} {r : Run} → ((x : Moved) → List·Memᴰ x (g .log) → List·Memᴰ x (g′ .log)) → Finished s S g′ r → Finished s S g r
+finished-from grew F = record { ghost = F .ghost; inv = F .inv; no-cur = F .no-cur; none-open = F .none-open; stack = F .stack; log = λ x m. F .log x (grew x m) }
 
 module _ (s : Store) (S : Sound s) where
   abbrev n : ℕ
@@ -52,7 +54,7 @@ module _ (s : Store) (S : Sound s) where
     where
       by : List·Memᴰ i (regionsOf (r .stack)) ⊎ (F .ghost .cur ≡ some i) → ⊥
       by (inl m) = let m′ : List·Memᴰ i [] = subst (λ t. List·Memᴰ i (regionsOf t)) (F .stack) m in elim m′ [ ]
-      by (inr q) = let z : none ≡ some i = sym (F .no-cur) ∙ q in let z′ : _≡_ {A = ℕ} 0 1 = cc in omega arith
+      by (inr q) = Option·none-ne-some i (sym (F .no-cur) ∙ q)
 
       go : Dec (statusOf (r .table) i ≡ 0) → statusOf (r .table) i ≡ 0
       go (yes e) = e
@@ -75,9 +77,7 @@ module _ (s : Store) (S : Sound s) where
           let t = in-olds (g .log) m in
           let C = I .logged .copies (t .1) in
           let ends = C .from-stands .ends in
-          let before = S .laid .size in
-          let size = I .laid .size in
-          let page = page-in (I .laid) (C .from) (λ q. old≢beyond (C .from-old) q) in
+          let page = old-in I (C .from) (C .from-old) in
           omega arith
 
   -- ---- one region
@@ -93,21 +93,11 @@ module _ (s : Store) (S : Sound s) where
         z : ℕ
         z = I .laid .mine-top j jR .0
 
-        top : topOf (r .table) j ≡ g .fin z
-        top = I .laid .mine-top j jR .3
-
-        B : Body n (r .heap) z j (g .fin z)
-        B = chain-body (I .laid) j z jR (last-in (I .laid .mine-top j jR .1))
-
         go : Dec (F .page ≡ z) → ⊥
-        go (yes q) = let t = top in let u = F .below in let w : g .fin (F .page) ≡ g .fin z = ap (g .fin) q in omega arith
+        go (yes q) = let t = I .laid .mine-top j jR .3 in let u = F .below in let w : g .fin (F .page) ≡ g .fin z = ap (g .fin) q in omega arith
         go (no ne) =
-            let t = top in
-            let lo = steps-le (F .steps) in
             let hi = F .stands .ends in
-            let lo′ = steps-le (B .filled) in
-            let hi′ = B .inside in
-            one-part (2 ^ n) (F .page) z (b - 1) ne (omega arith) (omega arith) (omega arith) (omega arith)
+            Laid.not-top (I .laid) j jR (F .page) b (steps-le (F .steps)) (omega arith) ne e
 
     mid : (xs : List ℕ) {b : ℕ} {ys : List ℕ} → After ((xs ++ b ∷ []) ++ ys) b ys
     mid [] = after-here
@@ -124,58 +114,89 @@ module _ (s : Store) (S : Sound s) where
   abbrev Result : Ghost → Run → ℕ → ℕ → ℕ → Type 0
   Result g r f j a = ((work n f j a r ≡ lacksPage) × Lacking s S (workFor n f j a r)) ⊎ ((r′ : Run) × (work n f j a r ≡ finished r′) × Finished s S g r′)
 
+  -- ---- one turn
+  module _ (g : Ghost) (r : Run) (I : Inv s S g r) (j : ℕ) (cur : g .cur ≡ some j) (f : ℕ) where
+    at-top : eqb (topOf (r .table) j) (topOf (r .table) j) ≡ true
+    at-top = eq-eqb (topOf (r .table) j) (topOf (r .table) j) refl
+
+    -- the region is done, and the stack is empty
+    pub work-done : r .stack ≡ [] → work n (suc f) j (topOf (r .table) j) r ≡ finished (left j [] r)
+    unfolding work
+    work-done q = rw (at-top, work, q) (ap finished (sym (left-empty j r q)))
+
+    unfoldable pub left-finished : g .todo j ≡ [] → g .half ≡ none → r .stack ≡ [] → Finished s S g (left j [] r)
+    left-finished e shut q = record { ghost = scanning g none; inv = left-last s S g r I j cur e q; no-cur = refl; none-open = shut; stack = refl; log = λ x m. m }
+
+    -- the region is done, and the one on top is next
+    module _ (t : Scan) (ts : List Scan) (q : r .stack ≡ t ∷ ts) where
+      pub next-begins : t .address ≡ headOr (topOf (left j ts r .table) (t .region)) (g .todo (t .region))
+      next-begins = let W = I .pending .stacked t (rw q (List·Memᴰ·head refl)) in rw (W .begins)
+
+      pub work-leaves : work n (suc f) j (topOf (r .table) j) r ≡ work n f (t .region) (headOr (topOf (left j ts r .table) (t .region)) (g .todo (t .region))) (left j ts r)
+      unfolding work
+      work-leaves = rw (at-top, work, q) (ap (λ x. work n f (t .region) x (left j ts r)) next-begins)
+
+      pub leaves-for : workFor n (suc f) j (topOf (r .table) j) r ≡ workFor n f (t .region) (headOr (topOf (left j ts r .table) (t .region)) (g .todo (t .region))) (left j ts r)
+      unfolding workFor
+      leaves-for = rw (at-top, workFor, q) (ap (λ x. workFor n f (t .region) x (left j ts r)) next-begins)
+
+      pub left-enough : Enough s g r (suc f) → Enough s (scanning g (some (t .region))) (left j ts r) f
+      left-enough enough = let b = enough .steps in let d : length (r .stack) ≡ suc (length ts) = ap length q in record { steps = omega arith }
+
+    -- a copy is scanned
+    module _ (b : ℕ) (ts : List ℕ) (e : g .todo j ≡ b ∷ ts) where
+      pub at-copy : eqb b (topOf (r .table) j) ≡ false
+      at-copy = ne-eqb b (topOf (r .table) j) (not-top g r I j (I .pending .at-work j cur .0) b (rw e (List·Memᴰ·head refl)))
+
+      pub work-lacks : scanValue n b r ≡ none → work n (suc f) j b r ≡ lacksPage
+      unfolding work
+      work-lacks q = rw (at-copy, work, q)
+
+      module _ (r₁ : Run) (q : scanValue n b r ≡ some r₁) (T : Turned s S g r j b r₁) where
+        pub next-copy : nextScan n j b r₁ ≡ headOr (topOf (r₁ .table) j) (T .ghost .todo j)
+        next-copy = next (T .ghost) r₁ (T .inv) j (I .pending .at-work j cur .0) (g .past j) b (T .past)
+
+        pub work-scans : work n (suc f) j b r ≡ work n f j (headOr (topOf (r₁ .table) j) (T .ghost .todo j)) r₁
+        unfolding work
+        work-scans = rw (at-copy, work, q) (ap (λ x. work n f j x r₁) next-copy)
+
+        pub scanned-enough : Enough s g r (suc f) → Enough s (T .ghost) r₁ f
+        scanned-enough enough = let c = T .cost in let d = enough .steps in record { steps = omega arith }
+
   -- ---- all of it
   pub works : (f : ℕ) (g : Ghost) (r : Run) (j : ℕ) → Inv s S g r → g .cur ≡ some j → g .half ≡ none → Enough s g r f
       → Result g r f j (headOr (topOf (r .table) j) (g .todo j))
-  unfolding work workFor
+  unfolding workFor work
   works zero g r j I cur shut enough = let a = log-bound g r I in let b = enough .steps in absurd (omega arith)
   works (suc f) g r j I cur shut enough = go (g .todo j) refl (λ g′ r′ i. works f g′ r′ i)
     where
-      jR : j < R
-      jR = I .pending .at-work j cur .0
-
       Rest : Type 0
       Rest = (g′ : Ghost) (r′ : Run) (i : ℕ) → Inv s S g′ r′ → g′ .cur ≡ some i → g′ .half ≡ none → Enough s g′ r′ f → Result g′ r′ f i (headOr (topOf (r′ .table) i) (g′ .todo i))
 
       up : (g′ : Ghost) (r′ : Run) (i a a′ : ℕ) → ((x : Moved) → List·Memᴰ x (g .log) → List·Memᴰ x (g′ .log)) → work n (suc f) j a r ≡ work n f i a′ r′ → workFor n (suc f) j a r ≡ workFor n f i a′ r′
           → Result g′ r′ f i a′ → Result g r (suc f) j a
       up g′ r′ i a a′ grew e t (inl u) = inl (e ∙ u .0, lacking-on (λ y. rw t y) (u .1))
-      up g′ r′ i a a′ grew e t (inr u) =
-          let F = u .2 in
-          inr (u .0, e ∙ u .1, record { ghost = F .ghost; inv = F .inv; no-cur = F .no-cur; none-open = F .none-open; stack = F .stack; log = λ x m. F .log x (grew x m) })
+      up g′ r′ i a a′ grew e t (inr u) = inr (u .0, e ∙ u .1, finished-from grew (u .2))
 
       -- the region is done
       leave : g .todo j ≡ [] → (st : List Scan) → r .stack ≡ st → Rest → Result g r (suc f) j (topOf (r .table) j)
       leave e [] q rest =
-          let t : eqb (topOf (r .table) j) (topOf (r .table) j) ≡ true = eq-eqb (topOf (r .table) j) (topOf (r .table) j) refl in
-          let w : left j [] r ≡ withTable r (setStatus (r .table) j 0) = ap (λ x. withStack (withTable r (setStatus (r .table) j 0)) x) (sym q) in
-          inr (left j [] r, rw (t, work, q) (ap finished (sym w)), record { ghost = scanning g none; inv = left-last s S g r I j cur e q; no-cur = refl; none-open = shut; stack = refl; log = λ x m. m })
+          inr (left j [] r, work-done g r I j cur f q, left-finished g r I j cur f e shut q)
       leave e (t ∷ ts) q rest =
-          let p : eqb (topOf (r .table) j) (topOf (r .table) j) ≡ true = eq-eqb (topOf (r .table) j) (topOf (r .table) j) refl in
-          let W = I .pending .stacked t (rw q (List·Memᴰ·head refl)) in
-          let g′ : Ghost = scanning g (some (t .region)) in
-          let r′ : Run = left j ts r in
-          let b = enough .steps in
-          let d : length (r .stack) ≡ suc (length ts) = ap length q in
-          let a : t .address ≡ headOr (topOf (r′ .table) (t .region)) (g .todo (t .region)) = rw (W .begins) in
-          up g′ r′ (t .region) (topOf (r .table) j) (headOr (topOf (r′ .table) (t .region)) (g .todo (t .region))) (λ x m. m) (rw (p, work, q) (ap (λ x. work n f (t .region) x r′) a)) (rw (p, workFor, q) (ap (λ x. workFor n f (t .region) x r′) a))
-          (rest g′ r′ (t .region) (left-next s S g r I j cur e t ts q) refl shut (record { steps = omega arith }))
+          up (scanning g (some (t .region))) (left j ts r) (t .region) (topOf (r .table) j) _ (λ x m. m) (work-leaves g r I j cur f t ts q) (leaves-for g r I j cur f t ts q)
+          (rest (scanning g (some (t .region))) (left j ts r) (t .region) (left-next s S g r I j cur e t ts q) refl shut (left-enough g r I j cur f t ts q enough))
 
       -- a copy is scanned
       scan : (b : ℕ) (ts : List ℕ) → g .todo j ≡ b ∷ ts → Rest → ((scanValue n b r ≡ none) × Lacking s S (valueFor n b r)) ⊎ ((r′ : Run) × (scanValue n b r ≡ some r′) × Turned s S g r j b r′) → Result g r (suc f) j b
       scan b ts e rest (inl u) =
-          let p : eqb b (topOf (r .table) j) ≡ false = ne-eqb b (topOf (r .table) j) (not-top g r I j jR b (rw e (List·Memᴰ·head refl))) in
-          inl (rw (p, work, u .0), lacking-on (λ y. rw (p, workFor) (work-dry n _ f j _ _ y)) (u .1))
+          inl (work-lacks g r I j cur f b ts e (u .0), lacking-on (λ y. rw (at-copy g r I j cur f b ts e, workFor) (work-dry n _ f j _ _ y)) (u .1))
       scan b ts e rest (inr u) =
-          let p : eqb b (topOf (r .table) j) ≡ false = ne-eqb b (topOf (r .table) j) (not-top g r I j jR b (rw e (List·Memᴰ·head refl))) in
           let r₁ : Run = u .0 in
           let T = u .2 in
-          let a : nextScan n j b r₁ ≡ headOr (topOf (r₁ .table) j) (T .ghost .todo j) = next (T .ghost) r₁ (T .inv) j jR (g .past j) b (T .past) in
           let v : valueFor n b r ≡ r₁ = follows-some r₁ (value-follows n b r) (u .1) in
-          let c = T .cost in
-          let d = enough .steps in
-          up (T .ghost) r₁ j b (headOr (topOf (r₁ .table) j) (T .ghost .todo j)) (T .log) (rw (p, work, u .1) (ap (λ x. work n f j x r₁) a)) (rw (p, workFor, v) (ap (λ x. workFor n f j x r₁) a))
-          (rest (T .ghost) r₁ j (T .inv) (T .cur) (T .none-open) (record { steps = omega arith }))
+          up (T .ghost) r₁ j b (headOr (topOf (r₁ .table) j) (T .ghost .todo j)) (T .log) (work-scans g r I j cur f b ts e r₁ (u .1) T)
+          (rw (at-copy g r I j cur f b ts e, workFor, v) (ap (λ x. workFor n f j x r₁) (next-copy g r I j cur f b ts e r₁ (u .1) T)))
+          (rest (T .ghost) r₁ j (T .inv) (T .cur) (T .none-open) (scanned-enough g r I j cur f b ts e r₁ (u .1) T enough))
 
       go : (xs : List ℕ) → g .todo j ≡ xs → Rest → Result g r (suc f) j (headOr (topOf (r .table) j) xs)
       go [] e rest = leave e (r .stack) refl rest
