@@ -9,6 +9,8 @@ ghost use Rattle.rules.specs.Memory.{lent};
 ghost use Rattle.rules.specs.Words.{goodIn};
 ghost use Rattle.rules.specs.Refusals.{Paged, outcome};
 ghost use Rattle.rules.specs.Calls.{rowFits, headerFor, wordsFit, allocate as allocateOf};
+use conversions::address_before;
+use conversions::address_behind;
 use limits::Tested;
 use limits::first_tests;
 use pages::page_words;
@@ -39,7 +41,8 @@ fn row_fits(heap: &[u32], table: &[u32], j: Region, n: u32) -> bool
     if heap.len() < e.0 {
         return false;
     }
-    if a.0 + p < e.0 + 2 {
+    let body = address_behind(address_before(e, p), 2);
+    if a.0 < body.0 {
         return false;
     }
     a.0 <= e.0

@@ -1,4 +1,5 @@
 // The answers of operations, and how each is written.
+use numbers::magnitude;
 use rules::Control;
 use rules::Numbered;
 use rules::Opened;
@@ -115,15 +116,6 @@ fn put_refusal(out: &mut [u8], at: usize, why: Refusal) -> usize {
     let b = put_decimal(out, a, conversions::refusal_number(why) as u64);
     let c = put(out, b, b' ');
     put_decimal(out, c, conversions::refusal_place(why) as u64)
-}
-
-// A number without its sign. Below 0 the bits of i turned over are -1 - i.
-fn magnitude(i: i32) -> u32 {
-    if i < 0 {
-        let below = !i as u32;
-        return below + 1;
-    }
-    i as u32
 }
 
 fn put_number(out: &mut [u8], at: usize, i: i32) -> usize {

@@ -65,6 +65,6 @@ module _ (h t r k : List ℕ) (c : Control) (w i x : ℕ) where
             unfolding assignBy assignAt
             no-word f = rw (word-is-heap w a q even ne, ← e, good, ← e′, rec, lt-leb (at h a / 8) i field, ← e″, f)
 
-            pub assigned : not b ≡ false → outcome (Plain.Done c) (set h (a + i + 1) x) t r k ≡ assignBy (lent h t r k c) (wordOf w) i x
+            pub assigned : (m : ℕ) → m ≡ a + i + 1 → not b ≡ false → outcome (Plain.Done c) (set h m x) t r k ≡ assignBy (lent h t r k c) (wordOf w) i x
             unfolding assignBy assignAt
-            assigned f = rw (word-is-heap w a q even ne, ← e, good, ← e′, rec, lt-leb (at h a / 8) i field, ← e″, f, add-one (a + i))
+            assigned m at-field f = rw (at-field, word-is-heap w a q even ne, ← e, good, ← e′, rec, lt-leb (at h a / 8) i field, ← e″, f, add-one (a + i))

@@ -45,8 +45,8 @@ fn assign_into(
     if !good_heap(heap, c.n, c.regions, a) {
         return Plain::Refused(Refusal::NotGood, c);
     }
-    let at = a.0;
-    let header = heap[at];
+    let i = a.0;
+    let header = heap[i];
     if !is_record(header) {
         return Plain::Refused(Refusal::NoFields, c);
     }
@@ -56,7 +56,7 @@ fn assign_into(
     if !good_word(heap, consts, c.n, c.regions, word) {
         return Plain::Refused(Refusal::NotGood, c);
     }
-    heap[at + field + 1] = word;
+    heap[i + field + 1] = word;
     Plain::Done(c)
 }
 

@@ -3,7 +3,10 @@ ghost use mathlib.Core.Path.{_≡_};
 ghost use Prim.Native.Nat.{_≤_, _<_};
 ghost use Rattle.motion.specs.Leaves.{desk, out};
 ghost use Rattle.motion.specs.Whole.{fresh as freshDef, freshen as freshenDef, moveRoot, moveRoots, workStack, attempt as attemptDef, isFinished};
+use conversions::address_behind;
+use conversions::next_region;
 use conversions::pointer_address;
+use conversions::region_numbered;
 use copying::move_value;
 use copying::take_page;
 use leaves::link_start;
@@ -15,7 +18,6 @@ use leaves::set_top;
 use leaves::word;
 use motion::Step;
 use pages::page_words;
-use rules::Address;
 use rules::Region;
 use scan_stack::work;
 
@@ -30,10 +32,9 @@ fn fresh(heap: &mut [u32], notes: &mut [u32], j: Region, n: u32) -> bool
     }
     let p = page_words(n);
     let start = link_start(link, n);
-    let b = start.0;
-    set_end(notes, j, Address(b + p));
+    set_end(notes, j, address_behind(start, p));
     set_first(notes, j, start);
-    set_top(notes, j, Address(b + 2));
+    set_top(notes, j, address_behind(start, 2));
     set_status(notes, j, 0);
     true
 }
@@ -43,14 +44,14 @@ fn freshen(heap: &mut [u32], notes: &mut [u32], regions: u32, n: u32) -> bool
     requires { ⌜ (4 ≤ n) × (n ≤ 8) ⌝ }
     ensures { λ r. ⌜ out r (now (heap .exit)) (now (notes .exit)) ≡ freshenDef n regions (desk (now (heap .entry)) (now (notes .entry))) ⌝ }
 {
-    let mut j: usize = 0;
+    let mut j = region_numbered(0);
     let mut left = regions as usize;
     while 0 < left {
-        let ok = fresh(heap, notes, Region(j), n);
+        let ok = fresh(heap, notes, j, n);
         if !ok {
             return false;
         }
-        j += 1;
+        j = next_region(j);
         left -= 1;
     }
     true

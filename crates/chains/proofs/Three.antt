@@ -1,7 +1,7 @@
 -- Rule 3 from what the two walks answer: its walked form tests the regions first, then the free list, and the sums last.
 use Prim.Native.Nat.{ℕ, _+_, _/_, _^_, _≤_}
 use mathlib.Core.Path.{_≡_, refl, sym, _∙_}
-use mathlib.Core.Bool.{Bool, true, false, _&&_}
+use mathlib.Core.Bool.{Bool, true, false, _&&_, false≢true}
 use mathlib.Core.List.{List}
 use native.Mathlib.Omega.{arith}
 use lib.Dec.{eqb}
@@ -21,18 +21,18 @@ use Rattle.chains.specs.Walked.{bear, regionChained, regionsChained, fre
 -- what an answer says of the test behind it
 chained-yes : (b : Bool) (x y : ℕ) → Chained.Pages x ≡ (b ⇒ Chained.Pages y ∣ Chained.Broken) → (b ≡ true) × (x ≡ y)
 chained-yes true x y e = (refl, cc)
-chained-yes false x y e = let z : _≡_ {A = ℕ} 0 1 = cc in absurd (omega arith)
+chained-yes false x y e = absurd (false≢true cc)
 
 chained-no : (b : Bool) (y : ℕ) → Chained.Broken ≡ (b ⇒ Chained.Pages y ∣ Chained.Broken) → b ≡ false
-chained-no true y e = let z : _≡_ {A = ℕ} 0 1 = cc in absurd (omega arith)
+chained-no true y e = absurd (false≢true cc)
 chained-no false y e = refl
 
 listed-yes : (b : Bool) (x l y m : ℕ) → Listed.Pages x l ≡ (b ⇒ Listed.Pages y m ∣ Listed.Broken) → (b ≡ true) × (x ≡ y) × (l ≡ m)
 listed-yes true x l y m e = (refl, cc, cc)
-listed-yes false x l y m e = let z : _≡_ {A = ℕ} 0 1 = cc in absurd (omega arith)
+listed-yes false x l y m e = absurd (false≢true cc)
 
 listed-no : (b : Bool) (y m : ℕ) → Listed.Broken ≡ (b ⇒ Listed.Pages y m ∣ Listed.Broken) → b ≡ false
-listed-no true y m e = let z : _≡_ {A = ℕ} 0 1 = cc in absurd (omega arith)
+listed-no true y m e = absurd (false≢true cc)
 listed-no false y m e = refl
 
 module _ (h t r k : List ℕ) (c : Control) where

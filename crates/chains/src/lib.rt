@@ -7,6 +7,8 @@ ghost use Rattle.rules.specs.Refusals.{Paged, Admitted};
 ghost use Rattle.rules.specs.Audit.{opens as opensOf, rule3 as rule3Of};
 ghost use Rattle.chains.specs.Walked.{regionsChained, freeListed};
 use conversions::address_page;
+use conversions::next_region;
+use conversions::region_numbered;
 use conversions::region_origin;
 use pages::page_count;
 use pages::page_words;
@@ -47,7 +49,7 @@ fn regions_chained(heap: &[u32], table: &[u32], n: u32, regions: usize) -> Chain
 {
     let pages = page_count(heap.len(), n) as u32;
     let mut passed: usize = 0;
-    let mut j = Region(0);
+    let mut j = region_numbered(0);
     let mut regions_left = regions;
     'regions: loop {
         if regions_left == 0 {
@@ -66,18 +68,19 @@ fn regions_chained(heap: &[u32], table: &[u32], n: u32, regions: usize) -> Chain
             if pages < link {
                 break 'pages;
             }
-            let base = link_address(link, n).0;
-            if heap[base + 1] != origin {
+            let base = link_address(link, n);
+            let i = base.0;
+            if heap[i + 1] != origin {
                 break 'regions;
             }
             passed += 1;
-            link = heap[base];
+            link = heap[i];
             left -= 1;
         }
         if link != 0 {
             break 'regions;
         }
-        j = Region(j.0 + 1);
+        j = next_region(j);
         regions_left -= 1;
     }
     Chained::Broken
@@ -100,13 +103,14 @@ fn free_listed(heap: &[u32], n: u32, first: u32) -> Listed
         if pages < link {
             break 'pages;
         }
-        let base = link_address(link, n).0;
-        if heap[base + 1] != 0 {
+        let base = link_address(link, n);
+        let i = base.0;
+        if heap[i + 1] != 0 {
             return Listed::Broken;
         }
         passed += 1;
         last = link;
-        link = heap[base];
+        link = heap[i];
         left -= 1;
     }
     if link != 0 {

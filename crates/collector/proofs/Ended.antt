@@ -1,24 +1,18 @@
 -- The whole, by what its parts ensure: each part is the definition's, and what it leaves is what the next one starts with.
-use Prim.Native.Nat.{ℕ, _*_, _/_, _^_, _≤_}
+use Prim.Native.Nat.{ℕ, _*_, _/_, _^_}
 use mathlib.Core.Bool.{Bool, true, false}
 use mathlib.Core.Path.{_≡_}
 use mathlib.Core.List.{List}
-use native.Mathlib.Omega.{arith}
 use lib.ListN.{length, set, replicate}
-use lib.Pow.{shr-le}
 use Rattle.laws.specs.Each.{after}
 use Rattle.laws.specs.Lists.{at}
 use Rattle.rules.specs.declared.Control.{Control}
 use Rattle.rules.specs.declared.Plain.{Plain}
 use Rattle.rules.specs.declared.Refusal.{Refusal}
 use Rattle.rules.specs.Memory.{lent, pageCount}
-use Rattle.rules.specs.Refusals.{Paged, outcome}
+use Rattle.rules.specs.Refusals.{outcome}
 use Rattle.motion.specs.Leaves.{desk, freeFirst, freeLast, taken, begunNotes}
 use Rattle.motion.specs.Whole.{attempt, undo, ownAll, giveAll, writtenRoots, writtenTable, recordBy, doneAs, done, lacking, ended, workingCollect}
-
--- the number of pages is small
-pub few-pages : (n h pages : ℕ) → Paged n h → pages ≡ h / 2 ^ n → pages ≤ 65536
-few-pages n h pages g e = omega (arith, shr-le h n, g .size)
 
 pub finished : (c c′ : Control) (N : ℕ) (h t rs notes rs′ h₁ h₂ notes₂ t′ k : List ℕ) → N ≡ length h / 2 ^ c .n → rs′ ≡ writtenRoots h rs
     → h₁ ≡ ownAll (c .n) N (c .regions) notes h → desk h₂ notes₂ ≡ giveAll (c .n) N (c .regions) t (desk h₁ notes)

@@ -71,7 +71,8 @@ pub fn copy_living(heap: &mut [u32], table: &mut [u32], roots: &mut [u32], c: Co
     write(&mut notes, FREE_FIRST, c.first as usize);
     write(&mut notes, FREE_LAST, c.last as usize);
     let fuel = 2 * heap.len();
-    if !attempt(heap, &mut notes, roots, c.regions, fuel, c.n) {
+    let enough = attempt(heap, &mut notes, roots, c.regions, fuel, c.n);
+    if !enough {
         let taken = word(&notes, TAKEN);
         undo(heap, table, taken, c);
         return Plain::Refused(Refusal::NoPage, c);

@@ -1,6 +1,6 @@
 -- Rule 8 by its parts: the constants from their first word to their last, a field by its remainder, and the two tests.
-use Prim.Native.Nat.{ℕ, zero, suc, _/_, _%_}
-use mathlib.Core.Path.{_≡_, refl}
+use Prim.Native.Nat.{ℕ, _/_, _%_}
+use mathlib.Core.Path.{_≡_}
 use mathlib.Core.Bool.{Bool, true, false, _&&_}
 use mathlib.Core.List.{List}
 use lib.ListN.{length}
@@ -11,15 +11,18 @@ use Rattle.rules.specs.declared.Control.{Control}
 use Rattle.rules.specs.Memory.{lent}
 use Rattle.rules.specs.Words.{wordOf, valsIn, constVals, fieldsPass, goodConst}
 use Rattle.rules.specs.Audit.{filled, constField, rule8}
+use Rattle.rules.proofs.Pointers.{number-word}
 use Rattle.contents.proofs.Turns.{Zeros}
 
-pub filled-all : (h : List ℕ) → Zeros h 0 (length h) ≡ filled 0 h
-unfolding filled valsIn
-filled-all h = rw (take-length h)
+-- the constants, over code that has their first address as a and the one just past them as e
+module _ (h : List ℕ) (a e : ℕ) (qa : a ≡ 0) (qe : e ≡ length h) where
+  pub filled-all : Zeros h a e ≡ filled 0 h
+  unfolding filled valsIn
+  filled-all = rw (qa, qe, take-length h)
 
-pub consts-all : (p : ℕ → Bool) (h : List ℕ) → (all (fieldsPass p) (valsIn h 0 (length h)) && true) ≡ all (fieldsPass p) (constVals h)
-unfolding valsIn
-consts-all p h = rw (take-length h) (and-yes _)
+  pub consts-all : (p : ℕ → Bool) → (all (fieldsPass p) (valsIn h a e) && true) ≡ all (fieldsPass p) (constVals h)
+  unfolding valsIn
+  consts-all p = rw (qa, qe, take-length h) (and-yes _)
 
 module _ (k : List ℕ) (w : ℕ) where
   pub field-heap : w % 4 ≡ 0 → constField k w ≡ false
@@ -31,14 +34,8 @@ module _ (k : List ℕ) (w : ℕ) where
   field-const e = rw (constField, e)
 
   pub field-number : (w % 4 ≡ 0 → ⊥) → (w % 4 ≡ 2 → ⊥) → constField k w ≡ true
-  unfolding constField wordOf
-  field-number a b = go (w % 4) refl
-    where
-      go : (x : ℕ) → w % 4 ≡ x → constField k w ≡ true
-      go zero e = absurd (a e)
-      go (suc zero) e = rw (constField, e)
-      go (suc (suc zero)) e = absurd (b e)
-      go (suc (suc (suc x))) e = rw (constField, e)
+  unfolding constField
+  field-number a b = rw (constField, number-word w a b)
 
 module _ (h t r k : List ℕ) (c : Control) where
   pub eight-off : filled 0 k ≡ false → rule8 (lent h t r k c) ≡ false

@@ -7,8 +7,9 @@ ghost use Rattle.rules.specs.Memory.{lent};
 ghost use Rattle.rules.specs.Words.{constVals, fieldsPass};
 ghost use Rattle.rules.specs.Refusals.{Admitted};
 ghost use Rattle.rules.specs.Audit.{filled, constField, rule8 as rule8Of};
+use conversions::address_behind;
+use conversions::address_numbered;
 use conversions::pointer_address;
-use rules::Address;
 use rules::Control;
 use table_words::zero_between;
 use values::fits;
@@ -20,16 +21,17 @@ fn consts_filled(consts: &[u32]) -> bool
     requires { ⌜ length (now consts) ≤ 65535 ⌝ }
     ensures { λ r. ⌜ r ≡ filled 0 (now (consts .entry)) ⌝ }
 {
-    let end = consts.len();
-    let mut at = 0;
-    'values: while at < end {
-        let head = consts[at];
-        if !fits(head, end - (at + 1)) {
+    let end = address_numbered(consts.len());
+    let mut at = address_numbered(0);
+    'values: while at.0 < end.0 {
+        let i = at.0;
+        let head = consts[i];
+        if !fits(head, end.0 - (at.0 + 1)) {
             break 'values;
         }
-        at = at + 1 + (head / 8) as usize;
+        at = address_behind(at, 1 + (head / 8) as usize);
     }
-    zero_between(consts, Address(at), Address(end))
+    zero_between(consts, at, end)
 }
 
 // Whether a constant's field is a number or a good constant pointer.
@@ -51,26 +53,28 @@ fn const_fields(consts: &[u32]) -> bool
     requires { ⌜ length (now consts) ≤ 65535 ⌝ }
     ensures { λ r. ⌜ r ≡ all (fieldsPass (constField (now (consts .entry)))) (constVals (now (consts .entry))) ⌝ }
 {
-    let end = consts.len();
+    let end = address_numbered(consts.len());
     let mut fine = true;
-    let mut at = 0;
-    'values: while at < end {
-        let head = consts[at];
-        if !fits(head, end - (at + 1)) {
+    let mut at = address_numbered(0);
+    'values: while at.0 < end.0 {
+        let i = at.0;
+        let head = consts[i];
+        if !fits(head, end.0 - (at.0 + 1)) {
             break 'values;
         }
-        let next = at + 1 + (head / 8) as usize;
+        let next = address_behind(at, 1 + (head / 8) as usize);
         if !is_record(head) {
             at = next;
             continue 'values;
         }
-        let mut field = at + 1;
-        while field < next {
-            if !const_field(consts, consts[field]) {
+        let mut field = address_behind(at, 1);
+        while field.0 < next.0 {
+            let i = field.0;
+            if !const_field(consts, consts[i]) {
                 fine = false;
                 break 'values;
             }
-            field += 1;
+            field = address_behind(field, 1);
         }
         at = next;
     }

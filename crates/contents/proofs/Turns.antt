@@ -51,12 +51,16 @@ module _ (h : List ℕ) (a e : ℕ) where
         let n : length (slice (a + 1) (a + 1 + l) h) ≡ l = length-slice (a + 1) (a + 1 + l) h (omega arith) ∙ (omega arith) in
         rw (vals-step h a e b c f, n)
 
-    pub zeros-step : Zeros h a e ≡ Zeros h (a + 1 + l) e
-    zeros-step =
+    step : Zeros h a e ≡ Zeros h (a + 1 + l) e
+    step =
         let u : ℕ = usedOf (valsIn h (a + 1 + l) e) in
         let s : a + suc l ≡ a + 1 + l = omega arith in
         ap (λ x. zeros (drop x (slice a e h))) used-turn
         ∙ ap zeros (sym (drop-drop u (suc l) (slice a e h)) ∙ ap (drop u) (drop-drop (suc l) a (take e h) ∙ ap (λ z. drop z (take e h)) s))
+
+    -- over code that has the next value's address as d
+    pub zeros-step : (d : ℕ) → d ≡ a + (1 + l) → Zeros h a e ≡ Zeros h d e
+    zeros-step d q = let s : a + 1 + l ≡ d = omega arith in rw s at step
 
     pub end-step : a + usedOf (valsIn h a e) ≡ a + 1 + l + usedOf (valsIn h (a + 1 + l) e)
     end-step = let q = used-turn in omega arith
@@ -70,11 +74,15 @@ module _ (h : List ℕ) (a e x t : ℕ) (r : Bool) where
   rest-end b = rest-over (vals-none h a e b)
 
   module _ (b : a < e) (c : e ≤ length h) where
-    pub rest-stop : fits (getD h a 0) (e - (a + 1)) ≡ false → Rest h a e x t r ≡ (zeros (slice a e h) && (ifLast x (eqb a t) && r))
-    rest-stop f = rest-over (vals-stop h a e b c f)
+    -- over code that has m for the words behind the header, and the next value's address as d
+    pub rest-stop : (m : ℕ) → fits (getD h a 0) m ≡ false → m ≡ e - (a + 1) → Rest h a e x t r ≡ (zeros (slice a e h) && (ifLast x (eqb a t) && r))
+    rest-stop m f q = rest-over (vals-stop h a e b c (rw q at f))
 
-    pub rest-go : fits (getD h a 0) (e - (a + 1)) ≡ true → Rest h a e x t r ≡ Rest h (a + 1 + getD h a 0 / 8) e x t r
-    rest-go f = rw (zeros-step h a e b c f, end-step h a e b c f)
+    pub rest-go : (m : ℕ) → fits (getD h a 0) m ≡ true → m ≡ e - (a + 1) → (d : ℕ) → d ≡ a + (1 + getD h a 0 / 8) → Rest h a e x t r ≡ Rest h d e x t r
+    rest-go m f q d p =
+        let g : fits (getD h a 0) (e - (a + 1)) ≡ true = rw q at f in
+        let s : d ≡ a + 1 + getD h a 0 / 8 = omega arith in
+        rw (zeros-step h a e b c g d p, end-step h a e b c g, ← s)
 
 -- the values are passed and end at address a; what is left of the page, and of the rest r, is the whole w
 pub record Passed (h : List ℕ) (a e x t : ℕ) (r w : Bool) : Type 0 where
@@ -97,11 +105,12 @@ module _ {h : List ℕ} {a e x t : ℕ} {r w : Bool} (p : Passed h a e x t r w) 
   pub page-off : zeros (slice a e h) ≡ true → x ≤ 0 → (a ≡ t → ⊥) → false ≡ w
   page-off z b q = sym (last-is x (eqb a t) r b ∙ rw (ne-eqb a t q)) ∙ zeros-on z
 
--- a page of region j, whose a is d; p is its size
+-- a page of region j, whose a is d; p is its size, its values begin at s, and it ends at g
 pub five-page : (n N : ℕ) (h t : List ℕ) (e : N ≡ length h / 2 ^ n) (f k j d p : ℕ) → d ≡ topOf t j → p ≡ 2 ^ n → (r : Bool) (b : ℕ) → b ≡ (k - 1) * 2 ^ n → 0 < f → (k ≡ 0 → ⊥) → k ≤ N
-    → (all (pageFilled n h t j) (chain f n h k) && r) ≡ Rest h (b + 2) (b + p) (getD h b 0) d (all (pageFilled n h t j) (chain (f - 1) n h (getD h b 0)) && r)
+    → (s g : ℕ) → s ≡ b + 2 → g ≡ b + p
+    → (all (pageFilled n h t j) (chain f n h k) && r) ≡ Rest h s g (getD h b 0) d (all (pageFilled n h t j) (chain (f - 1) n h (getD h b 0)) && r)
 unfolding pageFilled filled link pageVals valsIn
-five-page n N h t e f k j d p qd qp r b q l z c =
+five-page n N h t e f k j d p qd qp r b q l z c s g qs qg =
     pages-go n N h e f k (pageFilled n h t j) r b q l z c
     ∙ and-assoc (filled ((k - 1) * 2 ^ n + 2) (drop 2 (pageWords n h (k - 1)))) _ _
-    ∙ rw (q, qd, qp, page-part n h (k - 1))
+    ∙ rw (qs, qg, q, qd, qp, page-part n h (k - 1))

@@ -1,6 +1,7 @@
-// The conversions between page, region and address and the forms in which they are stored; a refusal's number and place.
+// Every way to come by a page, a region or an address: by its number, from the one before it, from a stored form, or from another of the three.
+// Nowhere else in the library is one made. And a refusal's number and place.
 ghost use mathlib.Core.Path.{_≡_};
-ghost use Prim.Native.Nat.{_≤_, _<_};
+ghost use Prim.Native.Nat.{_+_, _-_, _≤_, _<_};
 ghost use Rattle.rules.specs.Memory.{pageAddress, addressPage, pageLink, linkPage, regionOrigin, originRegion};
 ghost use Rattle.rules.specs.Words.{addressPointer, pointerAddress};
 ghost use Rattle.rules.specs.Refusals.{numberOf, placeOf};
@@ -8,6 +9,59 @@ use rules::Address;
 use rules::Page;
 use rules::Refusal;
 use rules::Region;
+
+// The page of a number.
+pub fn page_numbered(k: usize) -> Page
+    ensures { λ r. ⌜ r .0 ≡ k ⌝ }
+{
+    Page(k)
+}
+
+// The page behind page k.
+pub fn next_page(k: Page) -> Page
+    requires { ⌜ k .0 < 4294967296 ⌝ }
+    ensures { λ r. ⌜ r .0 ≡ k .0 + 1 ⌝ }
+{
+    Page(k.0 + 1)
+}
+
+// The region of a number.
+pub fn region_numbered(j: usize) -> Region
+    ensures { λ r. ⌜ r .0 ≡ j ⌝ }
+{
+    Region(j)
+}
+
+// The region above region j.
+pub fn next_region(j: Region) -> Region
+    requires { ⌜ j .0 < 4294967296 ⌝ }
+    ensures { λ r. ⌜ r .0 ≡ j .0 + 1 ⌝ }
+{
+    Region(j.0 + 1)
+}
+
+// The address of a number.
+pub fn address_numbered(i: usize) -> Address
+    ensures { λ r. ⌜ r .0 ≡ i ⌝ }
+{
+    Address(i)
+}
+
+// The address so many words behind a.
+pub fn address_behind(a: Address, words: usize) -> Address
+    requires { ⌜ (a .0 ≤ 4294967296) × (words ≤ 4294967296) ⌝ }
+    ensures { λ r. ⌜ r .0 ≡ a .0 + words ⌝ }
+{
+    Address(a.0 + words)
+}
+
+// The address so many words before a.
+pub fn address_before(a: Address, words: usize) -> Address
+    requires { ⌜ words ≤ a .0 ⌝ }
+    ensures { λ r. ⌜ r .0 ≡ a .0 - words ⌝ }
+{
+    Address(a.0 - words)
+}
 
 // The address of a page's first word.
 pub fn page_address(k: Page, n: u32) -> Address

@@ -2,7 +2,7 @@
 -- bytes. A frame that is malformed stays so when the text is cut, and one that is well formed ends before the cut, with a byte to spare.
 use Prim.Native.Nat.{ℕ, zero, suc, _+_, _-_, _*_, _^_, _≤_, _<_}
 use mathlib.Core.Path.{_≡_, refl, sym, ap, _∙_}
-use mathlib.Core.Bool.{Bool, true}
+use mathlib.Core.Bool.{Bool, true, false≢true}
 use mathlib.Core.Option.{Option, none, some}
 use mathlib.Core.List.{List, [], _∷_, _++_, append-assoc}
 use native.Mathlib.Nat.{zero-mul, suc-mul}
@@ -32,8 +32,7 @@ module _ (kind : ℕ) (fits : List ℕ → Bool) (k : ℕ) (bs : List ℕ) where
           sym (take-append-drop k bs) ∙ ap (λ x. x ++ drop k bs) (g .text) ∙ append-assoc (frame kind (t .0)) (t .1) (drop k bs) in
           let r : readFrame kind fits bs ≡ some (t .0, t .1 ++ drop k bs) =
           ap (readFrame kind fits) b ∙ frame-read kind fits (t .0) (t .1 ++ drop k bs) (g .kinds) (g .words) (g .passes) in
-          let z : _≡_ {A = ℕ} 0 1 = cc in
-          absurd (omega arith)
+          absurd (false≢true cc)
 
   cut-some : (ws rest : List ℕ) → readFrame kind fits bs ≡ some (ws, rest) → 7 + 8 * length ws ≤ k
       → readFrame kind fits (take k bs) ≡ some (ws, take (k - (7 + 8 * length ws)) rest)

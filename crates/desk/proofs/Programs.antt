@@ -144,8 +144,7 @@ module _ (text heap table roots consts : List ℕ) (fits : lengthsFit (headFrom 
         go : (f : Frames) → readText text ≡ f → refusalText why ≡ programOn (readText text)
         go (frames fs) q =
             let d : Opened.Refused why ≡ Opened.Done (storeOf fs .ctl) = sym r ∙ ap (λ (x : Outcome Opened). x .answer) (e ∙ read-frames fs q) in
-            let z : _≡_ {A = ℕ} 0 1 = cc in
-            absurd (omega arith)
+            absurd (false≢true cc)
         go (malformed line) q =
             let d : Opened.Refused why ≡ Opened.Refused (Refusal.Malformed line) = sym r ∙ ap (λ (x : Outcome Opened). x .answer) (e ∙ read-fault line q) in
             let w : why ≡ Refusal.Malformed line = cc in
@@ -161,5 +160,4 @@ module _ (text heap table roots consts : List ℕ) (fits : lengthsFit (headFrom 
             rw (q, k, e ∙ read-frames fs q)
         go (malformed line) q =
             let d : Opened.Done c ≡ Opened.Refused (Refusal.Malformed line) = sym r ∙ ap (λ (x : Outcome Opened). x .answer) (e ∙ read-fault line q) in
-            let z : _≡_ {A = ℕ} 0 1 = cc in
-            absurd (omega arith)
+            absurd (false≢true cc)

@@ -1,17 +1,20 @@
 // The end of a collection that is done. Each function does what its definition in motion says.
 ghost use mathlib.Core.Path.{_≡_};
-ghost use Prim.Native.Nat.{_≤_, _<_};
+ghost use Prim.Native.Nat.{_+_, _-_, _≤_, _<_};
 ghost use lib.ListN.{length};
 ghost use Rattle.rules.specs.Memory.{pageCount, pageLink, row};
 ghost use Rattle.rules.specs.Refusals.{Paged};
-ghost use Rattle.motion.specs.Leaves.{desk};
+ghost use Rattle.laws.specs.Lists.{at};
+ghost use Rattle.motion.specs.Leaves.{desk, low as lowDef, taken, given};
 ghost use Rattle.motion.specs.Whole.{ownChain, ownAll};
 ghost use Rattle.motion.specs.Whole.{giveBack, giveChain, giveAll, rootWord, writtenRoots, writtenTable, recordBy};
 use conversions::address_page;
 use conversions::link_page;
+use conversions::next_region;
 use conversions::page_address;
 use conversions::page_link;
 use conversions::pointer_address;
+use conversions::region_numbered;
 use conversions::region_origin;
 use leaves::first_of;
 use leaves::less;
@@ -55,12 +58,12 @@ pub fn own_all(heap: &mut [u32], notes: &[u32], regions: u32, pages: usize, n: u
     requires { ⌜ (n ≤ 8) × (regions ≤ 64) × (pages ≤ 65536) ⌝ }
     ensures { λ _. ⌜ now (heap .exit) ≡ ownAll n pages regions (now (notes .entry)) (now (heap .entry)) ⌝ }
 {
-    let mut j: usize = 0;
+    let mut j = region_numbered(0);
     let mut left = regions as usize;
     while 0 < left {
-        let fp = first_of(notes, Region(j));
-        own_chain(heap, Region(j), address_page(fp, n), pages, n);
-        j += 1;
+        let fp = first_of(notes, j);
+        own_chain(heap, j, address_page(fp, n), pages, n);
+        j = next_region(j);
         left -= 1;
     }
 }
@@ -119,12 +122,12 @@ pub fn give_all(
     requires { ⌜ (Paged n (length (now heap))) × (pages ≡ pageCount n (now heap)) ⌝ }
     ensures { λ _. ⌜ desk (now (heap .exit)) (now (notes .exit)) ≡ giveAll n pages regions (now (table .entry)) (desk (now (heap .entry)) (now (notes .entry))) ⌝ }
 {
-    let mut j: usize = 0;
+    let mut j = region_numbered(0);
     let mut left = regions as usize;
     while 0 < left {
-        let fp = first_of(table, Region(j));
+        let fp = first_of(table, j);
         give_chain(heap, notes, address_page(fp, n), pages, n);
-        j += 1;
+        j = next_region(j);
         left -= 1;
     }
 }
@@ -168,20 +171,27 @@ pub fn write_table(table: &mut [u32], notes: &[u32], regions: u32)
     }
 }
 
+// The free pages: those that were free and were not taken, and those that were given back.
+fn free_count(count: u32, notes: &[u32]) -> u32
+    ensures { λ r. ⌜ r ≡ lowDef (count - at (now (notes .entry)) taken + at (now (notes .entry)) given) ⌝ }
+{
+    let took = word(notes, TAKEN);
+    let gave = word(notes, GIVEN);
+    let kept = less(count as usize, took);
+    low(kept + gave) as u32
+}
+
 // The record, by the notes.
 pub fn record_by(notes: &[u32], c: Control) -> Control
     ensures { λ r. ⌜ r ≡ recordBy c (now (notes .entry)) ⌝ }
 {
-    let taken = word(notes, TAKEN);
-    let given = word(notes, GIVEN);
     let first = word(notes, FREE_FIRST);
     let last = word(notes, FREE_LAST);
-    let kept = less(c.count as usize, taken);
     Control {
         n: c.n,
         regions: c.regions,
         first: first as u32,
         last: last as u32,
-        count: low(kept + given) as u32,
+        count: free_count(c.count, notes),
     }
 }

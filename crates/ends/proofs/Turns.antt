@@ -81,13 +81,15 @@ pub nine-open : (h t r k : List ℕ) (c : Control) (N : ℕ) → N ≡ length h 
 unfolding rule9 freePages
 nine-open h t r k c N e = rw e (and-yes _)
 
-module _ (n N : ℕ) (h : List ℕ) (e : N ≡ length h / 2 ^ n) (f k p : ℕ) (qp : p ≡ 2 ^ n) (r : Bool) (b : ℕ) (q : b ≡ (k - 1) * 2 ^ n) (l : 0 < f) (z : k ≡ 0 → ⊥) (c : k ≤ N) where
-  turn9 : (all (clean n h) (chain f n h k) && r) ≡ (zeros (slice (b + 1) (b + p) h) && (all (clean n h) (chain (f - 1) n h (getD h b 0)) && r))
+-- a page whose words from s up to d, all but its link, are tested; p is its size
+module _ (n N : ℕ) (h : List ℕ) (e : N ≡ length h / 2 ^ n) (f k p : ℕ) (qp : p ≡ 2 ^ n) (r : Bool) (b : ℕ) (q : b ≡ (k - 1) * 2 ^ n) (l : 0 < f) (z : k ≡ 0 → ⊥) (c : k ≤ N)
+    (s d : ℕ) (qs : s ≡ b + 1) (qd : d ≡ b + p) where
+  turn9 : (all (clean n h) (chain f n h k) && r) ≡ (zeros (slice s d h) && (all (clean n h) (chain (f - 1) n h (getD h b 0)) && r))
   unfolding clean
-  turn9 = pages-go n N h e f k (clean n h) r b q l z c ∙ rw (page-from 1 n h (k - 1), q, qp)
+  turn9 = pages-go n N h e f k (clean n h) r b q l z c ∙ rw (page-from 1 n h (k - 1), qs, qd, q, qp)
 
-  pub nine-go : zeros (slice (b + 1) (b + p) h) ≡ true → (all (clean n h) (chain f n h k) && r) ≡ (all (clean n h) (chain (f - 1) n h (getD h b 0)) && r)
+  pub nine-go : zeros (slice s d h) ≡ true → (all (clean n h) (chain f n h k) && r) ≡ (all (clean n h) (chain (f - 1) n h (getD h b 0)) && r)
   nine-go t = turn9 ∙ rw t
 
-  pub nine-stop : zeros (slice (b + 1) (b + p) h) ≡ false → (all (clean n h) (chain f n h k) && r) ≡ false
+  pub nine-stop : zeros (slice s d h) ≡ false → (all (clean n h) (chain f n h k) && r) ≡ false
   nine-stop t = turn9 ∙ rw t

@@ -5,13 +5,15 @@ ghost use lib.ListN.{length};
 ghost use Rattle.rules.specs.Memory.{lent};
 ghost use Rattle.rules.specs.Refusals.{Admitted};
 ghost use Rattle.rules.specs.Audit.{topFits, rule4 as rule4Of, rule9 as rule9Of};
+use conversions::address_behind;
+use conversions::next_region;
+use conversions::region_numbered;
 use pages::page_count;
 use pages::page_words;
 use rows::end_of;
 use rows::first_link;
 use rows::link_address;
 use rows::top_of;
-use rules::Address;
 use rules::Control;
 use rules::Region;
 use table_words::zero_between;
@@ -23,7 +25,7 @@ fn top_fits(table: &[u32], j: Region, n: u32) -> bool
 {
     let end = end_of(table, j);
     let top = top_of(table, j);
-    if top.0 + page_words(n) < end.0 + 2 {
+    if address_behind(top, page_words(n)).0 < address_behind(end, 2).0 {
         return false;
     }
     top.0 <= end.0
@@ -39,14 +41,14 @@ pub fn rule4(heap: &[u32], table: &[u32], roots: &[u32], consts: &[u32], c: Cont
     let size = page_words(n);
     let pages = page_count(heap.len(), n) as u32;
     let mut fine = true;
-    let mut j = Region(0);
+    let mut j = region_numbered(0);
     let mut regions_left = regions;
     'regions: while 0 < regions_left {
         if !top_fits(table, j, n) {
             fine = false;
             break 'regions;
         }
-        let end = end_of(table, j).0;
+        let end = end_of(table, j);
         let mut link = first_link(table, j, n);
         let mut left = pages;
         'pages: while 0 < left {
@@ -56,18 +58,19 @@ pub fn rule4(heap: &[u32], table: &[u32], roots: &[u32], consts: &[u32], c: Cont
             if pages < link {
                 break 'pages;
             }
-            let base = link_address(link, n).0;
-            link = heap[base];
+            let base = link_address(link, n);
+            let i = base.0;
+            link = heap[i];
             left -= 1;
             if 0 < link {
                 continue 'pages;
             }
-            if end != base + size {
+            if end.0 != address_behind(base, size).0 {
                 fine = false;
                 break 'regions;
             }
         }
-        j = Region(j.0 + 1);
+        j = next_region(j);
         regions_left -= 1;
     }
     fine
@@ -92,12 +95,13 @@ pub fn rule9(heap: &[u32], table: &[u32], roots: &[u32], consts: &[u32], c: Cont
         if pages < link {
             break 'pages;
         }
-        let base = link_address(link, n).0;
-        if !zero_between(heap, Address(base + 1), Address(base + size)) {
+        let base = link_address(link, n);
+        if !zero_between(heap, address_behind(base, 1), address_behind(base, size)) {
             fine = false;
             break 'pages;
         }
-        link = heap[base];
+        let i = base.0;
+        link = heap[i];
         left -= 1;
     }
     fine

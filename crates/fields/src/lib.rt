@@ -8,10 +8,13 @@ ghost use Rattle.rules.specs.Refusals.{Paged, Admitted};
 ghost use Rattle.rules.specs.Audit.{recordsPass, rule6 as rule6Of, rule7 as rule7Of};
 ghost use Rattle.rules.specs.Calls.{pointsInto, letGo};
 ghost use Rattle.fields.specs.Passing.{passes};
+use conversions::address_behind;
 use conversions::address_page;
+use conversions::next_region;
 use conversions::origin_region;
 use conversions::page_address;
 use conversions::pointer_address;
+use conversions::region_numbered;
 use pages::page_count;
 use pages::page_words;
 use rows::first_link;
@@ -40,8 +43,8 @@ fn points_into(heap: &[u32], n: u32, j: Region, w: u32) -> bool
     if heap.len() <= a.0 {
         return false;
     }
-    let base = page_address(address_page(a, n), n).0;
-    let origin = heap[base + 1];
+    let base = page_address(address_page(a, n), n);
+    let origin = heap[base.0 + 1];
     if origin == 0 {
         return false;
     }
@@ -98,7 +101,7 @@ fn records_pass(
     let size = page_words(n);
     let pages = page_count(heap.len(), n) as u32;
     let mut fine = true;
-    let mut j = Region(0);
+    let mut j = region_numbered(0);
     let mut regions_left = below;
     'regions: while 0 < regions_left {
         let mut link = first_link(table, j, n);
@@ -110,33 +113,36 @@ fn records_pass(
             if pages < link {
                 break 'pages;
             }
-            let base = link_address(link, n).0;
-            let end = base + size;
-            let mut at = base + 2;
-            'values: while at < end {
-                let head = heap[at];
-                if !fits(head, end - (at + 1)) {
+            let base = link_address(link, n);
+            let end = address_behind(base, size);
+            let mut at = address_behind(base, 2);
+            'values: while at.0 < end.0 {
+                let i = at.0;
+                let head = heap[i];
+                if !fits(head, end.0 - (at.0 + 1)) {
                     break 'values;
                 }
-                let next = at + 1 + (head / 8) as usize;
+                let next = address_behind(at, 1 + (head / 8) as usize);
                 if !is_record(head) {
                     at = next;
                     continue 'values;
                 }
-                let mut field = at + 1;
-                while field < next {
-                    if !word_passes(heap, consts, n, regions, wanted, heap[field]) {
+                let mut field = address_behind(at, 1);
+                while field.0 < next.0 {
+                    let i = field.0;
+                    if !word_passes(heap, consts, n, regions, wanted, heap[i]) {
                         fine = false;
                         break 'regions;
                     }
-                    field += 1;
+                    field = address_behind(field, 1);
                 }
                 at = next;
             }
-            link = heap[base];
+            let i = base.0;
+            link = heap[i];
             left -= 1;
         }
-        j = Region(j.0 + 1);
+        j = next_region(j);
         regions_left -= 1;
     }
     fine
@@ -181,5 +187,7 @@ pub fn let_go(
     if !words_pass(heap, consts, c.n, c.regions, Wanted::Apart(j), roots) {
         return false;
     }
-    records_pass(heap, table, consts, c.n, c.regions, Wanted::Apart(j), j.0)
+    // as many regions lie below region j as its number says
+    let below = j.0;
+    records_pass(heap, table, consts, c.n, c.regions, Wanted::Apart(j), below)
 }

@@ -30,8 +30,8 @@ fn give_back(heap: &mut [u32], k: Page, c: Control) -> Control
         };
     }
     let start = link_address(c.last, c.n);
-    let a = start.0;
-    heap[a] = link;
+    let i = start.0;
+    heap[i] = link;
     Control {
         n: c.n,
         regions: c.regions,
@@ -59,8 +59,8 @@ pub fn give_chain(heap: &mut [u32], first: u32, c: Control) -> Control
         }
         let k = link_page(link);
         let start = link_address(link, c.n);
-        let a = start.0;
-        link = heap[a];
+        let i = start.0;
+        link = heap[i];
         free = give_back(heap, k, free);
         left -= 1;
     }

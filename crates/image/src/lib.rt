@@ -1,6 +1,7 @@
 // The two calls on a heap's text image: writing it, and reading it back.
 use limits::Tested;
 use limits::first_tests;
+use pages::all_zero;
 use reading::Judged;
 use reading::fill_pages;
 use reading::fill_part;
@@ -10,7 +11,6 @@ use rules::Control;
 use rules::Opened;
 use rules::Refusal;
 use rules::Valued;
-use writing::all_zero;
 use writing::text_length;
 use writing::write_text;
 ghost use mathlib.Core.Path.{_≡_};
@@ -45,7 +45,8 @@ pub fn write_image(
         return Valued::Refused(Refusal::Limits, c);
     }
     write_text(bytes, heap, table, roots, consts, c);
-    Valued::Done(length as u32, c)
+    let answer = length as u32;
+    Valued::Done(answer, c)
 }
 
 // Reads an image's text into the lent parts and answers its record. The whole text is judged before any word is written.

@@ -7,11 +7,14 @@ ghost use Rattle.laws.specs.Lists.{at};
 ghost use Rattle.laws.specs.Each.{after};
 ghost use Rattle.rules.specs.Memory.{addressPage, linkPage, endOf, firstOf, topOf, statusOf, setEnd, setFirst, setTop, setStatus};
 ghost use Rattle.motion.specs.Leaves.{low as lowDef, pageStart, regionOn, apart as apartDef, copied, forwarded, wake as wakeDef, pop as popDef, Narrow};
+use conversions::address_numbered;
 use conversions::address_page;
 use conversions::address_pointer;
 use conversions::link_page;
 use conversions::origin_region;
 use conversions::page_address;
+use conversions::page_numbered;
+use conversions::region_numbered;
 use motion::DEPTH;
 use motion::STACK;
 use motion::Step;
@@ -65,7 +68,7 @@ fn page_start(k: Page, n: u32) -> Address
     if k.0 <= 65536 {
         return page_address(k, n);
     }
-    Address(16777216)
+    address_numbered(16777216)
 }
 
 // The address of the page that a link names.
@@ -74,7 +77,7 @@ pub fn link_start(link: usize, n: u32) -> Address
     ensures { λ r. ⌜ (r .0 ≡ pageStart n (linkPage link)) × (r .0 ≤ 16777216) ⌝ }
 {
     if link == 0 {
-        return page_start(Page(0), n);
+        return page_start(page_numbered(0), n);
     }
     page_start(link_page(link as u32), n)
 }
@@ -95,7 +98,7 @@ pub fn region_at(heap: &[u32], a: Address, n: u32) -> Region
     let start = start_at(a, n);
     let origin = word(heap, start.0 + 1);
     if origin == 0 {
-        return Region(0);
+        return region_numbered(0);
     }
     origin_region(origin as u32)
 }
@@ -107,7 +110,7 @@ pub fn end_of(rows: &[u32], j: Region) -> Address
     requires { ⌜ j .0 < 4294967296 ⌝ }
     ensures { λ r. ⌜ (r .0 ≡ endOf (now (rows .entry)) (j .0)) × (r .0 < 4294967296) ⌝ }
 {
-    Address(word(rows, 4 * j.0))
+    address_numbered(word(rows, 4 * j.0))
 }
 
 // Region j's fp.
@@ -115,7 +118,7 @@ pub fn first_of(rows: &[u32], j: Region) -> Address
     requires { ⌜ j .0 < 4294967296 ⌝ }
     ensures { λ r. ⌜ (r .0 ≡ firstOf (now (rows .entry)) (j .0)) × (r .0 < 4294967296) ⌝ }
 {
-    Address(word(rows, 4 * j.0 + 1))
+    address_numbered(word(rows, 4 * j.0 + 1))
 }
 
 // Region j's a.
@@ -123,7 +126,7 @@ pub fn top_of(rows: &[u32], j: Region) -> Address
     requires { ⌜ j .0 < 4294967296 ⌝ }
     ensures { λ r. ⌜ (r .0 ≡ topOf (now (rows .entry)) (j .0)) × (r .0 < 4294967296) ⌝ }
 {
-    Address(word(rows, 4 * j.0 + 2))
+    address_numbered(word(rows, 4 * j.0 + 2))
 }
 
 // Region j's b.
@@ -237,8 +240,8 @@ pub fn pop(notes: &mut [u32]) -> Step
         return Step::Finished;
     }
     let i = d - 1;
-    let s = word(notes, STACK + 2 * i);
-    let j = word(notes, STACK + 2 * i + 1);
+    let s = address_numbered(word(notes, STACK + 2 * i));
+    let j = region_numbered(word(notes, STACK + 2 * i + 1));
     write(notes, DEPTH, i);
-    Step::Go(Region(j), Address(s))
+    Step::Go(j, s)
 }

@@ -2,8 +2,7 @@
 -- It is true since `admitted` makes the same two tests in the same order.
 use Prim.Native.Nat.{ℕ, _/_, _^_}
 use mathlib.Core.Path.{_≡_, refl, sym, _∙_}
-use mathlib.Core.Bool.{Bool, true, false, not}
-use native.Mathlib.Omega.{arith}
+use mathlib.Core.Bool.{Bool, true, false, not, false≢true}
 use borrow.Author.Tests.{not-false}
 use Rattle.laws.specs.Choice.{_⇒_∣_}
 use Rattle.rules.specs.declared.Control.{Control}
@@ -20,12 +19,12 @@ refused-by : {O : Type 0} (refuse : Refusal → O) (rest : O) (a b : Bool) (why 
     → (a ⇒ refuse Refusal.Limits ∣ b ⇒ refuse (Refusal.Broken 0) ∣ rest) ≡ refuse why
 refused-by refuse rest true b why e = let q : why ≡ Refusal.Limits = cc in rw q
 refused-by refuse rest false true why e = let q : why ≡ Refusal.Broken 0 = cc in rw q
-refused-by refuse rest false false why e = let z : _≡_ {A = ℕ} 0 1 = cc in absurd (omega arith)
+refused-by refuse rest false false why e = absurd (false≢true cc)
 
 fine-by : (a b : Bool) → Tested.Fine ≡ (a ⇒ Tested.Refused Refusal.Limits ∣ b ⇒ Tested.Refused (Refusal.Broken 0) ∣ Tested.Fine)
     → (a ≡ false) × (b ≡ false)
-fine-by true b e = let z : _≡_ {A = ℕ} 0 1 = cc in absurd (omega arith)
-fine-by false true e = let z : _≡_ {A = ℕ} 0 1 = cc in absurd (omega arith)
+fine-by true b e = absurd (false≢true cc)
+fine-by false true e = absurd (false≢true cc)
 fine-by false false e = (refl, refl)
 
 -- h, k, r, l are the four lengths, and `t` is the answer

@@ -70,9 +70,13 @@ module _ (n : ℕ) where
       eqb (o .answer) 0 ⇒ after false (o .state) ∣
       joinAt j e (o .answer) (pageStart n (linkPage (o .answer))) (o .state)
 
-  -- region j with room for m words before its e: as it is, or with a page taken and linked
+  -- region j with a page more, behind the one that ends at its e
+  abbrev pub joinFree : ℕ → Desk → After Bool Desk
+  joinFree j d = joinOn j (endOf (d .notes) j) (takeFree d)
+
+  -- region j with room for m words before its e: as it is, or with a page more
   unfoldable pub room : ℕ → ℕ → Desk → After Bool Desk
-  room j m d = leb (topOf (d .notes) j + m) (endOf (d .notes) j) ⇒ after true d ∣ joinOn j (endOf (d .notes) j) (takeFree d)
+  room j m d = leb (topOf (d .notes) j + m) (endOf (d .notes) j) ⇒ after true d ∣ joinFree j d
 
   -- ---- Moving a value.
 

@@ -1,7 +1,7 @@
 -- Whole numbers and the bits of an `i32`. Below 0 the bits of -(n + 1) are 2^32 - (n + 1), so that turned over they are n.
 use Prim.Native.Nat.{ℕ, suc, _+_, _-_, _*_, _/_, _%_, _^_, _≤_, _<_}
 use mathlib.Core.Path.{_≡_, refl, ap, _∙_}
-use mathlib.Core.Bool.{true, false}
+use mathlib.Core.Bool.{true, false, false≢true}
 use native.Mathlib.Omega.{arith}
 use borrow.Author.Tests.{ltb-true, lt-ltb, le-ltb, ne-eqb}
 use lib.Dec.{T}
@@ -47,24 +47,32 @@ below (negsuc n) f t = record { n = n; is = refl; turned = turned-neg n f; small
 
 pub above : (z : ℤ) → SFits w32 z → ltZ (asRead z) (pos 0) ≡ false → Above z
 above (pos n) f t = record { n = n; is = refl; read = toZ-ofZ f; small = f .sfits }
-above (negsuc n) f t = let e : true ≡ false = rw (toZ-ofZ f) at t in let z : _≡_ {A = ℕ} 0 1 = cc in absurd (omega arith)
+above (negsuc n) f t = let e : true ≡ false = rw (toZ-ofZ f) at t in absurd (false≢true cc)
 
 -- a cast to `u32` loses nothing
 pub casts : (z : ℤ) (n : ℕ) → z ≡ pos n → n < 2 ^ 31 → T (nonNeg z) × Fits w32 (natAbs z)
 casts z n e b = rw e (tt, record { fits = omega arith })
 
--- ---- the word of z
+-- ---- how far z is from 0
 
-pub word-below : (z : ℤ) → Below z → natAbs (asTurned z) < 1073741824 → Worded.Done (4294967295 - 2 * natAbs (asTurned z)) ≡ wordOfNumber z
-word-below z b l =
+pub far-below : (z : ℤ) → Below z → natAbs (asTurned z) + 1 ≡ natAbs z
+far-below z b = rw (b .turned, b .is) (omega arith)
+
+pub far-above : (z : ℤ) → Above z → natAbs (asRead z) ≡ natAbs z
+far-above z a = rw (a .read, a .is)
+
+-- ---- the word of z, which is an m equal to what the definition says, however the code writes it
+
+pub word-below : (z : ℤ) (m : ℕ) → Below z → natAbs (asTurned z) < 1073741824 → m ≡ 4294967295 - 2 * natAbs (asTurned z) → Worded.Done m ≡ wordOfNumber z
+word-below z m b l e =
     let q : 4294967295 - 2 * b .n ≡ 4294967296 - (2 * b .n + 1) = omega arith in
-    rw (b .turned, b .is, lt-ltb (b .n) 1073741824 (rw (b .turned) at l)) (ap Worded.Done q)
+    rw (e, b .turned, b .is, lt-ltb (b .n) 1073741824 (rw (b .turned) at l)) (ap Worded.Done q)
 
 pub word-too-low : (z : ℤ) → Below z → 1073741824 ≤ natAbs (asTurned z) → Worded.Refused Refusal.NoNumber ≡ wordOfNumber z
 word-too-low z b l = rw (b .is, le-ltb (b .n) 1073741824 (rw (b .turned) at l))
 
-pub word-above : (z : ℤ) → Above z → natAbs (asRead z) < 1073741824 → Worded.Done (2 * natAbs (asRead z) + 1) ≡ wordOfNumber z
-word-above z a l = rw (a .read, a .is, lt-ltb (a .n) 1073741824 (rw (a .read) at l))
+pub word-above : (z : ℤ) (m : ℕ) → Above z → natAbs (asRead z) < 1073741824 → m ≡ 2 * natAbs (asRead z) + 1 → Worded.Done m ≡ wordOfNumber z
+word-above z m a l e = rw (e, a .read, a .is, lt-ltb (a .n) 1073741824 (rw (a .read) at l))
 
 pub word-too-high : (z : ℤ) → Above z → 1073741824 ≤ natAbs (asRead z) → Worded.Refused Refusal.NoNumber ≡ wordOfNumber z
 word-too-high z a l = rw (a .is, le-ltb (a .n) 1073741824 (rw (a .read) at l))

@@ -1,5 +1,6 @@
-// Whole numbers as words, and words as whole numbers.
+// Whole numbers as words, and words as whole numbers; how far a number is from 0.
 ghost use mathlib.Core.Path.{_≡_};
+ghost use lib.IntN.{natAbs};
 ghost use Rattle.rules.specs.Calls.{wordOfNumber, numberOfWord};
 use rules::Numbered;
 use rules::Refusal;
@@ -35,4 +36,15 @@ pub fn number_of_word(w: u32) -> Numbered
     }
     let below = ((4294967295 - w) / 2) as i32;
     Numbered::Done(!below)
+}
+
+// How far a number is from 0. Below 0 the bits of i turned over are -1 - i.
+pub fn magnitude(i: i32) -> u32
+    ensures { λ r. ⌜ r ≡ natAbs i ⌝ }
+{
+    if i < 0 {
+        let below = !i as u32;
+        return below + 1;
+    }
+    i as u32
 }

@@ -2,11 +2,10 @@
 ghost use mathlib.Core.Path.{_≡_};
 ghost use Rattle.rules.specs.Memory.{lent};
 ghost use Rattle.rules.specs.Calls.{pageByNumber, pageRefusal};
-use conversions::page_address;
 use limits::Tested;
 use limits::first_tests;
 use pages::page_count;
-use pages::page_words;
+use pages::page_part;
 use rules::Control;
 use rules::Page;
 use rules::Plain;
@@ -31,10 +30,7 @@ pub fn page_by_number<'a>(
     if pages <= k.0 {
         return &heap[0..0];
     }
-    let start = page_address(k, c.n);
-    let a = start.0;
-    let e = a + page_words(c.n);
-    &heap[a..e]
+    page_part(heap, c.n, k)
 }
 
 // Whether a page can be handed back by its number, and why not.

@@ -2,7 +2,7 @@
 -- its end is asked again at the next step; and where the front stops the whole stops.
 use Prim.Native.Nat.{ℕ, suc, _+_, _-_, _≤_}
 use mathlib.Core.Path.{_≡_, refl, sym, ap, _∙_}
-use mathlib.Core.Bool.{Bool, true, false, not}
+use mathlib.Core.Bool.{Bool, true, false, not, false≢true}
 use mathlib.Core.List.{List, [], _∷_, _++_}
 use native.Mathlib.Omega.{arith}
 use lib.Dec.{leb}
@@ -76,18 +76,20 @@ module _ (view : ℕ → List ℕ) where
 
 passed : (c : Control) {d : Control} {x : ℕ} (m : Walked) (go : ℕ → Walked) → Valued.Done x d ≡ walkSays c m → onward m go ≡ go x
 passed c {d} {x} (ends w) go e = let same : w ≡ x = cc in ap go same
-passed c (stops r) go e = absurd (let z : _≡_ {A = ℕ} 0 1 = cc in omega arith)
+passed c (stops r) go e = absurd (false≢true cc)
 
 halted : (c : Control) {d : Control} {r : Refusal} (m : Walked) (go : ℕ → Walked) → Valued.Refused r d ≡ walkSays c m → walkSays c m ≡ walkSays c (onward m go)
-halted c (ends w) go e = absurd (let z : _≡_ {A = ℕ} 0 1 = cc in omega arith)
+halted c (ends w) go e = absurd (false≢true cc)
 halted c (stops s) go e = refl
 
 -- v is what the walk of the piece from i to e answered
 module _ (view : ℕ → List ℕ) (c : Control) (w i e : ℕ) (path : List ℕ) (h : i ≤ e) {v : Valued}
     (s : v ≡ walkSays c (walkFrom view w (take (e - i) (drop i path)))) where
-  -- it ended: the walk goes on behind it
-  pub piece-ends : {x : ℕ} {d : Control} → v ≡ Valued.Done x d → walkFrom view w (drop i path) ≡ walkFrom view x (drop e path)
-  piece-ends q = split view w i e path h ∙ passed c (walkFrom view w (take (e - i) (drop i path))) (λ x. walkFrom view x (drop e path)) (sym q ∙ s)
+  -- it ended: the walk of the whole path from o, which is what is left of it from w, goes on behind it
+  pub piece-ends : (o m : ℕ) {x : ℕ} {d : Control} → m ≡ e → e ≤ length path → v ≡ Valued.Done x d → walkFrom view o path ≡ walkFrom view w (drop i path)
+      → (m ≤ length path) × (walkFrom view o path ≡ walkFrom view x (drop m path))
+  piece-ends o m behind inside q left =
+      (omega arith, rw behind (left ∙ split view w i e path h ∙ passed c (walkFrom view w (take (e - i) (drop i path))) (λ x. walkFrom view x (drop e path)) (sym q ∙ s)))
 
   -- it stopped: so does the walk
   pub piece-stops : {r : Refusal} {d : Control} → v ≡ Valued.Refused r d → v ≡ walkSays c (walkFrom view w (drop i path))

@@ -9,6 +9,8 @@ ghost use Rattle.rules.specs.Memory.{lent, pageCount, pageLink, pageEnd, bodyAd
 ghost use Rattle.rules.specs.Refusals.{Paged, outcome};
 ghost use Rattle.rules.specs.Calls.{allocateIn};
 ghost use Rattle.placing.specs.Placing.{Fit};
+use conversions::address_before;
+use conversions::address_behind;
 use conversions::address_pointer;
 use conversions::link_page;
 use conversions::page_address;
@@ -35,10 +37,10 @@ fn put_words(heap: &mut [u32], a: Address, words: &[u32])
     requires { ⌜ (a .0 + length (now words) ≤ length (now heap)) × (length (now heap) ≤ 65536) ⌝ }
     ensures { λ _. ⌜ now (heap .exit) ≡ put (now (heap .entry)) (a .0) (now (words .entry)) ⌝ }
 {
-    let start = a.0;
+    let from = a.0;
     let mut i = 0;
     while i < words.len() {
-        heap[start + i] = words[i];
+        heap[from + i] = words[i];
         i += 1;
     }
 }
@@ -55,10 +57,10 @@ fn store_value(
     requires { ⌜ (a .0 + length (now words) + 1 ≤ length (now heap)) × (length (now heap) ≤ 65536) × (length (now table) ≡ 256) × (j .0 < 64) ⌝ }
     ensures { λ _. ⌜ (now (heap .exit) ≡ put (now (heap .entry)) (a .0) (header ∷ now (words .entry))) × (now (table .exit) ≡ setTop (now (table .entry)) (j .0) (a .0 + suc (length (now (words .entry))))) ⌝ }
 {
-    let start = a.0;
-    heap[start] = header;
-    put_words(heap, Address(start + 1), words);
-    set_top(table, j, Address(start + words.len() + 1));
+    let i = a.0;
+    heap[i] = header;
+    put_words(heap, address_behind(a, 1), words);
+    set_top(table, j, address_behind(a, words.len() + 1));
 }
 
 // The page at `start` becomes the one after the page at `before`: link 0 and its origin first, then the page before it is linked to it.
@@ -66,11 +68,11 @@ fn append_page(heap: &mut [u32], start: Address, origin: u32, before: Address, l
     requires { ⌜ (start .0 + 1 < length (now heap)) × (before .0 < length (now heap)) × (length (now heap) ≤ 65536) ⌝ }
     ensures { λ _. ⌜ now (heap .exit) ≡ set (set (set (now (heap .entry)) (start .0) 0) (start .0 + 1) origin) (before .0) link ⌝ }
 {
-    let a = start.0;
-    let b = before.0;
-    heap[a] = 0;
-    heap[a + 1] = origin;
-    heap[b] = link;
+    let i_start = start.0;
+    let i_before = before.0;
+    heap[i_start] = 0;
+    heap[i_start + 1] = origin;
+    heap[i_before] = link;
 }
 
 // Page k becomes region j's last page, after the one that ends at its e.
@@ -80,7 +82,7 @@ fn join_page(heap: &mut [u32], table: &mut [u32], j: Region, k: Page, n: u32)
 {
     let start = page_address(k, n);
     let e = end_of(table, j);
-    let before = Address(e.0 - page_words(n));
+    let before = address_before(e, page_words(n));
     append_page(heap, start, region_origin(j), before, page_link(k));
     set_end(table, j, page_end(k, n));
     set_top(table, j, body_address(k, n));
@@ -135,7 +137,8 @@ pub fn put_value(
 {
     let a = top_of(table, j);
     let e = end_of(table, j);
-    if e.0 < a.0 + words.len() + 1 {
+    let behind = address_behind(a, words.len() + 1);
+    if e.0 < behind.0 {
         return put_further(heap, table, c, j, header, words);
     }
     store_value(heap, table, j, a, header, words);

@@ -1,8 +1,7 @@
 -- What a collection leaves can be written: a collection that is done was of a heap that passes, and leaves one that passes.
-use Prim.Native.Nat.{ℕ}
 use mathlib.Core.Path.{_≡_, refl, sym, ap, _∙_}
+use mathlib.Core.Bool.{false≢true}
 use mathlib.Core.Logic.{_⊎_, inl, inr}
-use native.Mathlib.Omega.{arith}
 use lib.ListN.{length}
 use Rattle.rules.specs.declared.Control.{Control}
 use Rattle.rules.specs.declared.Refusal.{Refusal}
@@ -27,8 +26,7 @@ module _ (s : Store) (o : Outcome Plain) (c : Control) (done : o .answer ≡ Pla
   not-refused : {A : Type 0} {r : Refusal} → o ≡ refused s r → A
   not-refused {A} {r} e =
       let d : Plain.Done c ≡ Plain.Refused r (s .ctl) = sym done ∙ ap (λ (x : Outcome Plain). x .answer) e in
-      let z : _≡_ {A = ℕ} 0 1 = cc in
-      absurd (omega arith)
+      absurd (false≢true cc)
 
   left : (s′ : Store) → o ≡ leaving s′ → Sound s′ → Fit
   left s′ q S =

@@ -2,14 +2,13 @@
 -- frames behind it.
 use Prim.Native.Nat.{ℕ, _-_, _*_, _^_, _≤_}
 use mathlib.Core.Path.{_≡_, refl, sym, _∙_}
-use mathlib.Core.Bool.{true, false}
+use mathlib.Core.Bool.{true, false, false≢true}
 use mathlib.Core.List.{List}
 use native.Mathlib.Nat.{mul-le-mul-left, mul-one, one-le-pow}
 use native.Mathlib.Omega.{arith}
 use native.Mathlib.Decide.{ℕ-discrete}
 use borrow.Author.Tests.{leb-true, ne-eqb}
 use lib.ListN.{drop}
-use Rattle.laws.specs.Lists.{at}
 use Rattle.laws.proofs.Tests.{both, and-right}
 use Rattle.rules.specs.Image.{headFits, layout, Frames, frames, malformed, withFrame, readFrames, readText}
 use Rattle.reading.specs.declared.Rest.{Rest}
@@ -74,8 +73,7 @@ module _ (text : List ℕ) (h : Head) (e : h ≡ headFrom (wordsAt 8 text 6)) (f
       go (yes q) = q
       go (no ne) =
           let z : false ≡ true = sym (head-other (countAt text 0) text 6 ne) ∙ fits in
-          let w : _≡_ {A = ℕ} 0 1 = cc in
-          absurd (omega arith)
+          absurd (false≢true cc)
 
   pub head-words : wordsOf text 0 ≡ headList h
   unfolding wordsAt

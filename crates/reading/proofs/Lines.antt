@@ -2,7 +2,7 @@
 -- By one step of the definition a frame, and recursion on the frames that are expected.
 use Prim.Native.Nat.{ℕ, suc, _+_, _-_, _≤_, _<_}
 use mathlib.Core.Path.{_≡_, refl, sym, ap, _∙_}
-use mathlib.Core.Bool.{Bool, true, false}
+use mathlib.Core.Bool.{Bool, true, false, false≢true}
 use mathlib.Core.List.{List, _∷_}
 use native.Mathlib.Numerals.{add-one}
 use native.Mathlib.Omega.{arith}
@@ -36,7 +36,7 @@ module _ (text : List ℕ) (c : Cursor) (kind most : ℕ) where
       go : (b : Bool) → frameFits kind (partFits most) text (c .at) ≡ b
           → (frameFits kind (partFits most) text (c .at) ≡ true) × (n ≡ cursor (afterFrame text (c .at)) (c .line + 1))
       go true e = let q : Step.Next n ≡ Step.Next (cursor (afterFrame text (c .at)) (c .line + 1)) = rw e at h in (e, cc)
-      go false e = let q : Step.Next n ≡ Step.Malformed (c .line) = rw e at h in let z : _≡_ {A = ℕ} 0 1 = cc in absurd (omega arith)
+      go false e = let q : Step.Next n ≡ Step.Malformed (c .line) = rw e at h in absurd (false≢true cc)
 
   pub step-stop : (l : ℕ) → Step.Malformed l ≡ frameStep text c kind most → (frameFits kind (partFits most) text (c .at) ≡ false) × (l ≡ c .line)
   unfolding frameStep
@@ -45,8 +45,7 @@ module _ (text : List ℕ) (c : Cursor) (kind most : ℕ) where
       go : (b : Bool) → frameFits kind (partFits most) text (c .at) ≡ b → (frameFits kind (partFits most) text (c .at) ≡ false) × (l ≡ c .line)
       go true e =
           let q : Step.Malformed l ≡ Step.Next (cursor (afterFrame text (c .at)) (c .line + 1)) = rw e at h in
-          let z : _≡_ {A = ℕ} 0 1 = cc in
-          absurd (omega arith)
+          absurd (false≢true cc)
       go false e = let q : Step.Malformed l ≡ Step.Malformed (c .line) = rw e at h in (e, cc)
 
   -- how far it goes

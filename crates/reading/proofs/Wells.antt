@@ -2,7 +2,7 @@
 -- leaves. Then what reading an image answers, by the test of the lengths.
 use Prim.Native.Nat.{ℕ, zero, suc, _+_, _*_, _/_, _^_}
 use mathlib.Core.Path.{_≡_, refl, sym, ap, _∙_}
-use mathlib.Core.Bool.{Bool, true, false}
+use mathlib.Core.Bool.{Bool, true, false, false≢true}
 use mathlib.Core.List.{List, [], _∷_, _++_}
 use native.Mathlib.Nat.{mul-mod-left, mul-div-cancel}
 use native.Mathlib.Omega.{arith}
@@ -10,7 +10,6 @@ use borrow.Author.Tests.{eqb-true}
 use lib.Pow.{pow-pos}
 use lib.ListN.{length, drop, getD, replicate}
 use Rattle.laws.specs.Choice.{_⇒_∣_}
-use Rattle.laws.specs.Lists.{at}
 use Rattle.laws.proofs.Padded.{length-padded}
 use Rattle.laws.proofs.Tests.{both}
 use Rattle.rules.specs.declared.Refusal.{Refusal}
@@ -29,7 +28,7 @@ use Rattle.reading.proofs.Heads.{Headed, headed, head-fits, onRest, jud
 use Rattle.reading.proofs.Fills.{pages-at-length}
 
 not-well : {A : Type 0} (line : ℕ) → Rest.Malformed line ≡ Rest.Well → A
-not-well line e = let z : _≡_ {A = ℕ} 0 1 = cc in absurd (omega arith)
+not-well line e = absurd (false≢true cc)
 
 pub frames-at : (es : List Expected) (line : ℕ) (text : List ℕ) (i : ℕ) → restOf (readFrames line es (drop i text)) ≡ Rest.Well
     → readFrames line es (drop i text) ≡ frames (framesAt es text i)
@@ -69,7 +68,7 @@ judged-well text h e = go (frameFits 1 headFits text 0) refl
     first = headFrom (wordsAt 8 text 6)
 
     not-judged : {A : Type 0} (line : ℕ) → Judged.Malformed line ≡ Judged.Well h → A
-    not-judged line q = let z : _≡_ {A = ℕ} 0 1 = cc in absurd (omega arith)
+    not-judged line q = absurd (false≢true cc)
 
     rest : frameFits 1 headFits text 0 ≡ true → (r : Rest) → restOf (readFrames 2 (layout (headList first)) (drop 71 text)) ≡ r → Well text h
     rest f Rest.Well q =
@@ -179,8 +178,7 @@ read-malformed text heap table roots consts line e = go (readText text) refl
     go : (f : Frames) → readText text ≡ f → outcome (Opened.Refused (Refusal.Malformed line)) heap table roots consts ≡ readImage text heap table roots consts
     go (frames fs) q =
         let j : Judged.Well (headFrom (getD fs 0 [])) ≡ Judged.Malformed line = sym (ap judgedAs q) ∙ e in
-        let z : _≡_ {A = ℕ} 0 1 = cc in
-        absurd (omega arith)
+        absurd (false≢true cc)
     go (malformed l) q =
         let j : Judged.Malformed l ≡ Judged.Malformed line = sym (ap judgedAs q) ∙ e in
         let s : l ≡ line = cc in

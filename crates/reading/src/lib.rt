@@ -1,7 +1,8 @@
 // The text of an image, read: a first pass judges every frame, a second one fills the parts.
+use conversions::next_page;
 use conversions::page_address;
+use conversions::page_numbered;
 use pages::page_words;
-use rules::Page;
 use scanning::Cursor;
 use scanning::Step;
 use scanning::frame_shape;
@@ -14,7 +15,7 @@ ghost use lib.ListN.{length, drop, replicate};
 ghost use Rattle.laws.specs.Lists.{at};
 ghost use Rattle.rules.specs.Refusals.{Paged};
 ghost use Rattle.rules.specs.Image.{headFits, expected, layout, readFrames, readText};
-ghost use Rattle.scanning.specs.Places.{wordsAt, countAt, afterFrame, frameFits};
+ghost use Rattle.scanning.specs.Places.{wordsAt, afterFrame, frameFits};
 ghost use Rattle.reading.specs.Parts.{restOf, headList, headFrom, judgedAs, partAt, pagesAt, lengthsFit};
 
 // What the frames from a cursor to the end are.
@@ -197,14 +198,14 @@ pub fn fill_pages(text: &[u8], from: usize, heap: &mut [u32], n: u32, pages: usi
 {
     let p = page_words(n);
     let mut i = from;
-    let mut k = 0;
+    let mut k = page_numbered(0);
     let mut left = pages;
     while 0 < left {
-        let start = page_address(Page(k), n);
-        let a = start.0;
-        let e = a + p;
-        i = fill_part(text, i, &mut heap[a..e]);
-        k += 1;
+        let start = page_address(k, n);
+        let low = start.0;
+        let high = low + p;
+        i = fill_part(text, i, &mut heap[low..high]);
+        k = next_page(k);
         left -= 1;
     }
 }

@@ -1,6 +1,7 @@
 // Texts cut at their first bar, and parts at a length.
 ghost use Prim.Native.Nat.{_≤_};
 use crate::heaps;
+use script::parts;
 
 // What stands before the first bar.
 pub fn before_bar(text: &[u8]) -> &[u8] {
@@ -22,8 +23,7 @@ pub fn behind_bar(text: &[u8]) -> &[u8] {
 pub fn within(k: u32, n: usize) -> usize
     ensures { λ r. ⌜ r ≤ n ⌝ }
 {
-    let asked = heaps::place(k);
-    if asked < n { asked } else { n }
+    parts::within(heaps::place(k), n)
 }
 
 // The first words of a part.

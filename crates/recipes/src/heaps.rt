@@ -16,12 +16,12 @@ ghost use lib.ListN.{length};
 use access::set_root;
 use allocation::allocate;
 use assignment::assign;
+use conversions::region_numbered;
 use regions::push;
 use rules::Control;
 use rules::Kind;
 use rules::Opened;
 use rules::Plain;
-use rules::Region;
 use rules::Valued;
 use setting_up::set_up;
 use telling::say;
@@ -123,7 +123,7 @@ fn stored(
     row: &[u32; 16],
     k: usize,
 ) -> Valued {
-    let j = Region(place(row[0]));
+    let j = region_numbered(place(row[0]));
     let kind = kind_of(letter);
     allocate(heap, table, roots, consts, c, j, kind, behind(row, k))
 }

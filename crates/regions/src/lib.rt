@@ -5,6 +5,7 @@ ghost use Rattle.rules.specs.Refusals.{outcome};
 ghost use Rattle.rules.specs.Calls.{push as pushOf};
 use conversions::link_page;
 use conversions::page_address;
+use conversions::region_numbered;
 use limits::Tested;
 use limits::first_tests;
 use pages::body_address;
@@ -15,7 +16,6 @@ use rows::set_row;
 use rules::Control;
 use rules::Plain;
 use rules::Refusal;
-use rules::Region;
 
 // A region more, with one page.
 pub fn push(heap: &mut [u32], table: &mut [u32], roots: &[u32], consts: &[u32], c: Control) -> Plain
@@ -35,7 +35,7 @@ pub fn push(heap: &mut [u32], table: &mut [u32], roots: &[u32], consts: &[u32], 
     if !link_fits(heap, k, c.n, c.count) {
         return Plain::Refused(Refusal::Broken(0), c);
     }
-    let j = Region(c.regions as usize);
+    let j = region_numbered(c.regions as usize);
     let taken = take_page(heap, k, j, c);
     set_row(
         table,
@@ -45,9 +45,10 @@ pub fn push(heap: &mut [u32], table: &mut [u32], roots: &[u32], consts: &[u32], 
         body_address(k, c.n),
         0,
     );
+    let regions = c.regions + 1;
     Plain::Done(Control {
         n: c.n,
-        regions: c.regions + 1,
+        regions: regions,
         first: taken.first,
         last: taken.last,
         count: taken.count,

@@ -4,15 +4,14 @@ ghost use Rattle.rules.specs.Calls.{pop as popOf};
 ghost use Rattle.rules.specs.Memory.{lent};
 ghost use Rattle.rules.specs.Refusals.{outcome};
 use audit::audit;
+use conversions::region_numbered;
 use fields::let_go;
 use giving::give_chain;
+use rows::clear_row;
 use rows::first_link;
-use rows::set_row;
-use rules::Address;
 use rules::Control;
 use rules::Plain;
 use rules::Refusal;
-use rules::Region;
 
 // The top region's pages are free again, and its table words are 0. Refused while a root, or a field of a record in another region, points
 // into it.
@@ -28,14 +27,13 @@ pub fn pop(heap: &mut [u32], table: &mut [u32], roots: &[u32], consts: &[u32], c
         return Plain::Refused(Refusal::NoRegion, c);
     }
     let below = c.regions - 1;
-    let top = below as usize;
-    let j = Region(top);
+    let j = region_numbered(below as usize);
     if !let_go(heap, table, roots, consts, c, j) {
         return Plain::Refused(Refusal::Held, c);
     }
     let first = first_link(table, j, c.n);
     let free = give_chain(heap, first, c);
-    set_row(table, j, Address(0), Address(0), Address(0), 0);
+    clear_row(table, j);
     Plain::Done(Control {
         n: c.n,
         regions: below,

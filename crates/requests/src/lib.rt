@@ -1,4 +1,6 @@
 // What a line asks for. Of a list of words, of a path and of a text a request says where on the line they begin.
+use conversions::page_numbered;
+use conversions::region_numbered;
 use rules::Control;
 use rules::Kind;
 use rules::Page;
@@ -194,7 +196,7 @@ fn read_alloc(line: &[u8], c: Cursor) -> Request {
     let Start::At(from) = next_start(line, next) else {
         return Request::Nothing;
     };
-    read_value(line, from, Region(j as usize))
+    read_value(line, from, region_numbered(j as usize))
 }
 
 fn read_assign(line: &[u8], c: Cursor) -> Request {
@@ -239,7 +241,7 @@ fn read_page(line: &[u8], c: Cursor) -> Request {
     let Number::Is(k, _) = read_last_decimal(line, c) else {
         return Request::Nothing;
     };
-    Request::Ask(Asking::Page(Page(k as usize)))
+    Request::Ask(Asking::Page(page_numbered(k as usize)))
 }
 
 fn read_walk(line: &[u8], c: Cursor) -> Request {
@@ -253,7 +255,7 @@ fn read_used(line: &[u8], c: Cursor) -> Request {
     let Number::Is(j, _) = read_last_decimal(line, c) else {
         return Request::Nothing;
     };
-    Request::Ask(Asking::Used(Region(j as usize)))
+    Request::Ask(Asking::Used(region_numbered(j as usize)))
 }
 
 fn read_num(line: &[u8], c: Cursor) -> Request {

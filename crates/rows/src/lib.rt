@@ -1,8 +1,9 @@
 // The rows of the region table, read and written by name, and the addresses of the pages that links name.
 ghost use mathlib.Core.Path.{_≡_};
-ghost use Prim.Native.Nat.{_+_, _-_, _*_, _/_, _^_, _≤_, _<_};
+ghost use Prim.Native.Nat.{_+_, _-_, _*_, _/_, _≤_, _<_};
 ghost use lib.ListN.{length};
 ghost use Rattle.rules.specs.Memory.{pageAddress, linkPage, endOf, firstOf, topOf, statusOf, setEnd, setTop, setRow, firstLink};
+use conversions::address_numbered;
 use conversions::address_page;
 use conversions::link_page;
 use conversions::page_address;
@@ -15,7 +16,7 @@ pub fn end_of(table: &[u32], j: Region) -> Address
     requires { ⌜ (length (now table) ≡ 256) × (j .0 < 64) ⌝ }
     ensures { λ r. ⌜ (r .0 ≡ endOf (now (table .entry)) (j .0)) × (r .0 < 4294967296) ⌝ }
 {
-    Address(table[4 * j.0] as usize)
+    address_numbered(table[4 * j.0] as usize)
 }
 
 // fp: the address of the region's first page.
@@ -23,7 +24,7 @@ pub fn first_of(table: &[u32], j: Region) -> Address
     requires { ⌜ (length (now table) ≡ 256) × (j .0 < 64) ⌝ }
     ensures { λ r. ⌜ (r .0 ≡ firstOf (now (table .entry)) (j .0)) × (r .0 < 4294967296) ⌝ }
 {
-    Address(table[4 * j.0 + 1] as usize)
+    address_numbered(table[4 * j.0 + 1] as usize)
 }
 
 // a: the first unused address in the region's last page.
@@ -31,7 +32,7 @@ pub fn top_of(table: &[u32], j: Region) -> Address
     requires { ⌜ (length (now table) ≡ 256) × (j .0 < 64) ⌝ }
     ensures { λ r. ⌜ (r .0 ≡ topOf (now (table .entry)) (j .0)) × (r .0 < 4294967296) ⌝ }
 {
-    Address(table[4 * j.0 + 2] as usize)
+    address_numbered(table[4 * j.0 + 2] as usize)
 }
 
 // b: 0 between calls.
@@ -70,6 +71,18 @@ pub fn set_row(table: &mut [u32], j: Region, e: Address, fp: Address, a: Address
     table[row + 1] = fp.0 as u32;
     table[row + 2] = a.0 as u32;
     table[row + 3] = b;
+}
+
+// The four table words of region j become 0.
+pub fn clear_row(table: &mut [u32], j: Region)
+    requires { ⌜ (length (now table) ≡ 256) × (j .0 < 64) ⌝ }
+    ensures { λ _. ⌜ now (table .exit) ≡ setRow (now (table .entry)) (j .0) 0 0 0 0 ⌝ }
+{
+    let row = 4 * j.0;
+    table[row] = 0;
+    table[row + 1] = 0;
+    table[row + 2] = 0;
+    table[row + 3] = 0;
 }
 
 // The link to the region's first page.

@@ -1,7 +1,11 @@
 // What stands in a heap, counted: so that a comparison can show which kinds of heap it met.
 ghost use Prim.Native.Nat.{_≤_, _<_};
+use conversions::address_behind;
+use conversions::address_numbered;
+use conversions::pointer_address;
 use leaves::word;
 use leaves::write;
+use rules::Address;
 
 // The places of a tally.
 pub const PAGES: usize = 0; // pages of regions
@@ -31,18 +35,29 @@ pub fn add(tally: &mut [u32], kind: usize, m: usize)
     write(tally, kind, (word(tally, kind) + m) % 4294967296);
 }
 
-// Whether the record at b has a field that points to a.
-fn points_back(heap: &[u32], b: usize, a: usize) -> bool
-    requires { ⌜ (a < 4294967296) × (b < 4294967296) ⌝ }
+// Whether a word points to a.
+fn points_to(w: usize, a: Address) -> bool
+    requires { ⌜ w < 4294967296 ⌝ }
 {
-    let header = word(heap, b);
+    if w % 4 != 0 {
+        return false;
+    }
+    let b = pointer_address(w as u32);
+    a.0 == b.0
+}
+
+// Whether the record at b has a field that points to a.
+fn points_back(heap: &[u32], b: Address, a: Address) -> bool
+    requires { ⌜ b .0 < 4294967296 ⌝ }
+{
+    let header = word(heap, b.0);
     if header % 8 != 1 {
         return false;
     }
     let m = header / 8;
     let mut i: usize = 0;
     while i < m {
-        if word(heap, b + 1 + i) == 4 * a {
+        if points_to(word(heap, b.0 + 1 + i), a) {
             return true;
         }
         i += 1;
@@ -51,11 +66,11 @@ fn points_back(heap: &[u32], b: usize, a: usize) -> bool
 }
 
 // A pointer to a value, in the value at a.
-fn pointer(heap: &[u32], tally: &mut [u32], a: usize, b: usize)
-    requires { ⌜ (a < 4294967296) × (b < 4294967296) ⌝ }
+fn pointer(heap: &[u32], tally: &mut [u32], a: Address, b: Address)
+    requires { ⌜ b .0 < 4294967296 ⌝ }
 {
     add(tally, TO_VALUES, 1);
-    if a == b {
+    if a.0 == b.0 {
         add(tally, TO_ITSELF, 1);
         return;
     }
@@ -64,11 +79,11 @@ fn pointer(heap: &[u32], tally: &mut [u32], a: usize, b: usize)
     }
 }
 
-fn field(heap: &[u32], tally: &mut [u32], a: usize, w: usize)
-    requires { ⌜ (a < 4294967296) × (w < 4294967296) ⌝ }
+fn field(heap: &[u32], tally: &mut [u32], a: Address, w: usize)
+    requires { ⌜ w < 4294967296 ⌝ }
 {
     if w % 4 == 0 {
-        pointer(heap, tally, a, w / 4);
+        pointer(heap, tally, a, pointer_address(w as u32));
         return;
     }
     if w % 4 == 2 {
@@ -78,12 +93,12 @@ fn field(heap: &[u32], tally: &mut [u32], a: usize, w: usize)
     add(tally, NUMBERS, 1);
 }
 
-fn fields(heap: &[u32], tally: &mut [u32], a: usize, m: usize)
-    requires { ⌜ (a < 4294967296) × (m ≤ 536870912) ⌝ }
+fn fields(heap: &[u32], tally: &mut [u32], a: Address, m: usize)
+    requires { ⌜ (a .0 < 4294967296) × (m ≤ 536870912) ⌝ }
 {
     let mut i: usize = 0;
     while i < m {
-        field(heap, tally, a, word(heap, a + 1 + i));
+        field(heap, tally, a, word(heap, a.0 + 1 + i));
         i += 1;
     }
 }
@@ -95,8 +110,8 @@ fn length(tally: &mut [u32], header: usize) {
 }
 
 // The value at a, whose header this is.
-fn value(heap: &[u32], tally: &mut [u32], a: usize, header: usize)
-    requires { ⌜ (a < 4294967296) × (header < 4294967296) ⌝ }
+fn value(heap: &[u32], tally: &mut [u32], a: Address, header: usize)
+    requires { ⌜ (a .0 < 4294967296) × (header < 4294967296) ⌝ }
 {
     length(tally, header);
     if header % 8 == 1 {
@@ -108,42 +123,42 @@ fn value(heap: &[u32], tally: &mut [u32], a: usize, header: usize)
 }
 
 // The values from an address to the end of its page.
-fn values(heap: &[u32], tally: &mut [u32], start: usize, end: usize)
-    requires { ⌜ end < 4294967296 ⌝ }
+fn values(heap: &[u32], tally: &mut [u32], start: Address, end: Address)
+    requires { ⌜ end .0 < 4294967296 ⌝ }
 {
-    let mut a = start;
-    while a < end {
-        let header = word(heap, a);
+    let mut at = start;
+    while at.0 < end.0 {
+        let header = word(heap, at.0);
         if header == 0 {
             return;
         }
-        value(heap, tally, a, header);
-        a = a + 1 + header / 8;
+        value(heap, tally, at, header);
+        at = address_behind(at, 1 + header / 8);
     }
     add(tally, FULL_PAGES, 1);
 }
 
 // The page from an address on, if it is a region's.
-fn page(heap: &[u32], tally: &mut [u32], a: usize, p: usize)
-    requires { ⌜ (a ≤ 65536) × (p ≤ 256) ⌝ }
+fn page(heap: &[u32], tally: &mut [u32], a: Address, p: usize)
+    requires { ⌜ (a .0 ≤ 65536) × (p ≤ 256) ⌝ }
 {
-    if word(heap, a + 1) == 0 {
+    if word(heap, a.0 + 1) == 0 {
         return;
     }
     add(tally, PAGES, 1);
-    values(heap, tally, a + 2, a + p);
+    values(heap, tally, address_behind(a, 2), address_behind(a, p));
 }
 
 // Every page of p words.
 pub fn count(heap: &[u32], tally: &mut [u32], p: usize)
     requires { ⌜ (0 < p) × (p ≤ 256) ⌝ }
 {
-    let mut a: usize = 0;
-    while a < heap.len() {
-        if 65536 < a {
+    let mut at = address_numbered(0);
+    while at.0 < heap.len() {
+        if 65536 < at.0 {
             return;
         }
-        page(heap, tally, a, p);
-        a = a + p;
+        page(heap, tally, at, p);
+        at = address_behind(at, p);
     }
 }

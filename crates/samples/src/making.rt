@@ -6,6 +6,9 @@ use crate::shape::Shape;
 use access::set_root;
 use allocation::allocate;
 use assignment::assign;
+use conversions::region_numbered;
+use leaves::end_of;
+use leaves::top_of;
 use leaves::word;
 use leaves::write;
 use regions::push;
@@ -148,21 +151,21 @@ fn longest(n: u32) -> usize
 }
 
 // What is left of region j's last page, as the length of a value that fills it.
-fn rest_of(table: &[u32], j: usize) -> usize
-    requires { ⌜ j < 4294967296 ⌝ }
+fn rest_of(table: &[u32], j: Region) -> usize
+    requires { ⌜ j .0 < 4294967296 ⌝ }
     ensures { λ r. ⌜ r < 4294967296 ⌝ }
 {
-    let e = word(table, 4 * j);
-    let a = word(table, 4 * j + 2);
-    if e <= a {
+    let e = end_of(table, j);
+    let a = top_of(table, j);
+    if e.0 <= a.0 {
         return 0;
     }
-    e - a - 1
+    e.0 - a.0 - 1
 }
 
 // A length: mostly short; now and then the longest, or the one that fills region j's page to its end.
-fn length_for(table: &[u32], x: u32, j: usize, n: u32) -> usize
-    requires { ⌜ j < 4294967296 ⌝ }
+fn length_for(table: &[u32], x: u32, j: Region, n: u32) -> usize
+    requires { ⌜ j .0 < 4294967296 ⌝ }
     ensures { λ r. ⌜ r < 4294967296 ⌝ }
 {
     let class = below(x, 16);
@@ -194,7 +197,7 @@ fn store(
     consts: &[u32],
     bag: &mut [u32],
     s: Stand,
-    j: usize,
+    j: Region,
     kind: Kind,
     m: usize,
 ) -> Control
@@ -204,16 +207,7 @@ fn store(
     if bag.len() < end {
         return s.c;
     }
-    let v = allocate(
-        heap,
-        table,
-        roots,
-        consts,
-        s.c,
-        Region(j),
-        kind,
-        &bag[64..end],
-    );
+    let v = allocate(heap, table, roots, consts, s.c, j, kind, &bag[64..end]);
     stored(bag, s.x, v)
 }
 
@@ -232,7 +226,7 @@ fn one_value(
 ) -> Stand {
     let c = s.c;
     let x = next(s.x);
-    let j = wide(below(x, c.regions));
+    let j = region_numbered(wide(below(x, c.regions)));
     let y = next(x);
     let m = length_for(table, y, j, c.n);
     let any = below(next(y), 4) == 0;

@@ -6,9 +6,9 @@ ghost use Rattle.laws.specs.Each.{each};
 ghost use Rattle.motion.specs.Leaves.{desk, out, Narrow};
 ghost use Rattle.motion.specs.Run.{evacuate as evacuateDef, scanValue, nextPage, nextScan};
 ghost use Rattle.motion.specs.Run.{step as stepDef, scanning, work as workDef};
+use conversions::address_behind;
+use conversions::address_numbered;
 use copying::evacuate;
-use copying::room;
-use leaves::copy;
 use leaves::link_start;
 use leaves::low;
 use leaves::pop;
@@ -26,15 +26,13 @@ fn scan_fields(heap: &mut [u32], notes: &mut [u32], x: Address, l: usize, n: u32
     requires { ⌜ (4 ≤ n) × (n ≤ 8) × (x .0 ≤ 4294967296) × (l < 4294967296) ⌝ }
     ensures { λ r. ⌜ out r (now (heap .exit)) (now (notes .exit)) ≡ each l (evacuateDef n) (x .0) (desk (now (heap .entry)) (now (notes .entry))) ⌝ }
 {
-    let mut at = x.0;
-    let mut left = l;
-    while 0 < left {
-        let ok = evacuate(heap, notes, Address(at), n);
+    let mut i: usize = 0;
+    while i < l {
+        let ok = evacuate(heap, notes, address_behind(x, i), n);
         if !ok {
             return false;
         }
-        at += 1;
-        left -= 1;
+        i += 1;
     }
     true
 }
@@ -48,20 +46,20 @@ fn scan_value(heap: &mut [u32], notes: &mut [u32], s: Address, n: u32) -> bool
     if w % 8 != 1 {
         return true;
     }
-    scan_fields(heap, notes, Address(s.0 + 1), w / 8, n)
+    scan_fields(heap, notes, address_behind(s, 1), w / 8, n)
 }
 
 // ---- The work.
 
 // The third word of the page after that of s.
-fn next_page(heap: &[u32], s: Address, n: u32) -> Address
+fn next_body(heap: &[u32], s: Address, n: u32) -> Address
     requires { ⌜ n ≤ 8 ⌝ }
     ensures { λ r. ⌜ (r .0 ≡ nextPage n (s .0) (now (heap .entry))) × (r .0 ≤ 16777218) ⌝ }
 {
     let start = start_at(s, n);
     let link = word(heap, start.0);
     let next = link_start(link, n);
-    Address(next.0 + 2)
+    address_behind(next, 2)
 }
 
 // Where the scan of region j goes on after the value at s.
@@ -71,17 +69,17 @@ fn next_scan(heap: &[u32], notes: &[u32], j: Region, s: Address, n: u32) -> Addr
 {
     let w = word(heap, s.0);
     let top = top_of(notes, j);
-    let t = s.0 + (w / 8 + 1);
-    if t == top.0 {
-        return Address(t);
+    let t = address_behind(s, w / 8 + 1);
+    if t.0 == top.0 {
+        return t;
     }
-    if t & (page_words(n) - 1) == 0 {
-        return next_page(heap, s, n);
+    if t.0 & (page_words(n) - 1) == 0 {
+        return next_body(heap, s, n);
     }
-    if word(heap, t) == 0 {
-        return next_page(heap, s, n);
+    if word(heap, t.0) == 0 {
+        return next_body(heap, s, n);
     }
-    Address(t)
+    t
 }
 
 // One step, region j being scanned at s: a value scanned, or the region left.
@@ -98,7 +96,7 @@ fn one_step(heap: &mut [u32], notes: &mut [u32], j: Region, s: Address, n: u32) 
         return Step::NoPage;
     }
     let next = next_scan(heap, notes, j, s, n);
-    Step::Go(j, Address(low(next.0)))
+    Step::Go(j, address_numbered(low(next.0)))
 }
 
 // At most `fuel` steps from region j at s on.

@@ -1,15 +1,15 @@
 -- The frames of document 01, by places: reading digits, words or a frame from the bytes at a place gives what stands at that place, or
 -- nothing. By recursion on the number of digits and of words.
 use Prim.Native.Nat.{ℕ, zero, suc, _+_, _-_, _*_, _≤_, _<_}
-use mathlib.Core.Path.{_≡_, refl, ap, _∙_}
+use mathlib.Core.Path.{_≡_, refl, sym, ap, _∙_}
 use mathlib.Core.Bool.{Bool, true, false, _&&_, not}
 use mathlib.Core.Option.{Option, none, some}
 use mathlib.Core.List.{List}
 use native.Mathlib.Nat.{add-zero}
 use native.Mathlib.Numerals.{add-one}
 use native.Mathlib.Omega.{arith}
-use native.Mathlib.Decide.{decLt}
-use borrow.Author.Tests.{le-leb, lt-leb}
+use native.Mathlib.Decide.{ℕ-discrete, decLt}
+use borrow.Author.Tests.{le-leb, lt-leb, eq-eqb, ne-eqb}
 use lib.Dec.{eqb}
 use lib.ListN.{length, drop, drop-of-length-le, List·getD-eq-default}
 use lib.Seq.{drop-cons}
@@ -17,7 +17,8 @@ use Rattle.laws.specs.Choice.{_⇒_∣_}
 use Rattle.laws.specs.Lists.{at, allFrom}
 use Rattle.laws.proofs.Tests.{from-add, from-end}
 use Rattle.rules.specs.Image.{valueOf, digits, words, endFrame, readWords, readFrame, trimmed, partFits}
-use Rattle.scanning.specs.Places.{isDigit, allDigits, numberAt, wordsAt, countAt, wordsOf, afterFrame, frameShape, frameFits}
+use Rattle.scanning.specs.declared.Step.{Step}
+use Rattle.scanning.specs.Places.{isDigit, allDigits, numberAt, wordsAt, countAt, wordsOf, afterFrame, frameShape, frameFits, cursor}
 use Rattle.scanning.proofs.Digits.{below-digits, no-digit, has-value}
 
 -- ---- digits
@@ -133,3 +134,22 @@ module _ (most m : ℕ) (text : List ℕ) (i : ℕ) where
   fits-last b z =
       let q : m ≡ suc (m - 1) = omega arith in
       rw (length-words-at m text i, le-leb m most b) (ap (λ k. trimmed (wordsAt k text i)) q ∙ trimmed-at (m - 1) text i)
+
+-- ---- answers, however the code makes the test
+
+-- yes where x is y, and no where it is not
+pub same-by : (x y : ℕ) (r : Bool) → (x ≡ y → r ≡ true) → ((x ≡ y → ⊥) → (y ≡ x → ⊥) → r ≡ false) → r ≡ eqb x y
+same-by x y r t f = go (ℕ-discrete x y)
+  where
+    go : Dec (x ≡ y) → r ≡ eqb x y
+    go (yes q) = rw (eq-eqb x y q) (t q)
+    go (no n) = rw (ne-eqb x y n) (f n (λ q. n (sym q)))
+
+-- no where x is 0, and yes where it is not
+pub some-by : (x : ℕ) (r : Bool) → (x ≡ 0 → r ≡ false) → (0 < x → (x ≡ 0 → ⊥) → (0 ≡ x → ⊥) → r ≡ true) → r ≡ not (eqb x 0)
+some-by zero r z s = z refl
+some-by (suc k) r z s = rw (ne-eqb (suc k) 0 (λ q. omega arith)) (s (omega arith) (λ q. omega arith) (λ q. omega arith))
+
+-- the cursor behind a frame
+pub next-same : {i j l m : ℕ} → i ≡ j → l ≡ m → Step.Next (cursor i l) ≡ Step.Next (cursor j m)
+next-same p q = rw (p, q)

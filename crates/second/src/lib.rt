@@ -15,9 +15,13 @@
 //   67018 + 4a      where the value at a was copied to, 0 where it was not
 //   67018 + 4i + 1  the address that copy i came from    67018 + 4i + 2  the address that it went to
 //   67018 + 4i + 3  the next copy of its region, number plus 1, 0 where it is the last
-//   329162 to 333257  the list of free pages
+//   329162 to 333257  the list of free pages, as links
+ghost use mathlib.Core.Path.{_≡_};
+ghost use Prim.Native.Nat.{_+_, _≤_, _<_};
+use rules::Address;
 use rules::Control;
-ghost use Prim.Native.Nat.{_≤_, _<_};
+use rules::Page;
+use rules::Region;
 
 // The words of a heap with all that belongs to it, alone and with the books behind it.
 pub const WHOLE: usize = 66822;
@@ -96,22 +100,99 @@ fn size(n: usize) -> usize
     (1usize << (n % 16)) % 65536
 }
 
-// The first address of the page that a link names.
-fn base(link: usize, n: usize) -> usize
-    ensures { λ r. ⌜ r < 4294967296 ⌝ }
+// ---- Pages, regions and addresses: each is made here only, from its number, from a word that stands for it, or from another of the three.
+
+// The region of a number.
+fn region_of(j: usize) -> Region
+    ensures { λ r. ⌜ r .0 ≡ j ⌝ }
 {
-    if link == 0 {
-        return 0;
-    }
-    ((link - 1) << (n % 16)) % 4294967296
+    Region(j)
 }
 
-// The page that an address lies in, as a link.
-fn link_of(a: usize, n: usize) -> usize
+// The address that a word says.
+fn address_in(words: &[u32], i: usize) -> Address
+    ensures { λ r. ⌜ r .0 < 4294967296 ⌝ }
+{
+    Address(get(words, i))
+}
+
+// The page that a link names.
+fn named_page(link: usize) -> Page {
+    if link == 0 {
+        return Page(0);
+    }
+    Page(link - 1)
+}
+
+// The link that names a page.
+fn link_to(k: Page) -> usize
+    requires { ⌜ k .0 < 4294967296 ⌝ }
     ensures { λ r. ⌜ r ≤ 4294967296 ⌝ }
 {
-    (a >> (n % 16)) % 4294967296 + 1
+    k.0 + 1
 }
+
+// The first address of a page.
+fn base(k: Page, n: usize) -> Address
+    ensures { λ r. ⌜ r .0 < 4294967296 ⌝ }
+{
+    Address((k.0 << (n % 16)) % 4294967296)
+}
+
+// The page that an address lies in.
+fn page_at(a: Address, n: usize) -> Page
+    ensures { λ r. ⌜ r .0 < 4294967296 ⌝ }
+{
+    Page((a.0 >> (n % 16)) % 4294967296)
+}
+
+// The address m words behind another.
+fn behind(a: Address, m: usize) -> Address
+    requires { ⌜ (a .0 < 4294967296) × (m ≤ 4294967296) ⌝ }
+    ensures { λ r. ⌜ r .0 ≡ a .0 + m ⌝ }
+{
+    Address(a.0 + m)
+}
+
+// The address that a pointer into the heap names.
+fn named_address(w: usize) -> Address
+    requires { ⌜ w < 4294967296 ⌝ }
+    ensures { λ r. ⌜ r .0 < 4294967296 ⌝ }
+{
+    Address(w / 4)
+}
+
+// The pointer that names an address.
+fn pointer_to(a: Address) -> usize
+    requires { ⌜ a .0 < 4294967296 ⌝ }
+{
+    4 * a.0
+}
+
+// The region above region j.
+fn next_region(j: Region) -> Region
+    requires { ⌜ j .0 < 4294967296 ⌝ }
+    ensures { λ r. ⌜ r .0 ≡ j .0 + 1 ⌝ }
+{
+    Region(j.0 + 1)
+}
+
+// The origin of region j's pages.
+fn origin_of(j: Region) -> usize
+    requires { ⌜ j .0 < 4294967296 ⌝ }
+{
+    j.0 + 1
+}
+
+// The region whose pages have an origin.
+fn region_from(origin: usize) -> Region
+    requires { ⌜ (0 < origin) × (origin < 4294967296) ⌝ }
+    ensures { λ r. ⌜ r .0 < 4294967296 ⌝ }
+{
+    Region(origin - 1)
+}
+
+// ---- The collection.
 
 // m words of the one slice from a on, into the other from b on.
 fn copy_words(from: &[u32], to: &mut [u32], a: usize, b: usize, m: usize)
@@ -124,10 +205,10 @@ fn copy_words(from: &[u32], to: &mut [u32], a: usize, b: usize, m: usize)
     }
 }
 
-// A page number at the end of the list of free pages.
-fn list_page(new: &mut [u32], k: usize) {
+// A page at the end of the list of free pages, as a link.
+fn list_page(new: &mut [u32], link: usize) {
     let listed = get(new, LISTED);
-    set(new, FREE + listed, k);
+    set(new, FREE + listed, link);
     set(new, LISTED, listed + 1);
 }
 
@@ -139,8 +220,9 @@ fn list_chain(old: &[u32], new: &mut [u32], n: usize, link: usize, most: usize) 
         if next == 0 {
             return;
         }
-        list_page(new, next - 1);
-        next = get(old, base(next, n));
+        list_page(new, next);
+        let at = base(named_page(next), n);
+        next = get(old, at.0);
         left -= 1;
     }
 }
@@ -150,7 +232,7 @@ fn listed_at(new: &[u32], i: usize) -> usize
     requires { ⌜ i < 4294967296 ⌝ }
     ensures { λ r. ⌜ r ≤ 4294967296 ⌝ }
 {
-    get(new, FREE + i) + 1
+    get(new, FREE + i)
 }
 
 // The next page of the list, as a link; 0 where the list is used up.
@@ -166,70 +248,73 @@ fn take(new: &mut [u32]) -> usize
 }
 
 // A taken page becomes region j's last: its origin written, the region's e and a set. Its first address.
-fn open(new: &mut [u32], n: usize, j: usize, link: usize) -> usize
-    requires { ⌜ j < 4294967296 ⌝ }
+fn open(new: &mut [u32], n: usize, j: Region, k: Page) -> Address
+    requires { ⌜ j .0 < 4294967296 ⌝ }
 {
-    let at = base(link, n);
-    set(new, at + 1, j + 1);
-    set(new, TABLE + 4 * j, at + size(n));
-    set(new, TABLE + 4 * j + 2, at + 2);
+    let at = base(k, n);
+    set(new, at.0 + 1, origin_of(j));
+    let end = behind(at, size(n));
+    set(new, TABLE + 4 * j.0, end.0);
+    let top = behind(at, 2);
+    set(new, TABLE + 4 * j.0 + 2, top.0);
     at
 }
 
 // Each region takes its first page; false where a page is lacking.
-fn first_page(new: &mut [u32], n: usize, j: usize) -> bool
-    requires { ⌜ j < 4294967296 ⌝ }
+fn first_page(new: &mut [u32], n: usize, j: Region) -> bool
+    requires { ⌜ j .0 < 4294967296 ⌝ }
 {
     let link = take(new);
     if link == 0 {
         return false;
     }
-    let at = open(new, n, j, link);
-    set(new, TABLE + 4 * j + 1, at);
+    let at = open(new, n, j, named_page(link));
+    set(new, TABLE + 4 * j.0 + 1, at.0);
     true
 }
 
 fn first_pages(new: &mut [u32], n: usize, regions: usize) -> bool
     requires { ⌜ regions ≤ 64 ⌝ }
 {
-    let mut j: usize = 0;
-    while j < regions {
+    let mut j = region_of(0);
+    while j.0 < regions {
         if !first_page(new, n, j) {
             return false;
         }
-        j += 1;
+        j = next_region(j);
     }
     true
 }
 
 // The page that ends at `end` linked to another.
-fn link_last(new: &mut [u32], n: usize, end: usize, link: usize) {
+fn link_last(new: &mut [u32], n: usize, end: Address, link: usize) {
     let p = size(n);
-    if end < p {
+    if end.0 < p {
         return;
     }
-    set(new, end - p, link);
+    set(new, end.0 - p, link);
 }
 
 // A page more for region j, to which its last one is linked; false where it is lacking.
-fn next_page(new: &mut [u32], n: usize, j: usize, end: usize) -> bool
-    requires { ⌜ j < 4294967296 ⌝ }
+fn next_page(new: &mut [u32], n: usize, j: Region, end: Address) -> bool
+    requires { ⌜ j .0 < 4294967296 ⌝ }
 {
     let link = take(new);
     if link == 0 {
         return false;
     }
     link_last(new, n, end, link);
-    open(new, n, j, link);
+    open(new, n, j, named_page(link));
     true
 }
 
 // Room for m words in region j: where it stands, or in a page more.
-fn make_room(new: &mut [u32], n: usize, j: usize, m: usize) -> bool
-    requires { ⌜ (j < 4294967296) × (m ≤ 4294967296) ⌝ }
+fn make_room(new: &mut [u32], n: usize, j: Region, m: usize) -> bool
+    requires { ⌜ (j .0 < 4294967296) × (m ≤ 4294967296) ⌝ }
 {
-    let end = get(new, TABLE + 4 * j);
-    if get(new, TABLE + 4 * j + 2) + m <= end {
+    let end = address_in(new, TABLE + 4 * j.0);
+    let top = address_in(new, TABLE + 4 * j.0 + 2);
+    if top.0 + m <= end.0 {
         return true;
     }
     next_page(new, n, j, end)
@@ -246,65 +331,67 @@ fn link_copy(new: &mut [u32], before: usize, i: usize)
 }
 
 // A region of which all was scanned has copy number i to scan, and goes on the stack.
-fn wake(new: &mut [u32], j: usize, i: usize)
-    requires { ⌜ (j < 4294967296) × (i < 4294967296) ⌝ }
+fn wake(new: &mut [u32], j: Region, i: usize)
+    requires { ⌜ (j .0 < 4294967296) × (i < 4294967296) ⌝ }
 {
-    if 0 < get(new, NEXT_COPY + 2 * j) {
+    if 0 < get(new, NEXT_COPY + 2 * j.0) {
         return;
     }
-    set(new, NEXT_COPY + 2 * j, i + 1);
+    set(new, NEXT_COPY + 2 * j.0, i + 1);
     let depth = get(new, DEPTH);
-    set(new, STACK + depth, j);
+    set(new, STACK + depth, j.0);
     set(new, DEPTH, depth + 1);
 }
 
 // Copy number i goes to the end of region j's list.
-fn list_copy(new: &mut [u32], j: usize, i: usize)
-    requires { ⌜ (j < 4294967296) × (i < 4294967296) ⌝ }
+fn list_copy(new: &mut [u32], j: Region, i: usize)
+    requires { ⌜ (j .0 < 4294967296) × (i < 4294967296) ⌝ }
 {
-    let before = get(new, LAST_COPY + 2 * j);
+    let before = get(new, LAST_COPY + 2 * j.0);
     link_copy(new, before, i);
-    set(new, LAST_COPY + 2 * j, i + 1);
+    set(new, LAST_COPY + 2 * j.0, i + 1);
     wake(new, j, i);
 }
 
 // The next copy's number; it is of the value at a, and stands at b.
-fn number_copy(new: &mut [u32], a: usize, b: usize) -> usize
-    requires { ⌜ (a < 4294967296) × (b < 4294967296) ⌝ }
+fn number_copy(new: &mut [u32], a: Address, b: Address) -> usize
+    requires { ⌜ a .0 < 4294967296 ⌝ }
     ensures { λ r. ⌜ r < 4294967296 ⌝ }
 {
-    set(new, SIDE + 4 * a, b);
+    set(new, SIDE + 4 * a.0, b.0);
     let i = get(new, COPIED);
-    set(new, SIDE + 4 * i + 1, a);
-    set(new, SIDE + 4 * i + 2, b);
+    set(new, SIDE + 4 * i + 1, a.0);
+    set(new, SIDE + 4 * i + 2, b.0);
     set(new, COPIED, i + 1);
     i
 }
 
 // The value at a copied into region j, whose first unused address b has room for its m words.
-fn copy_into(old: &[u32], new: &mut [u32], a: usize, m: usize, j: usize)
-    requires { ⌜ (a < 4294967296) × (m ≤ 4294967296) × (j < 4294967296) ⌝ }
+fn copy_into(old: &[u32], new: &mut [u32], a: Address, m: usize, j: Region)
+    requires { ⌜ (a .0 < 4294967296) × (m ≤ 4294967296) × (j .0 < 4294967296) ⌝ }
 {
-    let b = get(new, TABLE + 4 * j + 2);
-    copy_words(old, new, a, b, m);
-    set(new, TABLE + 4 * j + 2, b + m);
+    let b = address_in(new, TABLE + 4 * j.0 + 2);
+    copy_words(old, new, a.0, b.0, m);
+    let top = behind(b, m);
+    set(new, TABLE + 4 * j.0 + 2, top.0);
     let i = number_copy(new, a, b);
     list_copy(new, j, i);
 }
 
 // The value at a copied, if it was not yet; false where a page is lacking.
-fn copy_value(old: &[u32], new: &mut [u32], n: usize, a: usize) -> bool
-    requires { ⌜ a < 4294967296 ⌝ }
+fn copy_value(old: &[u32], new: &mut [u32], n: usize, a: Address) -> bool
+    requires { ⌜ a .0 < 4294967296 ⌝ }
 {
-    if 0 < get(new, SIDE + 4 * a) {
+    if 0 < get(new, SIDE + 4 * a.0) {
         return true;
     }
-    let m = get(old, a) / 8 + 1;
-    let origin = get(old, base(link_of(a, n), n) + 1);
+    let m = get(old, a.0) / 8 + 1;
+    let at = base(page_at(a, n), n);
+    let origin = get(old, at.0 + 1);
     if origin == 0 {
         return true;
     }
-    let j = origin - 1;
+    let j = region_from(origin);
     if !make_room(new, n, j, m) {
         return false;
     }
@@ -319,7 +406,8 @@ fn new_word(new: &[u32], w: usize) -> usize
     if w % 4 != 0 {
         return w;
     }
-    4 * get(new, SIDE + w) // w is 4 times the address
+    let a = named_address(w);
+    pointer_to(address_in(new, SIDE + 4 * a.0))
 }
 
 // The value that a word points to copied, if it points into the heap.
@@ -329,7 +417,7 @@ fn copy_named(old: &[u32], new: &mut [u32], n: usize, w: usize) -> bool
     if w % 4 != 0 {
         return true;
     }
-    copy_value(old, new, n, w / 4)
+    copy_value(old, new, n, named_address(w))
 }
 
 // The values that the m words from a on point to, in order.
@@ -363,39 +451,39 @@ fn write_all(old: &[u32], new: &mut [u32], a: usize, b: usize, m: usize)
 fn scan_copy(old: &[u32], new: &mut [u32], n: usize, i: usize) -> bool
     requires { ⌜ i < 4294967296 ⌝ }
 {
-    let a = get(new, SIDE + 4 * i + 1);
-    let header = get(old, a);
+    let a = address_in(new, SIDE + 4 * i + 1);
+    let header = get(old, a.0);
     if header % 8 != 1 {
         return true;
     }
     let m = header / 8;
-    if !copy_all(old, new, n, a + 1, m) {
+    if !copy_all(old, new, n, a.0 + 1, m) {
         return false;
     }
-    let b = get(new, SIDE + 4 * i + 2);
-    write_all(old, new, a + 1, b + 1, m);
+    let b = address_in(new, SIDE + 4 * i + 2);
+    write_all(old, new, a.0 + 1, b.0 + 1, m);
     true
 }
 
 // The next copy of region j, number i, scanned; the one behind it is the next then.
-fn scan_next(old: &[u32], new: &mut [u32], n: usize, j: usize, i: usize) -> bool
-    requires { ⌜ (j < 4294967296) × (i < 4294967296) ⌝ }
+fn scan_next(old: &[u32], new: &mut [u32], n: usize, j: Region, i: usize) -> bool
+    requires { ⌜ (j .0 < 4294967296) × (i < 4294967296) ⌝ }
 {
     if !scan_copy(old, new, n, i) {
         return false;
     }
     let next = get(new, SIDE + 4 * i + 3);
-    set(new, NEXT_COPY + 2 * j, next);
+    set(new, NEXT_COPY + 2 * j.0, next);
     true
 }
 
 // Region j scanned to its end: no more copies than a heap has words.
-fn scan_region(old: &[u32], new: &mut [u32], n: usize, j: usize) -> bool
-    requires { ⌜ j < 4294967296 ⌝ }
+fn scan_region(old: &[u32], new: &mut [u32], n: usize, j: Region) -> bool
+    requires { ⌜ j .0 < 4294967296 ⌝ }
 {
     let mut left: usize = TABLE;
     while 0 < left {
-        let i = get(new, NEXT_COPY + 2 * j);
+        let i = get(new, NEXT_COPY + 2 * j.0);
         if i == 0 {
             return true;
         }
@@ -416,7 +504,7 @@ fn scan_all(old: &[u32], new: &mut [u32], n: usize) -> bool {
             return true;
         }
         set(new, DEPTH, depth - 1);
-        let j = get(new, STACK - 1 + depth);
+        let j = region_of(get(new, STACK - 1 + depth));
         if !scan_region(old, new, n, j) {
             return false;
         }
@@ -429,11 +517,11 @@ fn scan_all(old: &[u32], new: &mut [u32], n: usize) -> bool {
 fn list_old(old: &[u32], new: &mut [u32], n: usize, regions: usize)
     requires { ⌜ regions ≤ 64 ⌝ }
 {
-    let mut j: usize = 0;
-    while j < regions {
-        let first = link_of(get(old, TABLE + 4 * j + 1), n);
-        list_chain(old, new, n, first, TABLE);
-        j += 1;
+    let mut j = region_of(0);
+    while j.0 < regions {
+        let first = address_in(old, TABLE + 4 * j.0 + 1);
+        list_chain(old, new, n, link_to(page_at(first, n)), TABLE);
+        j = next_region(j);
     }
 }
 
@@ -441,9 +529,9 @@ fn list_old(old: &[u32], new: &mut [u32], n: usize, regions: usize)
 fn link_next(new: &mut [u32], n: usize, i: usize)
     requires { ⌜ i < 4294967295 ⌝ }
 {
-    let at = base(listed_at(new, i), n);
+    let at = base(named_page(listed_at(new, i)), n);
     let link = listed_at(new, i + 1);
-    set(new, at, link);
+    set(new, at.0, link);
 }
 
 // The pages of the list from one place on linked one to the next; `to` is the place of the last, which is linked to none.

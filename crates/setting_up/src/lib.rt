@@ -5,15 +5,16 @@ ghost use lib.ListN.{length, replicate};
 ghost use Rattle.rules.specs.Memory.{pageCount};
 ghost use Rattle.rules.specs.Refusals.{Paged, outcome};
 ghost use Rattle.rules.specs.Calls.{setUp, freshPages};
+use conversions::next_page;
 use conversions::page_address;
 use conversions::page_link;
+use conversions::page_numbered;
 use limits::within_limits;
 use pages::clear;
 use pages::fill;
 use pages::page_count;
 use rules::Control;
 use rules::Opened;
-use rules::Page;
 use rules::Refusal;
 
 // Links the pages of a cleared heap in rising order.
@@ -21,13 +22,14 @@ fn list_pages(heap: &mut [u32], n: u32)
     requires { ⌜ (Paged n (length (now heap))) × (2 * 2 ^ n ≤ length (now heap)) × (now heap ≡ replicate (length (now heap)) 0) ⌝ }
     ensures { λ _. ⌜ now (heap .exit) ≡ freshPages n (pageCount n (now (heap .entry))) 0 ⌝ }
 {
-    let mut k = 0;
+    let mut k = page_numbered(0);
     let mut left = page_count(heap.len(), n) - 1;
     while 0 < left {
-        let start = page_address(Page(k), n);
-        let a = start.0;
-        heap[a] = page_link(Page(k + 1));
-        k += 1;
+        let next = next_page(k);
+        let start = page_address(k, n);
+        let i = start.0;
+        heap[i] = page_link(next);
+        k = next;
         left -= 1;
     }
 }
@@ -50,12 +52,13 @@ pub fn set_up(
     list_pages(heap, n);
     clear(table);
     fill(roots, 1);
-    let last = page_link(Page(pages - 1));
+    let last = page_link(page_numbered(pages - 1));
+    let count = pages as u32;
     Opened::Done(Control {
         n: n,
         regions: 0,
-        first: page_link(Page(0)),
+        first: page_link(page_numbered(0)),
         last: last,
-        count: pages as u32,
+        count: count,
     })
 }

@@ -1,4 +1,5 @@
 // Words and values: "a whole number i from -2^30 to 2^30-1, stored as 2i+1 modulo 2^32".
+use numbers::magnitude;
 use numbers::number_of_word;
 use numbers::word_of_number;
 use rules::Numbered;
@@ -17,15 +18,6 @@ fn word_of(name: &[u8], i: i32) {
         }
     }
     say::text(b"\n");
-}
-
-// How far a number is from 0.
-fn magnitude(i: i32) -> u32 {
-    if i < 0 {
-        let below = !i as u32;
-        return below + 1;
-    }
-    i as u32
 }
 
 // A number with its sign.

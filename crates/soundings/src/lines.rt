@@ -4,13 +4,8 @@
 use crate::asking;
 use recipes::cutting;
 use recipes::heaps;
+use script::parts;
 use telling::say;
-
-// The first words of the constants.
-fn first_constants(part: &[u32], k: u32) -> &[u32] {
-    let n = cutting::within(k, part.len());
-    &part[0..n]
-}
 
 // The rest of a line, on parts of these lengths.
 fn sized(
@@ -25,7 +20,7 @@ fn sized(
         cutting::first_words(heap, row[0]),
         cutting::first_words(table, row[1]),
         cutting::first_words(roots, row[2]),
-        first_constants(consts, row[3]),
+        parts::first_words(consts, heaps::place(row[3])),
         cutting::before_bar(rest),
         cutting::behind_bar(rest),
     );

@@ -1,6 +1,8 @@
 // Questions that leave the parts as they are.
 use access::fetch;
 use access::fetch_refusal;
+use conversions::page_numbered;
+use conversions::region_numbered;
 use due::due;
 use page_views::page_by_number;
 use page_views::page_refusal;
@@ -8,7 +10,6 @@ use paths::walk;
 use recipes::heaps;
 use rules::Control;
 use rules::Page;
-use rules::Region;
 use telling::say;
 use used::used_words;
 
@@ -40,10 +41,10 @@ fn hands_back<'a>(
     roots: &'a [u32],
     consts: &'a [u32],
     c: Control,
-    k: usize,
+    k: Page,
 ) {
-    page(page_by_number(heap, table, roots, consts, c, Page(k)));
-    say::plain(page_refusal(heap, table, roots, consts, c, Page(k)));
+    page(page_by_number(heap, table, roots, consts, c, k));
+    say::plain(page_refusal(heap, table, roots, consts, c, k));
 }
 
 // The question by its letter: k numbers.
@@ -60,13 +61,13 @@ fn looked<'a>(
     let first = heaps::place(row[0]);
     match letter {
         b'f' => fetches(heap, table, roots, consts, c, row[0]),
-        b'v' => hands_back(heap, table, roots, consts, c, first),
+        b'v' => hands_back(heap, table, roots, consts, c, page_numbered(first)),
         b'g' => {
             say::valued(walk(heap, table, roots, consts, c, first, heaps::behind(row, k)));
         }
         b'd' => say::told(due(heap, table, roots, consts, c)),
         _ => {
-            say::valued(used_words(heap, table, roots, consts, c, Region(first)));
+            say::valued(used_words(heap, table, roots, consts, c, region_numbered(first)));
         }
     }
 }

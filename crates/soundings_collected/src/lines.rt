@@ -8,6 +8,7 @@
 use crate::asking;
 use recipes::cutting;
 use recipes::heaps;
+use script::parts;
 use telling::say;
 
 // The question, on parts of these lengths.
@@ -72,16 +73,10 @@ fn changed(text: &mut [u8], at: u32, byte: u8) -> u8 {
     was
 }
 
-// The first bytes of a text.
-fn first_bytes(text: &[u8], k: u32) -> &[u8] {
-    let n = cutting::within(k, text.len());
-    &text[0..n]
-}
-
 // The same on the image's text as the numbers have it, which stands as before when they are done.
 fn on_text(image: &mut [u8], row: &[u32; 16], rest: &[u8]) {
     let was = changed(image, row[5], heaps::first(rest));
-    on_source(first_bytes(image, row[4]), row, rest);
+    on_source(parts::first_bytes(image, heaps::place(row[4])), row, rest);
     changed(image, row[5], was);
 }
 

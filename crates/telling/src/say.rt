@@ -31,7 +31,7 @@ fn item(i: usize, w: u32) {
 fn list(part: &[u32]) {
     let mut i = 0;
     while i < part.len() {
-        if writing::all_zero(&part[i..]) {
+        if pages::all_zero(&part[i..]) {
             return;
         }
         item(i, part[i]);

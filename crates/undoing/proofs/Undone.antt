@@ -21,7 +21,7 @@ pub undo-zero : (f e x w : ℕ) (h : List ℕ) → 0 < f → x < e → w ≡ at 
 unfolding undoTurn
 undo-zero f e x w h l b q n = loop-over _ _ _ _ _ l (rw (lt-leb e x b, eq-eqb (at h x) 0 (sym q ∙ n)))
 
--- page k, of p words from a on
-pub undo-all : (n k a p : ℕ) (h : List ℕ) → a ≡ k * 2 ^ n → p ≡ 2 ^ n → undoVals p (a + p) (after (a + 2) h) ≡ undoPage n k h
+-- page k, of p words from a on: its body is from x to e
+pub undo-all : (n k a p e x : ℕ) (h : List ℕ) → a ≡ k * 2 ^ n → p ≡ 2 ^ n → e ≡ a + p → x ≡ a + 2 → undoVals p e (after x h) ≡ undoPage n k h
 unfolding undoPage
-undo-all n k a p h e q = rw (e, q)
+undo-all n k a p e x h q r s t = rw (s, t, q, r)

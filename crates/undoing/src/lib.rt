@@ -7,10 +7,13 @@ ghost use Rattle.rules.specs.Memory.{pageCount, pageLink, setLink};
 ghost use Rattle.rules.specs.Refusals.{Paged};
 ghost use Rattle.rules.specs.Pages.{clearPage};
 ghost use Rattle.motion.specs.Whole.{undoValue, undoPage, undoChain, undoHeaders, relinkAll};
+use conversions::address_behind;
 use conversions::address_page;
 use conversions::link_page;
+use conversions::next_region;
 use conversions::page_address;
 use conversions::pointer_address;
+use conversions::region_numbered;
 use leaves::first_of;
 use leaves::word;
 use leaves::write;
@@ -18,22 +21,20 @@ use pages::clear_page;
 use pages::page_words;
 use rules::Address;
 use rules::Page;
-use rules::Region;
 
 // A forward at x becomes the header that the copy has kept. The next value's address.
 fn undo_value(heap: &mut [u32], x: Address) -> Address
     requires { ⌜ x .0 ≤ 4294967296 ⌝ }
     ensures { λ r. ⌜ after (r .0) (now (heap .exit)) ≡ undoValue (x .0) (now (heap .entry)) ⌝ }
 {
-    let at = x.0;
-    let w = word(heap, at);
+    let w = word(heap, x.0);
     if w % 2 == 1 {
-        return Address(at + (w / 8 + 1));
+        return address_behind(x, w / 8 + 1);
     }
     let copy = pointer_address(w as u32);
     let head = word(heap, copy.0);
-    write(heap, at, head);
-    Address(at + (head / 8 + 1))
+    write(heap, x.0, head);
+    address_behind(x, head / 8 + 1)
 }
 
 // The headers of page k.
@@ -43,11 +44,11 @@ fn undo_page(heap: &mut [u32], k: Page, n: u32)
 {
     let start = page_address(k, n);
     let p = page_words(n);
-    let e = start.0 + p;
-    let mut x = Address(start.0 + 2);
+    let e = address_behind(start, p);
+    let mut x = address_behind(start, 2);
     let mut left = p;
     while 0 < left {
-        if e <= x.0 {
+        if e.0 <= x.0 {
             return;
         }
         let w = word(heap, x.0);
@@ -86,12 +87,12 @@ pub fn undo_headers(heap: &mut [u32], table: &[u32], regions: u32, pages: usize,
     requires { ⌜ (4 ≤ n) × (n ≤ 8) × (pages ≤ 65536) ⌝ }
     ensures { λ _. ⌜ now (heap .exit) ≡ undoHeaders n pages regions (now (table .entry)) (now (heap .entry)) ⌝ }
 {
-    let mut j: usize = 0;
+    let mut j = region_numbered(0);
     let mut left = regions as usize;
     while 0 < left {
-        let fp = first_of(table, Region(j));
+        let fp = first_of(table, j);
         undo_chain(heap, address_page(fp, n), pages, n);
-        j += 1;
+        j = next_region(j);
         left -= 1;
     }
 }

@@ -26,8 +26,11 @@ module _ (h : List ℕ) (a e u w : ℕ) (i : u + usedOf (valsIn h a e) ≡ w) wh
     pub used-stop : fits (getD h a 0) (e - (a + 1)) ≡ false → u ≡ w
     used-stop f = used-over (vals-stop h a e b c f)
 
-    pub used-step : fits (getD h a 0) (e - (a + 1)) ≡ true → u + 1 + getD h a 0 / 8 + usedOf (valsIn h (a + 1 + getD h a 0 / 8) e) ≡ w
-    used-step f = omega (arith, end-step h a e b c f)
+    -- over code that has the next value's address as d and has counted v words then
+    pub used-step : fits (getD h a 0) (e - (a + 1)) ≡ true → (d v : ℕ) → d ≡ a + (1 + getD h a 0 / 8) → v ≡ u + 1 + getD h a 0 / 8 → v + usedOf (valsIn h d e) ≡ w
+    used-step f d v q r =
+        let s : d ≡ a + 1 + getD h a 0 / 8 = omega arith in
+        rw s (omega (arith, end-step h a e b c f))
 
 -- u words are counted, and those of the pages from the link k on are left, with fuel f
 module _ (n N : ℕ) (h : List ℕ) (e : N ≡ length h / 2 ^ n) (f k u w : ℕ) (i : u + usedOn n h (chain f n h k) ≡ w) where

@@ -1,5 +1,6 @@
 // The used words of a region: what its values take, headers included, on a heap that passes the audit.
 use audit::audit;
+use conversions::address_behind;
 use conversions::link_page;
 use conversions::page_address;
 use pages::body_address;
@@ -27,17 +28,17 @@ fn values_used(words: &[u32], start: Address, end: Address) -> usize
     requires { ⌜ (start .0 ≤ end .0) × (end .0 ≤ length (now words)) × (length (now words) ≤ 65536) ⌝ }
     ensures { λ r. ⌜ (r ≡ usedOf (valsIn (now (words .entry)) (start .0) (end .0))) × (start .0 + r ≤ end .0) ⌝ }
 {
-    let stop = end.0;
-    let mut at = start.0;
+    let mut at = start;
     let mut used = 0;
-    while at < stop {
-        let head = words[at];
-        if !fits(head, stop - (at + 1)) {
+    while at.0 < end.0 {
+        let i = at.0;
+        let head = words[i];
+        if !fits(head, end.0 - (at.0 + 1)) {
             return used;
         }
         let fields = (head / 8) as usize;
         used = used + 1 + fields;
-        at = at + 1 + fields;
+        at = address_behind(at, 1 + fields);
     }
     used
 }
@@ -61,8 +62,9 @@ fn region_used(heap: &[u32], table: &[u32], n: u32, j: Region) -> u32
         let page = link_page(link);
         let words = values_used(heap, body_address(page, n), page_end(page, n));
         used += words as u32;
-        let base = page_address(page, n).0;
-        link = heap[base];
+        let base = page_address(page, n);
+        let i = base.0;
+        link = heap[i];
         left -= 1;
     }
     used

@@ -2,11 +2,13 @@
 ghost use mathlib.Core.Path.{_≡_};
 ghost use mathlib.Core.Bool.{true};
 ghost use mathlib.Core.List.{[]};
-ghost use Prim.Native.Nat.{_+_, _-_, _≤_, _<_};
+ghost use Prim.Native.Nat.{_+_, _-_, _/_, _≤_, _<_};
 ghost use lib.ListN.{length};
 ghost use Rattle.laws.specs.Lists.{at};
 ghost use Rattle.rules.specs.Refusals.{Paged};
 ghost use Rattle.rules.specs.Words.{fits as fitsIn, isRecord, valsIn, standsAt, goodHeap, goodConst, goodIn, valueAt, look as lookOf};
+use conversions::address_behind;
+use conversions::address_numbered;
 use conversions::address_page;
 use conversions::page_address;
 use conversions::pointer_address;
@@ -39,18 +41,17 @@ fn stands(words: &[u32], start: Address, end: Address, a: Address) -> bool
     requires { ⌜ (end .0 ≤ length (now words)) × (length (now words) ≤ 65536) ⌝ }
     ensures { λ r. ⌜ r ≡ standsAt (a .0) (valsIn (now (words .entry)) (start .0) (end .0)) ⌝ }
 {
-    let goal = a.0;
-    let stop = end.0;
-    let mut at = start.0;
-    while at < stop {
-        let h = words[at];
-        if !fits(h, stop - (at + 1)) {
+    let mut at = start;
+    while at.0 < end.0 {
+        let i = at.0;
+        let h = words[i];
+        if !fits(h, end.0 - (i + 1)) {
             return false;
         }
-        if goal == at {
+        if a.0 == at.0 {
             return true;
         }
-        at = at + 1 + (h / 8) as usize;
+        at = address_behind(at, 1 + (h / 8) as usize);
     }
     false
 }
@@ -65,8 +66,7 @@ pub fn good_heap(heap: &[u32], n: u32, regions: u32, a: Address) -> bool
     }
     let page = address_page(a, n);
     let base = page_address(page, n);
-    let at = base.0;
-    let origin = heap[at + 1];
+    let origin = heap[base.0 + 1];
     if origin < 1 {
         return false;
     }
@@ -83,7 +83,12 @@ pub fn good_const(consts: &[u32], a: Address) -> bool
     requires { ⌜ length (now consts) ≤ 65535 ⌝ }
     ensures { λ r. ⌜ r ≡ goodConst (now (consts .entry)) (a .0) ⌝ }
 {
-    stands(consts, Address(0), Address(consts.len()), a)
+    stands(
+        consts,
+        address_numbered(0),
+        address_numbered(consts.len()),
+        a,
+    )
 }
 
 // Whether a word is a number or a good pointer.
@@ -107,14 +112,22 @@ pub fn nothing<'a>(memory: &'a [u32]) -> &'a [u32]
     &memory[0..0]
 }
 
+// The end of the value at `from` that has the header h.
+fn value_end(from: usize, h: u32) -> usize
+    requires { ⌜ from < 9223372036854775808 ⌝ }
+    ensures { λ r. ⌜ r ≡ from + 1 + h / 8 ⌝ }
+{
+    from + 1 + (h / 8) as usize
+}
+
 // The value at address a, which fits: its header and words.
 fn value_at<'a>(memory: &'a [u32], a: Address) -> &'a [u32]
     requires { ⌜ (a .0 < length (now memory)) × (fitsIn (at (now memory) (a .0)) (length (now memory) - (a .0 + 1)) ≡ true) ⌝ }
     ensures { λ r. ⌜ now r ≡ valueAt (now (memory .entry)) (a .0) ⌝ }
 {
-    let start = a.0;
-    let end = start + 1 + (memory[start] / 8) as usize;
-    &memory[start..end]
+    let from = a.0;
+    let to = value_end(from, memory[from]);
+    &memory[from..to]
 }
 
 // The value that a word points to, in the heap or in the constants; no words where it is no good pointer.

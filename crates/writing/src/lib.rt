@@ -1,16 +1,15 @@
 // The text of an image, written: digits, words, frames, and the frames of a store. Each part is told where it begins; its length is
 // counted beforehand by the functions at the end, so that nothing is written where the text does not fit.
-use conversions::page_address;
+use conversions::next_page;
+use conversions::page_numbered;
 use pages::page_count;
-use pages::page_words;
+use pages::page_part;
 use rules::Control;
-use rules::Page;
 ghost use mathlib.Core.Path.{_≡_};
 ghost use Prim.Native.Nat.{_+_, _-_, _*_, _/_, _^_, _≤_, _<_};
 ghost use lib.ListN.{length};
 ghost use lib.Seq.{sets};
-ghost use Rattle.laws.specs.Lists.{zeros};
-ghost use Rattle.rules.specs.Memory.{lent, pageWords};
+ghost use Rattle.rules.specs.Memory.{lent};
 ghost use Rattle.rules.specs.Refusals.{Paged, Admitted};
 ghost use Rattle.rules.specs.Image.{digitOf, hex, hexWords, frame, trim, pageFrames, imageText};
 
@@ -93,17 +92,6 @@ fn write_part(bytes: &mut [u8], at: usize, kind: u32, part: &[u32]) -> usize
     at + 7 + 8 * m
 }
 
-// The words of page k.
-fn page_part<'a>(heap: &'a [u32], n: u32, k: Page) -> &'a [u32]
-    requires { ⌜ Paged n (length (now heap)) × (k .0 < length (now heap) / 2 ^ n) ⌝ }
-    ensures { λ r. ⌜ (now r ≡ pageWords n (now (heap .entry)) (k .0)) × (length (now r) ≤ 256) ⌝ }
-{
-    let start = page_address(k, n);
-    let a = start.0;
-    let e = a + page_words(n);
-    &heap[a..e]
-}
-
 // The frames of all pages.
 fn write_pages(bytes: &mut [u8], at: usize, heap: &[u32], n: u32, pages: usize)
     requires { ⌜
@@ -114,11 +102,11 @@ fn write_pages(bytes: &mut [u8], at: usize, heap: &[u32], n: u32, pages: usize)
     ensures { λ _. ⌜ now (bytes .exit) ≡ sets (now (bytes .entry)) at (pageFrames n (now (heap .entry)) pages 0) ⌝ }
 {
     let mut i = at;
-    let mut k = 0;
+    let mut k = page_numbered(0);
     let mut left = pages;
     while 0 < left {
-        i = write_part(bytes, i, 5, page_part(heap, n, Page(k)));
-        k += 1;
+        i = write_part(bytes, i, 5, page_part(heap, n, k));
+        k = next_page(k);
         left -= 1;
     }
 }
@@ -176,11 +164,11 @@ fn pages_length(heap: &[u32], n: u32, pages: usize) -> usize
     ensures { λ r. ⌜ (r ≡ length (pageFrames n (now (heap .entry)) pages 0)) × (r ≤ 2055 * pages) ⌝ }
 {
     let mut total = 0;
-    let mut k = 0;
+    let mut k = page_numbered(0);
     let mut left = pages;
     while 0 < left {
-        total += part_length(page_part(heap, n, Page(k)));
-        k += 1;
+        total += part_length(page_part(heap, n, k));
+        k = next_page(k);
         left -= 1;
     }
     total
@@ -202,18 +190,4 @@ pub fn text_length(heap: &[u32], table: &[u32], roots: &[u32], consts: &[u32], c
         + part_length(roots)
         + part_length(consts)
         + pages_length(heap, n, pages)
-}
-
-// Whether all words are 0.
-pub fn all_zero(words: &[u32]) -> bool
-    ensures { λ r. ⌜ r ≡ zeros (now (words .entry)) ⌝ }
-{
-    let mut i = 0;
-    while i < words.len() {
-        if words[i] != 0 {
-            return false;
-        }
-        i += 1;
-    }
-    true
 }

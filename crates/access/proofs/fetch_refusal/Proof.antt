@@ -1,4 +1,5 @@
 -- `access::fetch_refusal` meets its contract: a value that is there has at least its header, so the part is empty only where there is none.
+use native.Mathlib.Omega.{arith}
 use borrow.Author.Needs.{needs}
 use Rattle.rules.specs.declared.Plain.{Plain}
 use Rattle.rules.specs.Calls.{fetchRefusal}
@@ -25,11 +26,11 @@ look-requires c κs = let a = tests-admit _ _ _ _ _ (c .before .before .first-te
 
 returns-2 : tie.Need-returns-2
 unfolding fetchRefusal
-returns-2 c = let f = tests-pass _ _ _ _ _ (c .before .before .before .before .first-tests .ensures) (c .before .before .enum-told .given .1) in rw (f .0, f .1, ← (c .before .look .ensures), there-none _ (c .if1 .taken))
+returns-2 c = let f = tests-pass _ _ _ _ _ (c .before .before .before .before .first-tests .ensures) (c .before .before .enum-told .given .1) in search (f .0, f .1, ← (c .before .look .ensures), there-none (c .before .look .result .now) (omega (arith, c .if1 .taken)))
 
 returns-3 : tie.Need-returns-3
 unfolding fetchRefusal
-returns-3 c = let f = tests-pass _ _ _ _ _ (c .before .before .before .before .first-tests .ensures) (c .before .before .enum-told .given .1) in rw (f .0, f .1, ← (c .before .look .ensures), there-some _ (c .if1 .left))
+returns-3 c = let f = tests-pass _ _ _ _ _ (c .before .before .before .before .first-tests .ensures) (c .before .before .enum-told .given .1) in search (f .0, f .1, ← (c .before .look .ensures), there-some (c .before .look .result .now) (λ z. omega (arith, c .if1 .left)))
 
 pub fetch-refusal-spec : {M : Type 1} → statement M
 fetch-refusal-spec =

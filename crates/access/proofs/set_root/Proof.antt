@@ -30,7 +30,7 @@ good-word-requires c κs = let a = tests-admit _ _ _ _ _ (c .before .before .bef
 
 returns-3 : tie.Need-returns-3
 unfolding setRoot
-returns-3 c = let f = tests-pass _ _ _ _ _ (c .before .before .before .before .before .first-tests .ensures) (c .before .before .before .enum-told .given .1) in rw (f .0, f .1, lt-leb _ _ (c .before .before .if1 .left), ← (c .before .good-word .ensures), c .if2 .taken)
+returns-3 c = let f = tests-pass _ _ _ _ _ (c .before .before .before .before .before .first-tests .ensures) (c .before .before .before .enum-told .given .1) in search (f .0, f .1, lt-leb _ _ (c .before .before .if1 .left), ← (c .before .good-word .ensures), c .if2 .taken)
 
 mul-roots : tie.Need-mul-roots
 mul-roots c = search needs

@@ -1,11 +1,10 @@
 -- `allocation::allocate` meets its contract: after the tests in their order all that placing the value asks for is known.
 use borrow.Author.Needs.{needs}
-use Prim.Native.Nat.{_+_, _-_, _^_, _<_, _≤_}
+use Prim.Native.Nat.{_+_, _^_, _<_, _≤_}
 use mathlib.Core.Path.{sym, _∙_}
 use native.Mathlib.Omega.{arith}
-use borrow.Author.Tests.{not-false, lt-leb, lt-ltb, le-ltb}
+use borrow.Author.Tests.{not-false, le-leb, lt-leb, lt-ltb, le-ltb}
 use lib.ListN.{length}
-use Rattle.laws.proofs.Tests.{tests}
 use Rattle.rules.specs.Memory.{lent}
 use Rattle.rules.specs.Refusals.{Admitted, refusedValue}
 use Rattle.rules.specs.Calls.{allocate}
@@ -33,13 +32,16 @@ cast-if1 c = search needs
 
 returns-2 : tie.Need-returns-2
 unfolding allocate
-returns-2 c = let f = tests-pass _ _ _ _ _ (c .before .before .before .before .before .first-tests .ensures) (c .before .before .before .enum-told .given .1) in search (f .0, f .1, tests)
+returns-2 c = let f = tests-pass _ _ _ _ _ (c .before .before .before .before .before .first-tests .ensures) (c .before .before .before .enum-told .given .1) in rw (f .0, f .1, le-leb (c .before .before .before .before .before .before .before .before .before .before .before .args .c .regions) (c .before .before .before .before .before .before .before .before .before .before .before .args .j .0) (omega (arith, c .if1 .taken)))
 
 known : (c : tie.After-enum-told) → Admitted (length (c .before .before .before .before .before .before .before .before .args .heap .now)) (length (c .before .before .before .before .before .before .before .before .args .table .now)) (length (c .before .before .before .before .before .before .before .before .args .roots .now)) (length (c .before .before .before .before .before .before .before .before .args .consts .now)) (c .before .before .before .before .before .before .before .before .args .c)
 known c = tests-admit _ _ _ _ _ (c .before .before .first-tests .ensures) (c .enum-told .given .1)
 
+below : (c : tie.Else1) → c .before .before .before .before .before .before .before .before .before .before .before .args .j .0 < c .before .before .before .before .before .before .before .before .before .before .before .args .c .regions
+below c = omega (arith, c .if1 .left)
+
 region : (c : tie.Else1) → c .before .before .before .before .before .before .before .before .before .before .before .args .j .0 < 64
-region c = omega (arith, known (c .before .before .before) .regions, c .if1 .left)
+region c = omega (arith, known (c .before .before .before) .regions, below c)
 
 row-fits-requires : tie.Need-row-fits-requires
 row-fits-requires c κs = let a = known (c .before .before .before .before .before) in (a .table, region (c .before .before), a .paged .low, a .paged .high)
@@ -52,7 +54,7 @@ same-length-2 c = search needs
 
 returns-3 : tie.Need-returns-3
 unfolding allocate
-returns-3 c = let f = tests-pass _ _ _ _ _ (c .before .before .before .before .before .before .before .before .before .first-tests .ensures) (c .before .before .before .before .before .before .before .enum-told .given .1) in rw (f .0, f .1, lt-leb _ _ (c .before .before .before .before .if1 .left), ← (c .before .row-fits .ensures), c .if2 .taken)
+returns-3 c = let f = tests-pass _ _ _ _ _ (c .before .before .before .before .before .before .before .before .before .first-tests .ensures) (c .before .before .before .before .before .before .before .enum-told .given .1) in rw (f .0, f .1, lt-leb _ _ (below (c .before .before .before .before)), ← (c .before .row-fits .ensures), c .if2 .taken)
 
 page-words-requires : tie.Need-page-words-requires
 page-words-requires c κs = let a = known (c .before .before .before .before .before .before .before) in (a .paged .low, a .paged .high)
@@ -70,7 +72,7 @@ returns-4 : tie.Need-returns-4
 unfolding allocate
 returns-4 c =
     let f = tests-pass _ _ _ _ _ (c .before .before .before .before .before .before .before .before .before .before .before .first-tests .ensures) (c .before .before .before .before .before .before .before .before .before .enum-told .given .1) in
-    rw (f .0, f .1, lt-leb _ _ (c .before .before .before .before .before .before .if1 .left), ← (c .before .before .before .row-fits .ensures), c .before .before .if2 .left, lt-ltb (2 ^ c .before .before .before .before .before .before .before .before .before .before .before .before .before .before .before .before .before .args .c .n) (length (c .before .before .before .before .before .before .before .before .before .before .before .before .before .before .before .before .before .args .words .now) + 3) (omega (arith, c .before .page-words .ensures, c .if3 .taken)))
+    rw (f .0, f .1, lt-leb _ _ (below (c .before .before .before .before .before .before)), ← (c .before .before .before .row-fits .ensures), c .before .before .if2 .left, lt-ltb (2 ^ c .before .before .before .before .before .before .before .before .before .before .before .before .before .before .before .before .before .args .c .n) (length (c .before .before .before .before .before .before .before .before .before .before .before .before .before .before .before .before .before .args .words .now) + 3) (omega (arith, c .before .page-words .ensures, c .if3 .taken)))
 
 short : (c : tie.Else3) → length (c .before .before .before .before .before .before .before .before .before .before .before .before .before .before .before .before .before .args .words .now) + 3 ≤ 2 ^ c .before .before .before .before .before .before .before .before .before .before .before .before .before .before .before .before .before .args .c .n
 short c =
@@ -91,7 +93,7 @@ returns-5 : tie.Need-returns-5
 unfolding allocate
 returns-5 c =
     let f = tests-pass _ _ _ _ _ (c .before .before .before .before .before .before .before .before .before .before .before .before .before .before .first-tests .ensures) (c .before .before .before .before .before .before .before .before .before .before .before .before .enum-told .given .1) in
-    rw (f .0, f .1, lt-leb _ _ (c .before .before .before .before .before .before .before .before .before .if1 .left), ← (c .before .before .before .before .before .before .row-fits .ensures), c .before .before .before .before .before .if2 .left, le-ltb (2 ^ c .before .before .before .before .before .before .before .before .before .before .before .before .before .before .before .before .before .before .before .before .args .c .n) (length (c .before .before .before .before .before .before .before .before .before .before .before .before .before .before .before .before .before .before .before .before .args .words .now) + 3) (short (c .before .before .before)), ← (c .before .words-fit .ensures _ _), c .if4 .taken)
+    rw (f .0, f .1, lt-leb _ _ (below (c .before .before .before .before .before .before .before .before .before)), ← (c .before .before .before .before .before .before .row-fits .ensures), c .before .before .before .before .before .if2 .left, le-ltb (2 ^ c .before .before .before .before .before .before .before .before .before .before .before .before .before .before .before .before .before .before .before .before .args .c .n) (length (c .before .before .before .before .before .before .before .before .before .before .before .before .before .before .before .before .before .before .before .before .args .words .now) + 3) (short (c .before .before .before)), ← (c .before .words-fit .ensures _ _), c .if4 .taken)
 
 header-for-requires : tie.Need-header-for-requires
 header-for-requires c κs = let a = known (c .before .before .before .before .before .before .before .before .before .before .before .before .before .before) in let s = page-size _ (a .paged .low) (a .paged .high) in omega (arith, short (c .before .before .before .before .before))
@@ -109,7 +111,7 @@ returns-6 : tie.Need-returns-6
 unfolding allocate
 returns-6 c =
     let f = tests-pass _ _ _ _ _ (c .before .before .before .before .before .before .before .before .before .before .before .before .before .before .before .before .before .before .before .before .before .before .first-tests .ensures) (c .before .before .before .before .before .before .before .before .before .before .before .before .before .before .before .before .before .before .before .before .enum-told .given .1) in
-    rw (f .0, f .1, lt-leb _ _ (c .before .before .before .before .before .before .before .before .before .before .before .before .before .before .before .before .before .if1 .left), ← (c .before .before .before .before .before .before .before .before .before .before .before .before .before .before .row-fits .ensures), c .before .before .before .before .before .before .before .before .before .before .before .before .before .if2 .left, le-ltb (2 ^ c .before .before .before .before .before .before .before .before .before .before .before .before .before .before .before .before .before .before .before .before .before .before .before .before .before .before .before .before .args .c .n) (length (c .before .before .before .before .before .before .before .before .before .before .before .before .before .before .before .before .before .before .before .before .before .before .before .before .before .before .before .before .args .words .now) + 3) (short (c .before .before .before .before .before .before .before .before .before .before .before)), ← (c .before .before .before .before .before .before .before .before .before .words-fit .ensures _ _), c .before .before .before .before .before .before .before .before .if4 .left, ← (c .before .before .before .before .before .header-for .ensures)) (c .before .before .before .before .put-value .ensures _ _)
+    rw (f .0, f .1, lt-leb _ _ (below (c .before .before .before .before .before .before .before .before .before .before .before .before .before .before .before .before .before)), ← (c .before .before .before .before .before .before .before .before .before .before .before .before .before .before .row-fits .ensures), c .before .before .before .before .before .before .before .before .before .before .before .before .before .if2 .left, le-ltb (2 ^ c .before .before .before .before .before .before .before .before .before .before .before .before .before .before .before .before .before .before .before .before .before .before .before .before .before .before .before .before .args .c .n) (length (c .before .before .before .before .before .before .before .before .before .before .before .before .before .before .before .before .before .before .before .before .before .before .before .before .before .before .before .before .args .words .now) + 3) (short (c .before .before .before .before .before .before .before .before .before .before .before)), ← (c .before .before .before .before .before .before .before .before .before .words-fit .ensures _ _), c .before .before .before .before .before .before .before .before .if4 .left, ← (c .before .before .before .before .before .header-for .ensures)) (c .before .before .before .before .put-value .ensures _ _)
 
 pub allocate-spec : {M : Type 1} → statement M
 allocate-spec =

@@ -55,7 +55,7 @@ same-length-3 : tie.Need-same-length-3
 same-length-3 c = search needs
 
 returns-6 : tie.Need-returns-6
-returns-6 c t u = to-no-field _ t u _ _ _ _ _ _ (c .before .before .before .before .before .before .before .before .pointer-address .ensures) (c .before .before .before .before .before .before .before .before .before .if1 .left) (c .before .before .before .before .before .before .before .if2 .left) (c .before .before .before .before .before .good-heap .ensures) (c .before .before .before .before .if4 .left) (c .before .before .is-record .ensures) (c .before .if5 .left) (c .if6 .taken)
+returns-6 c t u = to-no-field _ t u _ _ _ _ _ _ (c .before .before .before .before .before .before .before .before .pointer-address .ensures) (c .before .before .before .before .before .before .before .before .before .if1 .left) (c .before .before .before .before .before .before .before .if2 .left) (c .before .before .before .before .before .good-heap .ensures) (c .before .before .before .before .if4 .left) (c .before .before .is-record .ensures) (c .before .if5 .left) (omega (arith, c .if6 .taken))
 
 good-word-requires : tie.Need-good-word-requires
 good-word-requires c κs = search needs
@@ -64,7 +64,7 @@ same-length-4 : tie.Need-same-length-4
 same-length-4 c = search needs
 
 returns-7 : tie.Need-returns-7
-returns-7 c t u = no-word _ t u _ _ _ _ _ _ (c .before .before .before .before .before .before .before .before .before .before .before .pointer-address .ensures) (c .before .before .before .before .before .before .before .before .before .before .before .before .if1 .left) (c .before .before .before .before .before .before .before .before .before .before .if2 .left) (c .before .before .before .before .before .before .before .before .good-heap .ensures) (c .before .before .before .before .before .before .before .if4 .left) (c .before .before .before .before .before .is-record .ensures) (c .before .before .before .before .if5 .left) (c .before .before .before .if6 .left) (c .before .good-word .ensures) (c .if7 .taken)
+returns-7 c t u = no-word _ t u _ _ _ _ _ _ (c .before .before .before .before .before .before .before .before .before .before .before .pointer-address .ensures) (c .before .before .before .before .before .before .before .before .before .before .before .before .if1 .left) (c .before .before .before .before .before .before .before .before .before .before .if2 .left) (c .before .before .before .before .before .before .before .before .good-heap .ensures) (c .before .before .before .before .before .before .before .if4 .left) (c .before .before .before .before .before .is-record .ensures) (c .before .before .before .before .if5 .left) (omega (arith, c .before .before .before .if6 .left)) (c .before .good-word .ensures) (c .if7 .taken)
 
 add-heap : tie.Need-add-heap
 add-heap c = let l = inside (c .before .before .before .before .before .before .before) in omega arith
@@ -82,7 +82,7 @@ same-length-5 : tie.Need-same-length-5
 same-length-5 c = search needs
 
 returns-8 : tie.Need-returns-8
-returns-8 c t u = assigned _ t u _ _ _ _ _ _ (c .before .before .before .before .before .before .before .before .before .before .before .pointer-address .ensures) (c .before .before .before .before .before .before .before .before .before .before .before .before .if1 .left) (c .before .before .before .before .before .before .before .before .before .before .if2 .left) (c .before .before .before .before .before .before .before .before .good-heap .ensures) (c .before .before .before .before .before .before .before .if4 .left) (c .before .before .before .before .before .is-record .ensures) (c .before .before .before .before .if5 .left) (c .before .before .before .if6 .left) (c .before .good-word .ensures) (c .if7 .left)
+returns-8 c t u = assigned _ t u _ _ _ _ _ _ (c .before .before .before .before .before .before .before .before .before .before .before .pointer-address .ensures) (c .before .before .before .before .before .before .before .before .before .before .before .before .if1 .left) (c .before .before .before .before .before .before .before .before .before .before .if2 .left) (c .before .before .before .before .before .before .before .before .good-heap .ensures) (c .before .before .before .before .before .before .before .if4 .left) (c .before .before .before .before .before .is-record .ensures) (c .before .before .before .before .if5 .left) (omega (arith, c .before .before .before .if6 .left)) (c .before .good-word .ensures) _ (omega arith) (c .if7 .left)
 
 pub assign-into-spec : {M : Type 1} → statement M
 assign-into-spec =

@@ -8,17 +8,21 @@ use Rattle.laws.specs.Each.{each}
 use Rattle.laws.proofs.Each.{each-more, each-over, each-end}
 use Rattle.motion.specs.Leaves.{desk}
 use Rattle.motion.specs.Whole.{fresh as freshDef}
+use borrow.Author.Needs.{needs}
 use Rattle.attempting.proofs.freshen.Statement.{statement}
 use Rattle.attempting.proofs.freshen.Tie as tie
 
 abbrev Inv-loop : tie.InvT-loop
-Inv-loop heap₀ notes₀ regions n j₀ left₀ heap notes j left = (each left (freshDef n) j (desk heap notes) ≡ each regions (freshDef n) 0 (desk heap₀ notes₀)) × (length heap ≡ length heap₀) × (length notes ≡ length notes₀) × (j + left ≡ regions)
+Inv-loop heap₀ notes₀ regions n j₀ left₀ heap notes j left = (each left (freshDef n) (j .0) (desk heap notes) ≡ each regions (freshDef n) 0 (desk heap₀ notes₀)) × (length heap ≡ length heap₀) × (length notes ≡ length notes₀) × (j .0 + left ≡ regions)
 
 abbrev μ-loop : tie.MeasureT-loop
 μ-loop heap₀ notes₀ regions n j₀ left₀ heap notes j left = left
 
+region-numbered-requires : tie.Need-region-numbered-requires Inv-loop μ-loop
+region-numbered-requires c κs = search needs
+
 loop-holds : tie.Need-loop-holds Inv-loop μ-loop
-loop-holds c = (refl, refl, refl, omega arith)
+loop-holds c = (rw (c .region-numbered .ensures), refl, refl, omega arith)
 
 fresh-requires : tie.Need-fresh-requires Inv-loop μ-loop
 fresh-requires c κs = omega arith
@@ -32,8 +36,8 @@ same-length-2 c = c .before .before .before .before .before .fresh .kept .1 .0 �
 returns : tie.Need-returns Inv-loop μ-loop
 returns c = sym (each-over _ _ _ _ _ _ (c .before .before .before .before .before .before .before .before .loop-test .taken) (not-true _ (c .if1 .taken)) (c .before .before .before .before .before .fresh .ensures)) ∙ c .before .before .before .before .before .before .before .before .before .loop .inv .0
 
-add-j : tie.Need-add-j Inv-loop μ-loop
-add-j c = omega arith
+next-region-requires : tie.Need-next-region-requires Inv-loop μ-loop
+next-region-requires c κs = omega arith
 
 sub-left : tie.Need-sub-left Inv-loop μ-loop
 sub-left c = omega arith
@@ -42,7 +46,7 @@ loop-less : tie.Need-loop-less Inv-loop μ-loop
 loop-less c = omega arith
 
 loop-again : tie.Need-loop-again Inv-loop μ-loop
-loop-again c = (sym (each-more _ _ _ _ _ _ (c .before .before .before .before .before .before .before .before .loop-test .taken) (not-false _ (c .if1 .left)) (c .before .before .before .before .before .fresh .ensures)) ∙ c .before .before .before .before .before .before .before .before .before .loop .inv .0, c .before .before .before .before .before .fresh .kept .0 ∙ c .before .before .before .before .before .before .before .before .before .loop .inv .1, c .before .before .before .before .before .fresh .kept .1 .0 ∙ c .before .before .before .before .before .before .before .before .before .loop .inv .2, omega arith)
+loop-again c = (rw (c .next-region .ensures) (sym (each-more _ _ _ _ _ _ (c .before .before .before .before .before .before .before .before .before .loop-test .taken) (not-false _ (c .before .if1 .left)) (c .before .before .before .before .before .before .fresh .ensures)) ∙ c .before .before .before .before .before .before .before .before .before .before .loop .inv .0), c .before .before .before .before .before .before .fresh .kept .0 ∙ c .before .before .before .before .before .before .before .before .before .before .loop .inv .1, c .before .before .before .before .before .before .fresh .kept .1 .0 ∙ c .before .before .before .before .before .before .before .before .before .before .loop .inv .2, omega arith)
 
 same-length-3 : tie.Need-same-length-3 Inv-loop μ-loop
 same-length-3 c = c .before .loop .inv .1
@@ -59,12 +63,13 @@ freshen-spec =
     (tie.spec
     Inv-loop
     μ-loop
+    region-numbered-requires
     loop-holds
     fresh-requires
     same-length
     same-length-2
     returns
-    add-j
+    next-region-requires
     sub-left
     loop-less
     loop-again

@@ -36,13 +36,13 @@ pages-holds : tie.Need-pages-holds Inv-pages μ-pages
 pages-holds c = (list-open _ _ _ (c .page-count .ensures) _, list-length _ _ _ (c .page-count .ensures) _, list-last _ _ _ (c .page-count .ensures) _)
 
 over : (c : tie.Left-pages Inv-pages μ-pages) → Over (c .before .before .before .before .args .n) (c .before .before .page-count .result) (c .before .before .before .before .args .heap .now) (c .before .before .page-count .ensures) (c .before .pages .left) (c .before .pages .link)
-over c = ⊎-elim (λ w. over-fuel _ _ _ _ _ _ (w .left)) (⊎-elim (λ w. over-none _ _ _ _ _ _ (w .1 .taken)) (λ w. over-bad _ _ _ _ _ _ (w .2 .taken))) (c .pages-test .came)
+over c = ⊎-elim (λ w. over-fuel _ _ _ _ _ _ (omega (arith, w .left))) (⊎-elim (λ w. over-none _ _ _ _ _ _ (omega (arith, w .1 .taken))) (λ w. over-bad _ _ _ _ _ _ (omega (arith, w .2 .taken)))) (c .pages-test .came)
 
 link-address-requires : tie.Need-link-address-requires Inv-pages μ-pages
 link-address-requires c κs = omega (arith, few ((c .before .before .before .before)))
 
 here : (c : tie.After-link-address Inv-pages μ-pages) → Inside (2 ^ c .before .before .before .before .before .before .before .args .n) (c .link-address .result .0) (length (c .before .before .before .before .before .before .before .args .heap .now))
-here c = page-here _ _ _ _ _ (c .before .before .before .before .before .before .before .pre) (c .before .before .before .before .before .page-count .ensures) (c .link-address .ensures) (c .before .before .if1 .left) (c .before .if2 .left)
+here c = page-here _ _ _ _ _ (c .before .before .before .before .before .before .before .pre) (c .before .before .before .before .before .page-count .ensures) (c .link-address .ensures) (λ z. omega arith) (omega arith)
 
 add-if3 : tie.Need-add-if3 Inv-pages μ-pages
 add-if3 c = omega (arith, here c)
@@ -54,7 +54,7 @@ shared-slice-read-if3 : tie.Need-shared-slice-read-if3 Inv-pages μ-pages
 shared-slice-read-if3 c = omega (arith, here ((c .before)))
 
 returns : tie.Need-returns Inv-pages μ-pages
-returns c = not-listed _ _ _ (sym (chained-other _ _ _ (c .before .before .before .before .before .before .before .page-count .ensures) _ _ _ _ _ (c .before .before .link-address .ensures) (c .before .before .before .before .before .pages-test .taken) (c .before .before .before .before .if1 .left) (c .before .before .before .if2 .left) (c .if3 .taken)) ∙ c .before .before .before .before .before .before .pages .inv .0)
+returns c = not-listed _ _ _ (sym (chained-other _ _ _ (c .before .before .before .before .before .before .before .page-count .ensures) _ _ _ _ _ (c .before .before .link-address .ensures) (omega arith) (λ z. omega arith) (omega arith) (λ z. omega arith)) ∙ c .before .before .before .before .before .before .pages .inv .0)
 
 add-passed : tie.Need-add-passed Inv-pages μ-pages
 add-passed c = omega (arith, free-short (c .before .before .before .before .before .before .before .before .before .args .n) (c .before .before .before .before .before .before .before .before .before .args .heap .now) (c .before .before .before .before .before .before .before .before .before .args .first) (c .before .before .before .before .before .before .before .before .before .pre))
@@ -72,13 +72,13 @@ pages-less : tie.Need-pages-less Inv-pages μ-pages
 pages-less c = omega arith
 
 pages-again : tie.Need-pages-again Inv-pages μ-pages
-pages-again c = (sym (chained-page _ _ _ (c .before .before .before .before .before .before .before .before .page-count .ensures) _ _ _ _ _ (c .before .before .before .link-address .ensures) (c .before .before .before .before .before .before .pages-test .taken) (c .before .before .before .before .before .if1 .left) (c .before .before .before .before .if2 .left) (c .before .if3 .left)) ∙ c .before .before .before .before .before .before .before .pages .inv .0, sum-step _ _ _ _ _ _ (c .before .before .before .before .before .before .before .pages .inv .1) (length-page _ _ _ (c .before .before .before .before .before .before .before .before .page-count .ensures) _ _ 0 true _ (c .before .before .before .link-address .ensures) (c .before .before .before .before .before .before .pages-test .taken) (c .before .before .before .before .before .if1 .left) (c .before .before .before .before .if2 .left)), sym (last-page _ _ _ (c .before .before .before .before .before .before .before .before .page-count .ensures) _ _ _ _ (c .before .before .before .link-address .ensures) (c .before .before .before .before .before .before .pages-test .taken) (c .before .before .before .before .before .if1 .left) (c .before .before .before .before .if2 .left)) ∙ c .before .before .before .before .before .before .before .pages .inv .2)
+pages-again c = (sym (chained-page _ _ _ (c .before .before .before .before .before .before .before .before .page-count .ensures) _ _ _ _ _ (c .before .before .before .link-address .ensures) (omega arith) (λ z. omega arith) (omega arith) (omega arith)) ∙ c .before .before .before .before .before .before .before .pages .inv .0, sum-step _ _ _ _ _ _ (c .before .before .before .before .before .before .before .pages .inv .1) (length-page _ _ _ (c .before .before .before .before .before .before .before .before .page-count .ensures) _ _ 0 true _ (c .before .before .before .link-address .ensures) (omega arith) (λ z. omega arith) (omega arith)), sym (last-page _ _ _ (c .before .before .before .before .before .before .before .before .page-count .ensures) _ _ _ _ (c .before .before .before .link-address .ensures) (omega arith) (λ z. omega arith) (omega arith)) ∙ c .before .before .before .before .before .before .before .pages .inv .2)
 
 returns-2 : tie.Need-returns-2 Inv-pages μ-pages
-returns-2 c = not-listed _ _ _ (sym (chained-hangs _ _ _ (c .before .before .before .page-count .ensures) _ _ _ _ (over ((c .before))) (c .if4 .taken)) ∙ c .before .before .pages .inv .0)
+returns-2 c = not-listed _ _ _ (sym (chained-hangs _ _ _ (c .before .before .before .page-count .ensures) _ _ _ _ (over ((c .before))) (λ z. omega arith)) ∙ c .before .before .pages .inv .0)
 
 returns-3 : tie.Need-returns-3 Inv-pages μ-pages
-returns-3 c = all-listed _ _ _ _ _ (sym (chained-ends _ _ _ (c .before .before .before .page-count .ensures) _ _ _ _ (over ((c .before))) (c .if4 .left)) ∙ c .before .before .pages .inv .0) (sum-done _ _ _ (sum-skip _ _ _ _ (c .before .before .pages .inv .1) (length-over _ _ _ (c .before .before .before .page-count .ensures) _ _ 0 true (over ((c .before))))) refl) (sym (last-over _ _ _ (c .before .before .before .page-count .ensures) _ _ _ (over ((c .before)))) ∙ c .before .before .pages .inv .2)
+returns-3 c = all-listed _ _ _ _ _ (sym (chained-ends _ _ _ (c .before .before .before .page-count .ensures) _ _ _ _ (over ((c .before))) (omega arith)) ∙ c .before .before .pages .inv .0) (sum-done _ _ _ (sum-skip _ _ _ _ (c .before .before .pages .inv .1) (length-over _ _ _ (c .before .before .before .page-count .ensures) _ _ 0 true (over ((c .before))))) refl) (sym (last-over _ _ _ (c .before .before .before .page-count .ensures) _ _ _ (over ((c .before)))) ∙ c .before .before .pages .inv .2)
 
 pub free-listed-spec : {M : Type 1} → statement M
 free-listed-spec =

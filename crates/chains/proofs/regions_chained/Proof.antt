@@ -1,6 +1,6 @@
 -- `chains::regions_chained` meets its contract. At each level what is left to test, with what the outer level has left, is the whole test, and
 -- the pages passed with those that are left are all pages.
-use mathlib.Core.Path.{_≡_, refl, sym, _∙_}
+use mathlib.Core.Path.{_≡_, sym, _∙_}
 use mathlib.Core.Bool.{true, _&&_}
 use mathlib.Core.Logic.{⊎-elim}
 use Prim.Native.Nat.{suc, _+_, _-_, _^_, _≤_}
@@ -9,7 +9,7 @@ use borrow.Author.Tests.{not-true, not-false}
 use lib.Dec.{eqb}
 use lib.ListN.{length}
 use Rattle.laws.specs.Lists.{allFrom}
-use Rattle.laws.proofs.Tests.{from-end, not-that}
+use Rattle.laws.proofs.Tests.{from-end}
 use Rattle.laws.proofs.Tallies.{sum-done, sum-skip, sum-step, sum-open}
 use Rattle.rules.specs.Memory.{chain, chainEnd, pagesFrom}
 use Rattle.rules.proofs.Limits.{Inside, page-here, pages-few}
@@ -40,14 +40,18 @@ few c = pages-few _ _ _ (c .before .before .before .pre .0) (c .page-count .ensu
 cast-pages : tie.Need-cast-pages Inv-pages μ-pages Inv-regions μ-regions
 cast-pages c = omega (arith, few c)
 
+region-numbered-requires :
+    tie.Need-region-numbered-requires Inv-pages μ-pages Inv-regions μ-regions
+region-numbered-requires c κs = omega arith
+
 regions-holds : tie.Need-regions-holds Inv-pages μ-pages Inv-regions μ-regions
-regions-holds c = (refl, omega arith, omega arith)
+regions-holds c = (rw (c .region-numbered .ensures), omega arith, rw (c .region-numbered .ensures) (omega arith))
 
 returns : tie.Need-returns Inv-pages μ-pages Inv-regions μ-regions
 returns c = all-chained _ _ _ _ _ (sym (from-end _ _ _ (omega arith)) ∙ c .before .regions .inv .0) (sum-done _ _ _ (c .before .regions .inv .2) (length-none _ _ _ _ _ (omega arith)))
 
 opens-requires : tie.Need-opens-requires Inv-pages μ-pages Inv-regions μ-regions
-opens-requires c κs = (c .before .before .before .before .before .pre .0, c .before .before .before .before .before .pre .1, omega arith)
+opens-requires c κs = (c .before .before .before .before .before .before .pre .0, c .before .before .before .before .before .before .pre .1, omega arith)
 
 region-origin-requires : tie.Need-region-origin-requires Inv-pages μ-pages Inv-regions μ-regions
 region-origin-requires c κs = omega arith
@@ -56,16 +60,16 @@ first-link-requires : tie.Need-first-link-requires Inv-pages μ-pages Inv-region
 first-link-requires c κs = omega arith
 
 pages-holds : tie.Need-pages-holds Inv-pages μ-pages Inv-regions μ-regions
-pages-holds c = (sym (chained-open _ _ _ _ (c .before .before .before .before .before .before .page-count .ensures) _ _ (omega arith) _ (sym (c .before .before .before .opens .ensures) ∙ not-false _ (c .before .before .if2 .left)) (c .first-link .ensures)) ∙ c .before .before .before .before .before .regions .inv .0, sum-open _ _ _ _ _ (c .before .before .before .before .before .regions .inv .2) (length-open _ _ _ _ (c .before .before .before .before .before .before .page-count .ensures) _ _ (omega arith) _ (c .first-link .ensures)))
+pages-holds c = (sym (chained-open _ _ _ _ (c .before .before .before .before .before .before .before .page-count .ensures) _ _ (omega arith) _ (sym (c .before .before .before .opens .ensures) ∙ not-false _ (c .before .before .if2 .left)) (c .first-link .ensures)) ∙ c .before .before .before .before .before .regions .inv .0, sum-open _ _ _ _ _ (c .before .before .before .before .before .regions .inv .2) (length-open _ _ _ _ (c .before .before .before .before .before .before .before .page-count .ensures) _ _ (omega arith) _ (c .first-link .ensures)))
 
-over : (c : tie.Left-pages Inv-pages μ-pages Inv-regions μ-regions) → Over (c .before .before .before .before .before .before .before .before .before .before .before .args .n) (c .before .before .before .before .before .before .before .before .page-count .result) (c .before .before .before .before .before .before .before .before .before .before .before .args .heap .now) (c .before .before .before .before .before .before .before .before .page-count .ensures) (c .before .pages .left) (c .before .pages .link)
-over c = ⊎-elim (λ w. over-fuel _ _ _ _ _ _ (w .left)) (⊎-elim (λ w. over-none _ _ _ _ _ _ (w .1 .taken)) (λ w. over-bad _ _ _ _ _ _ (w .2 .taken))) (c .pages-test .came)
+over : (c : tie.Left-pages Inv-pages μ-pages Inv-regions μ-regions) → Over (c .before .before .before .before .before .before .before .before .before .before .before .before .args .n) (c .before .before .before .before .before .before .before .before .before .page-count .result) (c .before .before .before .before .before .before .before .before .before .before .before .before .args .heap .now) (c .before .before .before .before .before .before .before .before .before .page-count .ensures) (c .before .pages .left) (c .before .pages .link)
+over c = ⊎-elim (λ w. over-fuel _ _ _ _ _ _ (omega (arith, w .left))) (⊎-elim (λ w. over-none _ _ _ _ _ _ (omega (arith, w .1 .taken))) (λ w. over-bad _ _ _ _ _ _ (omega (arith, w .2 .taken)))) (c .pages-test .came)
 
 link-address-requires : tie.Need-link-address-requires Inv-pages μ-pages Inv-regions μ-regions
-link-address-requires c κs = omega (arith, few ((c .before .before .before .before .before .before .before .before .before .before)))
+link-address-requires c κs = omega (arith, few ((c .before .before .before .before .before .before .before .before .before .before .before)))
 
-here : (c : tie.After-link-address Inv-pages μ-pages Inv-regions μ-regions) → Inside (2 ^ c .before .before .before .before .before .before .before .before .before .before .before .before .before .before .args .n) (c .link-address .result .0) (length (c .before .before .before .before .before .before .before .before .before .before .before .before .before .before .args .heap .now))
-here c = page-here _ _ _ _ _ (c .before .before .before .before .before .before .before .before .before .before .before .before .before .before .pre .0) (c .before .before .before .before .before .before .before .before .before .before .before .page-count .ensures) (c .link-address .ensures) (c .before .before .if3 .left) (c .before .if4 .left)
+here : (c : tie.After-link-address Inv-pages μ-pages Inv-regions μ-regions) → Inside (2 ^ c .before .before .before .before .before .before .before .before .before .before .before .before .before .before .before .args .n) (c .link-address .result .0) (length (c .before .before .before .before .before .before .before .before .before .before .before .before .before .before .before .args .heap .now))
+here c = page-here _ _ _ _ _ (c .before .before .before .before .before .before .before .before .before .before .before .before .before .before .before .pre .0) (c .before .before .before .before .before .before .before .before .before .before .before .before .page-count .ensures) (c .link-address .ensures) (λ z. omega arith) (omega arith)
 
 add-if5 : tie.Need-add-if5 Inv-pages μ-pages Inv-regions μ-regions
 add-if5 c = omega (arith, here c)
@@ -77,7 +81,7 @@ shared-slice-read-if5 : tie.Need-shared-slice-read-if5 Inv-pages μ-pages Inv-re
 shared-slice-read-if5 c = omega (arith, here ((c .before)))
 
 add-passed : tie.Need-add-passed Inv-pages μ-pages Inv-regions μ-regions
-add-passed c = omega (arith, pages-short (c .before .before .before .before .before .before .before .before .before .before .before .before .before .before .before .before .args .n) (c .before .before .before .before .before .before .before .before .before .before .before .before .before .before .before .before .args .heap .now) (c .before .before .before .before .before .before .before .before .before .before .before .before .before .before .before .before .args .table .now) (c .before .before .before .before .before .before .before .before .before .before .before .before .before .before .before .before .args .regions) 0 (c .before .before .before .before .before .before .before .before .before .before .before .before .before .before .before .before .pre .0))
+add-passed c = omega (arith, pages-short (c .before .before .before .before .before .before .before .before .before .before .before .before .before .before .before .before .before .args .n) (c .before .before .before .before .before .before .before .before .before .before .before .before .before .before .before .before .before .args .heap .now) (c .before .before .before .before .before .before .before .before .before .before .before .before .before .before .before .before .before .args .table .now) (c .before .before .before .before .before .before .before .before .before .before .before .before .before .before .before .before .before .args .regions) 0 (c .before .before .before .before .before .before .before .before .before .before .before .before .before .before .before .before .before .pre .0))
 
 mul-link : tie.Need-mul-link Inv-pages μ-pages Inv-regions μ-regions
 mul-link c = omega (arith, here ((c .before .before)))
@@ -92,10 +96,10 @@ pages-less : tie.Need-pages-less Inv-pages μ-pages Inv-regions μ-regions
 pages-less c = omega arith
 
 pages-again : tie.Need-pages-again Inv-pages μ-pages Inv-regions μ-regions
-pages-again c = (sym (chained-page _ _ _ (c .before .before .before .before .before .before .before .before .before .before .before .before .before .before .page-count .ensures) _ _ _ _ _ (c .before .before .before .link-address .ensures) (c .before .before .before .before .before .before .pages-test .taken) (c .before .before .before .before .before .if3 .left) (c .before .before .before .before .if4 .left) (c .before .if5 .left ∙ c .before .before .before .before .before .before .before .before .before .region-origin .ensures)) ∙ c .before .before .before .before .before .before .before .pages .inv .0, sum-step _ _ _ _ _ _ (c .before .before .before .before .before .before .before .pages .inv .1) (length-page _ _ _ (c .before .before .before .before .before .before .before .before .before .before .before .before .before .before .page-count .ensures) _ _ 0 true _ (c .before .before .before .link-address .ensures) (c .before .before .before .before .before .before .pages-test .taken) (c .before .before .before .before .before .if3 .left) (c .before .before .before .before .if4 .left)))
+pages-again c = (sym (chained-page _ _ _ (c .before .before .before .before .before .before .before .before .before .before .before .before .before .before .before .page-count .ensures) _ _ _ _ _ (c .before .before .before .link-address .ensures) (omega arith) (λ z. omega arith) (omega arith) (omega arith)) ∙ c .before .before .before .before .before .before .before .pages .inv .0, sum-step _ _ _ _ _ _ (c .before .before .before .before .before .before .before .pages .inv .1) (length-page _ _ _ (c .before .before .before .before .before .before .before .before .before .before .before .before .before .before .before .page-count .ensures) _ _ 0 true _ (c .before .before .before .link-address .ensures) (omega arith) (λ z. omega arith) (omega arith)))
 
-add-t24 : tie.Need-add-t24 Inv-pages μ-pages Inv-regions μ-regions
-add-t24 c = omega arith
+next-region-requires : tie.Need-next-region-requires Inv-pages μ-pages Inv-regions μ-regions
+next-region-requires c κs = omega arith
 
 sub-regions-left : tie.Need-sub-regions-left Inv-pages μ-pages Inv-regions μ-regions
 sub-regions-left c = omega arith
@@ -104,16 +108,16 @@ regions-less : tie.Need-regions-less Inv-pages μ-pages Inv-regions μ-regions
 regions-less c = omega arith
 
 regions-again : tie.Need-regions-again Inv-pages μ-pages Inv-regions μ-regions
-regions-again c = (sym (chained-ends _ _ _ (c .before .before .before .before .before .before .before .before .before .before .page-count .ensures) _ _ _ _ (over ((c .before .before))) (c .before .if6 .left)) ∙ c .before .before .before .pages .inv .0, omega arith, sum-skip _ _ _ _ (c .before .before .before .pages .inv .1) (length-over _ _ _ (c .before .before .before .before .before .before .before .before .before .before .page-count .ensures) _ _ 0 true (over ((c .before .before)))))
+regions-again c = (rw (c .next-region .ensures) (sym (chained-ends _ _ _ (c .before .before .before .before .before .before .before .before .before .before .before .page-count .ensures) _ _ _ _ (over (c .before .before)) (omega arith)) ∙ c .before .before .before .pages .inv .0), omega arith, rw (c .next-region .ensures) (sum-skip _ _ _ _ (c .before .before .before .pages .inv .1) (length-over _ _ _ (c .before .before .before .before .before .before .before .before .before .before .before .page-count .ensures) _ _ 0 true (over (c .before .before)))))
 
 returns-2 : tie.Need-returns-2 Inv-pages μ-pages Inv-regions μ-regions
-returns-2 c = not-chained _ _ _ _ (sym (chained-shut _ _ _ _ (c .before .before .before .before .page-count .ensures) _ _ (omega arith) (sym (c .before .opens .ensures) ∙ not-true _ (c .if2 .taken))) ∙ c .before .before .before .regions .inv .0)
+returns-2 c = not-chained _ _ _ _ (sym (chained-shut _ _ _ _ (c .before .before .before .before .before .page-count .ensures) _ _ (omega arith) (sym (c .before .opens .ensures) ∙ not-true _ (c .if2 .taken))) ∙ c .before .before .before .regions .inv .0)
 
 returns-3 : tie.Need-returns-3 Inv-pages μ-pages Inv-regions μ-regions
-returns-3 c = not-chained _ _ _ _ (sym (chained-other _ _ _ (c .before .before .before .before .before .before .before .before .before .before .before .before .before .page-count .ensures) _ _ _ _ _ (c .before .before .link-address .ensures) (c .before .before .before .before .before .pages-test .taken) (c .before .before .before .before .if3 .left) (c .before .before .before .if4 .left) (not-that _ _ _ (c .before .before .before .before .before .before .before .before .region-origin .ensures) (c .if5 .taken))) ∙ c .before .before .before .before .before .before .pages .inv .0)
+returns-3 c = not-chained _ _ _ _ (sym (chained-other _ _ _ (c .before .before .before .before .before .before .before .before .before .before .before .before .before .before .page-count .ensures) _ _ _ _ _ (c .before .before .link-address .ensures) (omega arith) (λ z. omega arith) (omega arith) (λ z. omega arith)) ∙ c .before .before .before .before .before .before .pages .inv .0)
 
 returns-4 : tie.Need-returns-4 Inv-pages μ-pages Inv-regions μ-regions
-returns-4 c = not-chained _ _ _ _ (sym (chained-hangs _ _ _ (c .before .before .before .before .before .before .before .before .before .page-count .ensures) _ _ _ _ (over ((c .before))) (c .if6 .taken)) ∙ c .before .before .pages .inv .0)
+returns-4 c = not-chained _ _ _ _ (sym (chained-hangs _ _ _ (c .before .before .before .before .before .before .before .before .before .before .page-count .ensures) _ _ _ _ (over ((c .before))) (λ z. omega arith)) ∙ c .before .before .pages .inv .0)
 
 pub regions-chained-spec : {M : Type 1} → statement M
 regions-chained-spec =
@@ -125,6 +129,7 @@ regions-chained-spec =
     μ-regions
     page-count-requires
     cast-pages
+    region-numbered-requires
     regions-holds
     returns
     opens-requires
@@ -141,7 +146,7 @@ regions-chained-spec =
     sub-left
     pages-less
     pages-again
-    add-t24
+    next-region-requires
     sub-regions-left
     regions-less
     regions-again

@@ -1,8 +1,9 @@
 -- `chains::rule3` meets its contract: the walks' answers and the three tests are the walked form of rule 3.
-use mathlib.Core.Path.{sym, _∙_}
+use mathlib.Core.Path.{sym, ap, _∙_}
 use native.Mathlib.Omega.{arith}
 use borrow.Author.Needs.{needs}
 use borrow.Author.Tests.{eq-eqb, ne-eqb}
+use lib.Dec.{eqb}
 use Rattle.chains.proofs.Three.{three-chained, three-listed, three-sums, sums-fit}
 use Rattle.chains.proofs.rule3.Statement.{statement}
 use Rattle.chains.proofs.rule3.Tie as tie
@@ -50,7 +51,7 @@ page-count-requires : tie.Need-page-count-requires
 page-count-requires c κs = omega arith
 
 returns-5 : tie.Need-returns-5
-returns-5 c = sym (three-sums _ _ _ _ _ _ _ (c .before .before .before .before .before .before .before .before .before .before .before .before .regions-chained .ensures) (c .before .before .before .before .before .before .before .before .before .before .chained .given .1) _ (c .before .before .before .before .before .before .before .before .free-listed .ensures) _ _ (c .before .before .before .before .before .before .listed .given .1) ∙ rw (eq-eqb _ _ (c .before .before .before .if1 .left), eq-eqb _ _ (c .before .if2 .left), ← c .page-count .ensures))
+returns-5 c = sym (three-sums _ _ _ _ _ _ _ (c .before .before .before .before .before .before .before .before .before .before .before .before .regions-chained .ensures) (c .before .before .before .before .before .before .before .before .before .before .chained .given .1) _ (c .before .before .before .before .before .before .before .before .free-listed .ensures) _ _ (c .before .before .before .before .before .before .listed .given .1) ∙ rw (eq-eqb _ _ (c .before .before .before .if1 .left), eq-eqb _ _ (c .before .if2 .left), ← c .page-count .ensures) (ap (λ s. eqb s (c .page-count .result)) (omega arith)))
 
 pub rule3-spec : {M : Type 1} → statement M
 rule3-spec =

@@ -1,6 +1,6 @@
 -- `collector::undo` meets its contract: the headers first, then the pages that were taken.
 use mathlib.Core.Path.{_∙_}
-use Rattle.collector.proofs.Ended.{few-pages}
+use Rattle.rules.proofs.Limits.{pages-few}
 use borrow.Author.Needs.{needs}
 use Rattle.collector.proofs.undo.Statement.{statement}
 use Rattle.collector.proofs.undo.Tie as tie
@@ -9,7 +9,7 @@ page-count-requires : tie.Need-page-count-requires
 page-count-requires c κs = search needs
 
 undo-headers-requires : tie.Need-undo-headers-requires
-undo-headers-requires c κs = (c .before .before .before .before .pre .low, c .before .before .before .before .pre .high, few-pages _ _ _ (c .before .before .before .before .pre) (c .before .page-count .ensures))
+undo-headers-requires c κs = (c .before .before .before .before .pre .low, c .before .before .before .before .pre .high, pages-few _ _ _ (c .before .before .before .before .pre) (c .before .page-count .ensures))
 
 cast-relink-all : tie.Need-cast-relink-all
 cast-relink-all c = search needs

@@ -17,10 +17,10 @@ use Rattle.contents.proofs.rule5.Statement.{statement}
 use Rattle.contents.proofs.rule5.Tie as tie
 
 abbrev Inv-values : tie.InvT-values
-Inv-values heap table roots consts n regions size pages fine j regions-left top link left base end at₀ at = Rest heap at end (getD heap base 0) top (all (pageFilled n heap table (j .0)) (chain (left - 1) n heap (getD heap base 0)) && allFrom (λ i. all (pageFilled n heap table i) (regionPages n heap table i)) (regions-left - 1) (j .0 + 1)) ≡ allFrom (λ i. all (pageFilled n heap table i) (regionPages n heap table i)) regions 0
+Inv-values heap table roots consts n regions size pages fine j regions-left top link left base end at₀ at = Rest heap (at .0) (end .0) (getD heap (base .0) 0) (top .0) (all (pageFilled n heap table (j .0)) (chain (left - 1) n heap (getD heap (base .0) 0)) && allFrom (λ i. all (pageFilled n heap table i) (regionPages n heap table i)) (regions-left - 1) (j .0 + 1)) ≡ allFrom (λ i. all (pageFilled n heap table i) (regionPages n heap table i)) regions 0
 
 abbrev μ-values : tie.MeasureT-values
-μ-values heap table roots consts n regions size pages fine j regions-left top link left base end at₀ at = end - at
+μ-values heap table roots consts n regions size pages fine j regions-left top link left base end at₀ at = end .0 - at .0
 
 abbrev Inv-pages : tie.InvT-pages
 Inv-pages heap table roots consts n regions size pages fine₀ j regions-left top link₀ left₀ fine link left = ((all (pageFilled n heap table (j .0)) (chain left n heap link) && allFrom (λ i. all (pageFilled n heap table i) (regionPages n heap table i)) (regions-left - 1) (j .0 + 1)) ≡ allFrom (λ i. all (pageFilled n heap table i) (regionPages n heap table i)) regions 0) × (fine ≡ true)
@@ -51,8 +51,12 @@ few c = pages-few _ _ _ (c .before .before .before .before .before .before .befo
 cast-pages : tie.Need-cast-pages Inv-values μ-values Inv-pages μ-pages Inv-regions μ-regions
 cast-pages c = omega (arith, few c)
 
+region-numbered-requires :
+    tie.Need-region-numbered-requires Inv-values μ-values Inv-pages μ-pages Inv-regions μ-regions
+region-numbered-requires c κs = omega arith
+
 regions-holds : tie.Need-regions-holds Inv-values μ-values Inv-pages μ-pages Inv-regions μ-regions
-regions-holds c = (refl, refl, omega arith)
+regions-holds c = (rw (c .region-numbered .ensures), refl, omega arith)
 
 top-of-requires :
     tie.Need-top-of-requires Inv-values μ-values Inv-pages μ-pages Inv-regions μ-regions
@@ -63,39 +67,41 @@ first-link-requires :
 first-link-requires c κs = omega arith
 
 pages-holds : tie.Need-pages-holds Inv-values μ-values Inv-pages μ-pages Inv-regions μ-regions
-pages-holds c = (sym (regions-go _ _ _ _ _ _ _ _ (c .before .before .before .before .page-count .ensures) (c .first-link .ensures) (c .before .before .regions-test .taken)) ∙ c .before .before .before .regions .inv .0, c .before .before .before .regions .inv .1)
+pages-holds c = (sym (regions-go _ _ _ _ _ _ _ _ (c .before .before .before .before .before .page-count .ensures) (c .first-link .ensures) (omega arith)) ∙ c .before .before .before .regions .inv .0, c .before .before .before .regions .inv .1)
 
-over : (c : tie.Left-pages Inv-values μ-values Inv-pages μ-pages Inv-regions μ-regions) → Over (c .before .before .before .before .before .before .before .before .before .before .before .before .before .args .c .n) (c .before .before .before .before .before .before .page-count .result) (c .before .before .before .before .before .before .before .before .before .before .before .before .before .args .heap .now) (c .before .before .before .before .before .before .page-count .ensures) (c .before .pages .left) (c .before .pages .link)
-over c = ⊎-elim (λ w. over-fuel _ _ _ _ _ _ (w .left)) (⊎-elim (λ w. over-none _ _ _ _ _ _ (w .1 .taken)) (λ w. over-bad _ _ _ _ _ _ (w .2 .taken))) (c .pages-test .came)
+over : (c : tie.Left-pages Inv-values μ-values Inv-pages μ-pages Inv-regions μ-regions) → Over (c .before .before .before .before .before .before .before .before .before .before .before .before .before .before .args .c .n) (c .before .before .before .before .before .before .before .page-count .result) (c .before .before .before .before .before .before .before .before .before .before .before .before .before .before .args .heap .now) (c .before .before .before .before .before .before .before .page-count .ensures) (c .before .pages .left) (c .before .pages .link)
+over c = ⊎-elim (λ w. over-fuel _ _ _ _ _ _ (omega (arith, w .left))) (⊎-elim (λ w. over-none _ _ _ _ _ _ (omega (arith, w .1 .taken))) (λ w. over-bad _ _ _ _ _ _ (omega (arith, w .2 .taken)))) (c .pages-test .came)
 
 link-address-requires :
     tie.Need-link-address-requires Inv-values μ-values Inv-pages μ-pages Inv-regions μ-regions
-link-address-requires c κs = omega (arith, few ((c .before .before .before .before .before .before .before .before)))
+link-address-requires c κs = omega (arith, few (c .before .before .before .before .before .before .before .before .before))
 
-here : (c : tie.After-link-address Inv-values μ-values Inv-pages μ-pages Inv-regions μ-regions) → Inside (2 ^ c .before .before .before .before .before .before .before .before .before .before .before .before .before .before .before .before .args .c .n) (c .link-address .result .0) (length (c .before .before .before .before .before .before .before .before .before .before .before .before .before .before .before .before .args .heap .now))
-here c = page-here _ _ _ _ _ (c .before .before .before .before .before .before .before .before .before .before .before .before .before .before .before .before .pre .paged) (c .before .before .before .before .before .before .before .before .before .page-count .ensures) (c .link-address .ensures) (c .before .before .if1 .left) (c .before .if2 .left)
+here : (c : tie.After-link-address Inv-values μ-values Inv-pages μ-pages Inv-regions μ-regions) → Inside (2 ^ c .before .before .before .before .before .before .before .before .before .before .before .before .before .before .before .before .before .args .c .n) (c .link-address .result .0) (length (c .before .before .before .before .before .before .before .before .before .before .before .before .before .before .before .before .before .args .heap .now))
+here c = page-here _ _ _ _ _ (c .before .before .before .before .before .before .before .before .before .before .before .before .before .before .before .before .before .pre .paged) (c .before .before .before .before .before .before .before .before .before .before .page-count .ensures) (c .link-address .ensures) (λ z. omega arith) (omega arith)
 
-inside : (c : tie.After-link-address Inv-values μ-values Inv-pages μ-pages Inv-regions μ-regions) → c .link-address .result .0 + c .before .before .before .before .before .before .before .before .before .before .page-words .result ≤ length (c .before .before .before .before .before .before .before .before .before .before .before .before .before .before .before .before .args .heap .now)
-inside c = omega (arith, here c, c .before .before .before .before .before .before .before .before .before .before .page-words .ensures)
+address-behind-requires :
+    tie.Need-address-behind-requires Inv-values μ-values Inv-pages μ-pages Inv-regions μ-regions
+address-behind-requires c κs = omega (arith, here c, c .before .before .before .before .before .before .before .before .before .before .before .page-words .ensures)
 
-add-end : tie.Need-add-end Inv-values μ-values Inv-pages μ-pages Inv-regions μ-regions
-add-end c = omega (arith, here c, c .before .before .before .before .before .before .before .before .before .before .page-words .ensures)
+inside : (c : tie.After-address-behind Inv-values μ-values Inv-pages μ-pages Inv-regions μ-regions) → c .address-behind .result .0 ≤ length (c .before .before .before .before .before .before .before .before .before .before .before .before .before .before .before .before .before .before .args .heap .now)
+inside c = omega (arith, here (c .before), c .before .before .before .before .before .before .before .before .before .before .before .before .page-words .ensures)
 
-add-at : tie.Need-add-at Inv-values μ-values Inv-pages μ-pages Inv-regions μ-regions
-add-at c = omega (arith, here c)
+address-behind-requires-2 :
+    tie.Need-address-behind-requires-2 Inv-values μ-values Inv-pages μ-pages Inv-regions μ-regions
+address-behind-requires-2 c κs = omega (arith, here (c .before))
 
 values-holds : tie.Need-values-holds Inv-values μ-values Inv-pages μ-pages Inv-regions μ-regions
-values-holds c = sym (five-page _ _ _ _ (c .before .before .before .before .before .before .before .before .before .page-count .ensures) _ _ _ _ _ (c .before .before .before .before .before .before .top-of .ensures .0) (c .before .before .before .before .before .before .before .before .before .before .page-words .ensures) _ _ (c .link-address .ensures) (c .before .before .before .pages-test .taken) (c .before .before .if1 .left) (c .before .if2 .left)) ∙ c .before .before .before .before .pages .inv .0
+values-holds c = sym (five-page _ _ _ _ (c .before .before .before .before .before .before .before .before .before .before .before .before .page-count .ensures) _ _ _ _ _ (c .before .before .before .before .before .before .before .before .top-of .ensures .0) (c .before .before .before .before .before .before .before .before .before .before .before .before .before .page-words .ensures) _ _ (c .before .before .link-address .ensures) (omega arith) (λ z. omega arith) (omega arith) _ _ (c .address-behind2 .ensures) (c .before .address-behind .ensures)) ∙ c .before .before .before .before .before .before .pages .inv .0
 
 mul-head : tie.Need-mul-head Inv-values μ-values Inv-pages μ-pages Inv-regions μ-regions
-mul-head c = omega (arith, here ((c .before .before)), c .before .before .before .before .before .before .before .before .before .before .before .before .page-words .ensures)
+mul-head c = omega (arith, here (c .before .before .before .before .before .before), inside (c .before .before .before .before .before))
 
 shared-slice-read-head :
     tie.Need-shared-slice-read-head Inv-values μ-values Inv-pages μ-pages Inv-regions μ-regions
-shared-slice-read-head c = omega (arith, inside ((c .before .before .before)))
+shared-slice-read-head c = omega (arith, inside (c .before .before .before .before .before .before))
 
 add-fits : tie.Need-add-fits Inv-values μ-values Inv-pages μ-pages Inv-regions μ-regions
-add-fits c = omega (arith, here ((c .before .before .before)), c .before .before .before .before .before .before .before .before .before .before .before .before .before .page-words .ensures)
+add-fits c = omega (arith, inside (c .before .before .before .before .before .before .before))
 
 sub-fits : tie.Need-sub-fits Inv-values μ-values Inv-pages μ-pages Inv-regions μ-regions
 sub-fits c = omega arith
@@ -103,34 +109,37 @@ sub-fits c = omega arith
 fits-requires : tie.Need-fits-requires Inv-values μ-values Inv-pages μ-pages Inv-regions μ-regions
 fits-requires c κs = omega arith
 
-add-at-2 : tie.Need-add-at-2 Inv-values μ-values Inv-pages μ-pages Inv-regions μ-regions
-add-at-2 c = omega (arith, here ((c .before .before .before .before .before)), c .before .before .before .before .before .before .before .before .before .before .before .before .before .before .before .page-words .ensures)
+cast-address-behind :
+    tie.Need-cast-address-behind Inv-values μ-values Inv-pages μ-pages Inv-regions μ-regions
+cast-address-behind c = omega (arith, c .before .before .before .before .shared-slice-known5 .given (c .before .before .before .before .before .before .before .before .values .at .0))
 
-cast-at : tie.Need-cast-at Inv-values μ-values Inv-pages μ-pages Inv-regions μ-regions
-cast-at c = omega (arith, c .before .before .shared-slice-known5 .given (c .before .before .before .before .values .at))
+add-address-behind :
+    tie.Need-add-address-behind Inv-values μ-values Inv-pages μ-pages Inv-regions μ-regions
+add-address-behind c = omega (arith, c .before .before .before .before .shared-slice-known5 .given (c .before .before .before .before .before .before .before .before .values .at .0))
 
-add-at-3 : tie.Need-add-at-3 Inv-values μ-values Inv-pages μ-pages Inv-regions μ-regions
-add-at-3 c = omega (arith, here ((c .before .before .before .before .before)), c .before .before .before .before .before .before .before .before .before .before .before .before .before .before .before .page-words .ensures, c .before .before .shared-slice-known5 .given (c .before .before .before .before .values .at))
+address-behind-requires-3 :
+    tie.Need-address-behind-requires-3 Inv-values μ-values Inv-pages μ-pages Inv-regions μ-regions
+address-behind-requires-3 c κs = omega (arith, here (c .before .before .before .before .before .before .before .before .before .before .before), inside (c .before .before .before .before .before .before .before .before .before .before), c .before .before .before .before .shared-slice-known5 .given (c .before .before .before .before .before .before .before .before .values .at .0))
 
 values-less : tie.Need-values-less Inv-values μ-values Inv-pages μ-pages Inv-regions μ-regions
 values-less c = omega arith
 
 values-again : tie.Need-values-again Inv-values μ-values Inv-pages μ-pages Inv-regions μ-regions
-values-again c = sym (rest-go _ _ _ _ _ _ (c .before .before .before .values-test .taken) (inside ((c .before .before .before .before .before))) (sym (c .before .fits2 .ensures) ∙ not-false _ (c .if3 .left))) ∙ c .before .before .before .before .values .inv
+values-again c = sym (rest-go _ _ _ _ _ _ (omega arith) (inside (c .before .before .before .before .before .before .before .before .before .before .before)) _ (sym (c .before .before .fits2 .ensures) ∙ not-false _ (c .before .if4 .left)) (omega arith) _ (c .address-behind3 .ensures)) ∙ c .before .before .before .before .before .before .before .before .before .values .inv
 
-passed : (c : tie.Left-values Inv-values μ-values Inv-pages μ-pages Inv-regions μ-regions) → Passed (c .before .before .before .before .before .before .before .before .before .before .before .before .before .before .before .before .before .before .args .heap .now) (c .before .values .at) (c .before .before .link-address .result .0 + c .before .before .before .before .before .before .before .before .before .before .before .before .page-words .result) (getD (c .before .before .before .before .before .before .before .before .before .before .before .before .before .before .before .before .before .before .args .heap .now) (c .before .before .link-address .result .0) 0) (c .before .before .before .before .before .before .before .before .top-of .result .0) (all (pageFilled (c .before .before .before .before .before .before .before .before .before .before .before .before .before .before .before .before .before .before .args .c .n) (c .before .before .before .before .before .before .before .before .before .before .before .before .before .before .before .before .before .before .args .heap .now) (c .before .before .before .before .before .before .before .before .before .before .before .before .before .before .before .before .before .before .args .table .now) (c .before .before .before .before .before .before .before .before .before .before .regions .j .0)) (chain (c .before .before .before .before .before .before .pages .left - 1) (c .before .before .before .before .before .before .before .before .before .before .before .before .before .before .before .before .before .before .args .c .n) (c .before .before .before .before .before .before .before .before .before .before .before .before .before .before .before .before .before .before .args .heap .now) (getD (c .before .before .before .before .before .before .before .before .before .before .before .before .before .before .before .before .before .before .args .heap .now) (c .before .before .link-address .result .0) 0)) && allFrom (λ i. all (pageFilled (c .before .before .before .before .before .before .before .before .before .before .before .before .before .before .before .before .before .before .args .c .n) (c .before .before .before .before .before .before .before .before .before .before .before .before .before .before .before .before .before .before .args .heap .now) (c .before .before .before .before .before .before .before .before .before .before .before .before .before .before .before .before .before .before .args .table .now) i) (regionPages (c .before .before .before .before .before .before .before .before .before .before .before .before .before .before .before .before .before .before .args .c .n) (c .before .before .before .before .before .before .before .before .before .before .before .before .before .before .before .before .before .before .args .heap .now) (c .before .before .before .before .before .before .before .before .before .before .before .before .before .before .before .before .before .before .args .table .now) i)) (c .before .before .before .before .before .before .before .before .before .before .regions .regions-left - 1) (c .before .before .before .before .before .before .before .before .before .before .regions .j .0 + 1)) (allFrom (λ i. all (pageFilled (c .before .before .before .before .before .before .before .before .before .before .before .before .before .before .before .before .before .before .args .c .n) (c .before .before .before .before .before .before .before .before .before .before .before .before .before .before .before .before .before .before .args .heap .now) (c .before .before .before .before .before .before .before .before .before .before .before .before .before .before .before .before .before .before .args .table .now) i) (regionPages (c .before .before .before .before .before .before .before .before .before .before .before .before .before .before .before .before .before .before .args .c .n) (c .before .before .before .before .before .before .before .before .before .before .before .before .before .before .before .before .before .before .args .heap .now) (c .before .before .before .before .before .before .before .before .before .before .before .before .before .before .before .before .before .before .args .table .now) i)) (c .before .before .before .before .before .before .before .before .before .before .before .before .before .before .before .before .before .before .args .c .regions) 0)
-passed c = record { left = ⊎-elim (λ w. sym (rest-end _ _ _ _ _ _ (w .left)) ∙ c .before .values .inv) (λ w. sym (rest-stop _ _ _ _ _ _ (w .0 .taken) (inside ((c .before .before))) (sym (w .2 .ensures) ∙ not-true _ (w .3 .taken))) ∙ c .before .values .inv) (c .values-test .came) }
+passed : (c : tie.Joined3 Inv-values μ-values Inv-pages μ-pages Inv-regions μ-regions) → Passed (c .before .before .before .before .before .before .before .before .before .before .before .before .before .before .before .before .before .before .before .before .before .before .before .args .heap .now) (c .before .before .before .values .at .0) (c .before .before .before .before .before .address-behind .result .0) (getD (c .before .before .before .before .before .before .before .before .before .before .before .before .before .before .before .before .before .before .before .before .before .before .before .args .heap .now) (c .before .before .before .before .before .before .link-address .result .0) 0) (c .before .before .before .before .before .before .before .before .before .before .before .before .top-of .result .0) (all (pageFilled (c .before .before .before .before .before .before .before .before .before .before .before .before .before .before .before .before .before .before .before .before .before .before .before .args .c .n) (c .before .before .before .before .before .before .before .before .before .before .before .before .before .before .before .before .before .before .before .before .before .before .before .args .heap .now) (c .before .before .before .before .before .before .before .before .before .before .before .before .before .before .before .before .before .before .before .before .before .before .before .args .table .now) (c .before .before .before .before .before .before .before .before .before .before .before .before .before .before .regions .j .0)) (chain (c .before .before .before .before .before .before .before .before .before .before .pages .left - 1) (c .before .before .before .before .before .before .before .before .before .before .before .before .before .before .before .before .before .before .before .before .before .before .before .args .c .n) (c .before .before .before .before .before .before .before .before .before .before .before .before .before .before .before .before .before .before .before .before .before .before .before .args .heap .now) (getD (c .before .before .before .before .before .before .before .before .before .before .before .before .before .before .before .before .before .before .before .before .before .before .before .args .heap .now) (c .before .before .before .before .before .before .link-address .result .0) 0)) && allFrom (λ i. all (pageFilled (c .before .before .before .before .before .before .before .before .before .before .before .before .before .before .before .before .before .before .before .before .before .before .before .args .c .n) (c .before .before .before .before .before .before .before .before .before .before .before .before .before .before .before .before .before .before .before .before .before .before .before .args .heap .now) (c .before .before .before .before .before .before .before .before .before .before .before .before .before .before .before .before .before .before .before .before .before .before .before .args .table .now) i) (regionPages (c .before .before .before .before .before .before .before .before .before .before .before .before .before .before .before .before .before .before .before .before .before .before .before .args .c .n) (c .before .before .before .before .before .before .before .before .before .before .before .before .before .before .before .before .before .before .before .before .before .before .before .args .heap .now) (c .before .before .before .before .before .before .before .before .before .before .before .before .before .before .before .before .before .before .before .before .before .before .before .args .table .now) i)) (c .before .before .before .before .before .before .before .before .before .before .before .before .before .before .regions .regions-left - 1) (c .before .before .before .before .before .before .before .before .before .before .before .before .before .before .regions .j .0 + 1)) (allFrom (λ i. all (pageFilled (c .before .before .before .before .before .before .before .before .before .before .before .before .before .before .before .before .before .before .before .before .before .before .before .args .c .n) (c .before .before .before .before .before .before .before .before .before .before .before .before .before .before .before .before .before .before .before .before .before .before .before .args .heap .now) (c .before .before .before .before .before .before .before .before .before .before .before .before .before .before .before .before .before .before .before .before .before .before .before .args .table .now) i) (regionPages (c .before .before .before .before .before .before .before .before .before .before .before .before .before .before .before .before .before .before .before .before .before .before .before .args .c .n) (c .before .before .before .before .before .before .before .before .before .before .before .before .before .before .before .before .before .before .before .before .before .before .before .args .heap .now) (c .before .before .before .before .before .before .before .before .before .before .before .before .before .before .before .before .before .before .before .before .before .before .before .args .table .now) i)) (c .before .before .before .before .before .before .before .before .before .before .before .before .before .before .before .before .before .before .before .before .before .before .before .args .c .regions) 0)
+passed c = record { left = ⊎-elim (λ w. sym (rest-end _ _ _ _ _ _ (w .left)) ∙ c .before .before .before .values .inv) (λ w. sym (rest-stop _ _ _ _ _ _ (w .0 .taken) (inside (c .before .before .before .before .before)) _ (sym (w .4 .ensures) ∙ not-true _ (w .5 .taken)) (omega arith)) ∙ c .before .before .before .values .inv) (c .if3 .came) }
 
 zero-between-requires :
     tie.Need-zero-between-requires Inv-values μ-values Inv-pages μ-pages Inv-regions μ-regions
-zero-between-requires c κs = inside ((c .before .before))
+zero-between-requires c κs = inside (c .before .before .before .before .before)
 
 mul-link : tie.Need-mul-link Inv-values μ-values Inv-pages μ-pages Inv-regions μ-regions
-mul-link c = omega (arith, here ((c .before .before .before .before)))
+mul-link c = omega (arith, here (c .before .before .before .before .before .before .before .before))
 
 shared-slice-read-link :
     tie.Need-shared-slice-read-link Inv-values μ-values Inv-pages μ-pages Inv-regions μ-regions
-shared-slice-read-link c = omega (arith, here ((c .before .before .before .before .before)))
+shared-slice-read-link c = omega (arith, here (c .before .before .before .before .before .before .before .before .before))
 
 sub-left : tie.Need-sub-left Inv-values μ-values Inv-pages μ-pages Inv-regions μ-regions
 sub-left c = omega arith
@@ -139,16 +148,17 @@ pages-less : tie.Need-pages-less Inv-values μ-values Inv-pages μ-pages Inv-reg
 pages-less c = omega arith
 
 pages-again : tie.Need-pages-again Inv-values μ-values Inv-pages μ-pages Inv-regions μ-regions
-pages-again c = (page-on (passed ((c .before .before .before .before))) (sym (c .before .before .before .zero-between .ensures) ∙ not-false _ (c .before .before .if4 .left)) (c .if5 .taken), c .before .before .before .before .before .before .before .before .before .before .pages .inv .1)
+pages-again c = (page-on (passed (c .before .before .before .before)) (sym (c .before .before .before .zero-between .ensures) ∙ not-false _ (c .before .before .if5 .left)) (omega arith), c .before .before .before .before .before .before .before .before .before .before .before .before .before .before .pages .inv .1)
 
 pages-less-2 : tie.Need-pages-less-2 Inv-values μ-values Inv-pages μ-pages Inv-regions μ-regions
 pages-less-2 c = omega arith
 
 pages-again-2 : tie.Need-pages-again-2 Inv-values μ-values Inv-pages μ-pages Inv-regions μ-regions
-pages-again-2 c = (page-at (passed ((c .before .before .before .before .before))) (sym (c .before .before .before .before .zero-between .ensures) ∙ not-false _ (c .before .before .before .if4 .left)) (c .before .if5 .left) (c .if6 .left), c .before .before .before .before .before .before .before .before .before .before .before .pages .inv .1)
+pages-again-2 c = (page-at (passed (c .before .before .before .before .before .before .before)) (sym (c .before .before .before .before .before .before .zero-between .ensures) ∙ not-false _ (c .before .before .before .before .before .if5 .left)) (omega arith) (omega arith), c .before .before .before .before .before .before .before .before .before .before .before .before .before .before .before .before .before .pages .inv .1)
 
-add-t37 : tie.Need-add-t37 Inv-values μ-values Inv-pages μ-pages Inv-regions μ-regions
-add-t37 c = omega arith
+next-region-requires :
+    tie.Need-next-region-requires Inv-values μ-values Inv-pages μ-pages Inv-regions μ-regions
+next-region-requires c κs = omega arith
 
 sub-regions-left :
     tie.Need-sub-regions-left Inv-values μ-values Inv-pages μ-pages Inv-regions μ-regions
@@ -158,19 +168,19 @@ regions-less : tie.Need-regions-less Inv-values μ-values Inv-pages μ-pages Inv
 regions-less c = omega arith
 
 regions-again : tie.Need-regions-again Inv-values μ-values Inv-pages μ-pages Inv-regions μ-regions
-regions-again c = (sym (pages-over _ _ _ _ _ _ _ _ (over ((c .before)))) ∙ c .before .before .pages .inv .0, c .before .before .pages .inv .1, omega arith)
+regions-again c = (rw (c .next-region .ensures) (sym (pages-over _ _ _ _ _ _ _ _ (over (c .before))) ∙ c .before .before .pages .inv .0), c .before .before .pages .inv .1, omega arith)
 
 returns : tie.Need-returns Inv-values μ-values Inv-pages μ-pages Inv-regions μ-regions
 unfolding rule5
-returns c = c .before .regions .inv .1 ∙ sym (from-end _ _ _ (c .regions-test .left)) ∙ c .before .regions .inv .0
+returns c = c .before .regions .inv .1 ∙ sym (from-end _ _ _ (omega arith)) ∙ c .before .regions .inv .0
 
 returns-2 : tie.Need-returns-2 Inv-values μ-values Inv-pages μ-pages Inv-regions μ-regions
 unfolding rule5
-returns-2 c = zeros-off (passed ((c .before .before))) (sym (c .before .zero-between .ensures) ∙ not-true _ (c .if4 .taken))
+returns-2 c = zeros-off (passed (c .before .before)) (sym (c .before .zero-between .ensures) ∙ not-true _ (c .if5 .taken))
 
 returns-3 : tie.Need-returns-3 Inv-values μ-values Inv-pages μ-pages Inv-regions μ-regions
 unfolding rule5
-returns-3 c = page-off (passed ((c .before .before .before .before .before))) (sym (c .before .before .before .before .zero-between .ensures) ∙ not-false _ (c .before .before .before .if4 .left)) (c .before .if5 .left) (c .if6 .taken)
+returns-3 c = page-off (passed (c .before .before .before .before .before .before .before)) (sym (c .before .before .before .before .before .before .zero-between .ensures) ∙ not-false _ (c .before .before .before .before .before .if5 .left)) (omega arith) (λ z. omega arith)
 
 pub rule5-spec : {M : Type 1} → statement M
 rule5-spec =
@@ -186,22 +196,23 @@ rule5-spec =
     page-words-requires
     page-count-requires
     cast-pages
+    region-numbered-requires
     regions-holds
     top-of-requires
     first-link-requires
     pages-holds
     link-address-requires
-    add-end
-    add-at
+    address-behind-requires
+    address-behind-requires-2
     values-holds
     mul-head
     shared-slice-read-head
     add-fits
     sub-fits
     fits-requires
-    add-at-2
-    cast-at
-    add-at-3
+    cast-address-behind
+    add-address-behind
+    address-behind-requires-3
     values-less
     values-again
     zero-between-requires
@@ -212,7 +223,7 @@ rule5-spec =
     pages-again
     pages-less-2
     pages-again-2
-    add-t37
+    next-region-requires
     sub-regions-left
     regions-less
     regions-again

@@ -1,5 +1,4 @@
 -- `conversions::page_address` meets its contract: a page's number is below 2^17 and n is at most 8, so the shift drops no bit.
-use Prim.Native.Nat.{_^_}
 use native.Mathlib.Omega.{arith}
 use borrow.Author.Needs.{needs}
 use lib.Pow.{shl-exact}

@@ -1,7 +1,11 @@
--- `copying::move_value` meets its contract: what it calls is what the definition runs, in its order.
-use borrow.Author.Tests.{ne-eqb, not-true, not-false}
+-- `copying::move_value` meets its contract: a forward stays, and a value goes where there is room for it, or into a page more.
+use native.Mathlib.Omega.{arith}
+use mathlib.Core.Path.{refl}
+use borrow.Author.Tests.{ne-eqb}
 use Rattle.laws.proofs.Tests.{tests}
-use Rattle.motion.specs.Run.{moveTo, moveOn, moveOf}
+use Rattle.motion.specs.Leaves.{desk}
+use Rattle.motion.specs.Run.{moveOf}
+use Rattle.copying.proofs.Moved.{moved-further, moved-here}
 use borrow.Author.Needs.{needs}
 use Rattle.copying.proofs.move_value.Statement.{statement}
 use Rattle.copying.proofs.move_value.Tie as tie
@@ -19,11 +23,20 @@ returns c = rw (← (c .before .word .ensures .0)) (search tests)
 region-at-requires : tie.Need-region-at-requires
 region-at-requires c κs = search needs
 
-add-m : tie.Need-add-m
-add-m c = search needs
+top-of-requires : tie.Need-top-of-requires
+top-of-requires c κs = search needs
 
-room-requires : tie.Need-room-requires
-room-requires c κs = search needs
+end-of-requires : tie.Need-end-of-requires
+end-of-requires c κs = search needs
+
+add-if2 : tie.Need-add-if2
+add-if2 c = search needs
+
+add-if2-2 : tie.Need-add-if2-2
+add-if2-2 c = search needs
+
+move-further-requires : tie.Need-move-further-requires
+move-further-requires c κs = search needs
 
 same-length-2 : tie.Need-same-length-2
 same-length-2 c = search needs
@@ -32,29 +45,13 @@ same-length-3 : tie.Need-same-length-3
 same-length-3 c = search needs
 
 returns-2 : tie.Need-returns-2
-unfolding moveOn moveOf
-returns-2 c = rw (← (c .before .before .before .before .before .before .before .before .before .before .before .word .ensures .0), ne-eqb _ _ (c .before .before .before .before .before .before .before .before .before .before .if1 .left), ← (c .before .before .before .before .before .before .before .before .region-at .ensures .0), ← (c .before .before .before .before .before .room .ensures), not-true (c .before .before .before .before .before .room .result) (c .if2 .taken))
+returns-2 c = moved-further _ _ _ _ _ _ _ (desk (c .before .before .before .before .before .before .before .before .before .before .before .before .before .before .before .before .before .before .before .before .before .args .heap .now) (c .before .before .before .before .before .before .before .before .before .before .before .before .before .before .before .before .before .before .before .before .before .args .notes .now)) (c .before .before .before .before .before .before .before .before .before .before .before .before .before .before .before .before .before .word .ensures .0) (ne-eqb _ _ (c .before .before .before .before .before .before .before .before .before .before .before .before .before .before .before .before .if1 .left)) (c .before .before .before .before .before .before .before .before .before .before .before .before .before .before .region-at .ensures .0) refl (c .before .before .before .before .before .before .before .before .before .before .before .before .top-of .ensures .0) (c .before .before .before .before .before .before .before .before .before .before .end-of .ensures .0) _ (omega arith) (c .before .before .before .before .move-further .ensures)
 
-top-of-requires : tie.Need-top-of-requires
-top-of-requires c κs = search needs
+add-move-to : tie.Need-add-move-to
+add-move-to c = search needs
 
-copy-requires : tie.Need-copy-requires
-copy-requires c κs = search needs
-
-forward-requires : tie.Need-forward-requires
-forward-requires c κs = search needs
-
-add-low : tie.Need-add-low
-add-low c = search needs
-
-low-requires : tie.Need-low-requires
-low-requires c κs = search needs
-
-set-top-requires : tie.Need-set-top-requires
-set-top-requires c κs = search needs
-
-wake-requires : tie.Need-wake-requires
-wake-requires c κs = search needs
+move-to-requires : tie.Need-move-to-requires
+move-to-requires c κs = search needs
 
 same-length-4 : tie.Need-same-length-4
 same-length-4 c = search needs
@@ -63,8 +60,7 @@ same-length-5 : tie.Need-same-length-5
 same-length-5 c = search needs
 
 returns-3 : tie.Need-returns-3
-unfolding moveTo moveOn moveOf
-returns-3 c = rw (c .before .before .wake .ensures, c .before .before .before .before .before .before .set-top .ensures, c .before .before .before .before .before .before .before .low .ensures .0, c .before .before .before .before .before .before .before .before .before .before .before .before .forward .ensures, c .before .before .before .before .before .before .before .before .before .before .before .before .before .before .before .before .copy .ensures, ← (c .before .before .before .before .before .before .before .before .before .before .before .before .before .before .before .before .before .before .before .before .before .before .before .before .before .before .before .before .before .before .before .word .ensures .0), ne-eqb _ _ (c .before .before .before .before .before .before .before .before .before .before .before .before .before .before .before .before .before .before .before .before .before .before .before .before .before .before .before .before .before .before .if1 .left), ← (c .before .before .before .before .before .before .before .before .before .before .before .before .before .before .before .before .before .before .before .before .before .before .before .before .before .before .before .before .region-at .ensures .0), ← (c .before .before .before .before .before .before .before .before .before .before .before .before .before .before .before .before .before .before .before .before .before .before .before .before .before .room .ensures), not-false (c .before .before .before .before .before .before .before .before .before .before .before .before .before .before .before .before .before .before .before .before .before .before .before .before .before .room .result) (c .before .before .before .before .before .before .before .before .before .before .before .before .before .before .before .before .before .before .before .before .if2 .left), ← (c .before .before .before .before .before .before .before .before .before .before .before .before .before .before .before .before .before .before .top-of .ensures .0))
+returns-3 c = moved-here _ _ _ _ _ _ _ _ (c .before .before .before .before .before .before .before .before .before .before .before .before .before .before .before .before .before .word .ensures .0) (ne-eqb _ _ (c .before .before .before .before .before .before .before .before .before .before .before .before .before .before .before .before .if1 .left)) (c .before .before .before .before .before .before .before .before .before .before .before .before .before .before .region-at .ensures .0) refl (c .before .before .before .before .before .before .before .before .before .before .before .before .top-of .ensures .0) (c .before .before .before .before .before .before .before .before .before .before .end-of .ensures .0) _ _ (omega arith) (omega arith) (c .before .before .before .before .move-to .ensures)
 
 pub move-value-spec : {M : Type 1} → statement M
 move-value-spec =
@@ -74,18 +70,16 @@ move-value-spec =
     same-length
     returns
     region-at-requires
-    add-m
-    room-requires
+    top-of-requires
+    end-of-requires
+    add-if2
+    add-if2-2
+    move-further-requires
     same-length-2
     same-length-3
     returns-2
-    top-of-requires
-    copy-requires
-    forward-requires
-    add-low
-    low-requires
-    set-top-requires
-    wake-requires
+    add-move-to
+    move-to-requires
     same-length-4
     same-length-5
     returns-3)

@@ -54,7 +54,7 @@ same-length-3 c = search needs
 
 returns-2 : tie.Need-returns-2
 unfolding takeAt takeOn
-returns-2 c = (rw (c .before .before .write4 .ensures, c .before .before .before .low .ensures .0, c .before .before .before .before .before .before .before .write3 .ensures, c .before .before .before .before .before .before .before .before .before .before .before .before .before .write2 .ensures, c .before .before .before .before .before .before .before .before .before .before .before .before .before .before .before .before .before .write .ensures, c .before .before .before .before .before .before .before .before .before .word3 .ensures .0, c .before .before .before .before .before .before .before .before .before .before .before .before .before .before .before .before .before .before .before .word2 .ensures .0, c .before .before .before .before .before .before .before .before .before .before .before .before .before .before .before .before .before .before .before .before .before .link-start .ensures .0, ← (c .before .before .before .before .before .before .before .before .before .before .before .before .before .before .before .before .before .before .before .before .before .before .before .word .ensures .0)) (search tests), c .before .before .before .before .before .before .before .before .before .before .before .before .before .before .before .before .before .before .before .before .before .before .before .word .ensures .1)
+returns-2 c = (rw (c .before .before .write4 .ensures, c .before .before .before .low .ensures .0, c .before .before .before .before .before .before .before .write3 .ensures, c .before .before .before .before .before .before .before .before .before .before .before .before .before .write2 .ensures, c .before .before .before .before .before .before .before .before .before .before .before .before .before .before .before .before .before .before .write .ensures, c .before .before .before .before .before .before .before .before .before .word3 .ensures .0, c .before .before .before .before .before .before .before .before .before .before .before .before .before .before .before .before .before .before .before .before .word2 .ensures .0, c .before .before .before .before .before .before .before .before .before .before .before .before .before .before .before .before .before .before .before .before .before .before .link-start .ensures .0, ← (c .before .before .before .before .before .before .before .before .before .before .before .before .before .before .before .before .before .before .before .before .before .before .before .before .word .ensures .0)) (search tests), c .before .before .before .before .before .before .before .before .before .before .before .before .before .before .before .before .before .before .before .before .before .before .before .before .word .ensures .1)
 
 pub take-page-spec : {M : Type 1} → statement M
 take-page-spec =

@@ -9,29 +9,33 @@ use Rattle.rules.specs.Memory.{firstLink}
 use Rattle.motion.specs.Leaves.{desk}
 use Rattle.motion.specs.Whole.{giveChain}
 use Rattle.motion.proofs.Chains.{give-region}
+use borrow.Author.Needs.{needs}
 use Rattle.ending.proofs.give_all.Statement.{statement}
 use Rattle.ending.proofs.give_all.Tie as tie
 
 abbrev Inv-loop : tie.InvT-loop
-Inv-loop heap₀ notes₀ table regions pages n j₀ left₀ heap notes j left = (steps left (λ i. giveChain n pages (firstLink n table i)) j (desk heap notes) ≡ steps regions (λ i. giveChain n pages (firstLink n table i)) 0 (desk heap₀ notes₀)) × (length heap ≡ length heap₀) × (length notes ≡ length notes₀) × (j + left ≡ regions)
+Inv-loop heap₀ notes₀ table regions pages n j₀ left₀ heap notes j left = (steps left (λ i. giveChain n pages (firstLink n table i)) (j .0) (desk heap notes) ≡ steps regions (λ i. giveChain n pages (firstLink n table i)) 0 (desk heap₀ notes₀)) × (length heap ≡ length heap₀) × (length notes ≡ length notes₀) × (j .0 + left ≡ regions)
 
 abbrev μ-loop : tie.MeasureT-loop
 μ-loop heap₀ notes₀ table regions pages n j₀ left₀ heap notes j left = left
 
+region-numbered-requires : tie.Need-region-numbered-requires Inv-loop μ-loop
+region-numbered-requires c κs = search needs
+
 loop-holds : tie.Need-loop-holds Inv-loop μ-loop
-loop-holds c = (refl, refl, refl, omega arith)
+loop-holds c = (rw (c .region-numbered .ensures), refl, refl, omega (arith, c .region-numbered .ensures))
 
 first-of-requires : tie.Need-first-of-requires Inv-loop μ-loop
 first-of-requires c κs = omega arith
 
 address-page-requires : tie.Need-address-page-requires Inv-loop μ-loop
-address-page-requires c κs = c .before .before .before .before .before .before .before .before .pre .0 .high
+address-page-requires c κs = c .before .before .before .before .before .before .before .before .before .pre .0 .high
 
 give-chain-requires : tie.Need-give-chain-requires Inv-loop μ-loop
-give-chain-requires c κs = rw (c .before .before .before .before .before .loop .inv .1) (c .before .before .before .before .before .before .before .before .before .pre .0, c .before .before .before .before .before .before .before .before .before .pre .1)
+give-chain-requires c κs = rw (c .before .before .before .before .before .loop .inv .1) (c .before .before .before .before .before .before .before .before .before .before .pre .0, c .before .before .before .before .before .before .before .before .before .before .pre .1)
 
-add-j : tie.Need-add-j Inv-loop μ-loop
-add-j c = omega arith
+next-region-requires : tie.Need-next-region-requires Inv-loop μ-loop
+next-region-requires c κs = omega arith
 
 sub-left : tie.Need-sub-left Inv-loop μ-loop
 sub-left c = omega arith
@@ -40,7 +44,7 @@ loop-less : tie.Need-loop-less Inv-loop μ-loop
 loop-less c = omega arith
 
 loop-again : tie.Need-loop-again Inv-loop μ-loop
-loop-again c = (sym (give-region (c .before .before .before .before .before .before .before .before .before .before .before .before .before .before .args .n) (c .before .before .before .before .before .before .before .before .before .before .loop .left) (c .before .before .before .before .before .before .before .before .before .before .before .before .before .before .args .pages) (c .before .before .before .before .before .before .before .before .before .before .loop .j) (c .before .before .before .before .before .address-page .result .0) (c .before .before .before .before .before .before .before .before .first-of .result .0) (c .before .before .before .before .before .before .before .before .before .before .before .before .before .before .args .table .now) _ _ (c .before .before .before .before .before .before .before .before .before .loop-test .taken) (c .before .before .before .before .before .before .before .before .first-of .ensures .0) (c .before .before .before .before .before .address-page .ensures) (c .before .before .before .before .give-chain .ensures)) ∙ c .before .before .before .before .before .before .before .before .before .before .loop .inv .0, c .before .before .before .before .give-chain .kept .0 ∙ c .before .before .before .before .before .before .before .before .before .before .loop .inv .1, c .before .before .before .before .give-chain .kept .1 .0 ∙ c .before .before .before .before .before .before .before .before .before .before .loop .inv .2, omega arith)
+loop-again c = (rw (c .next-region .ensures) (sym (give-region (c .before .before .before .before .before .before .before .before .before .before .before .before .before .before .before .before .args .n) (c .before .before .before .before .before .before .before .before .before .before .before .loop .left) (c .before .before .before .before .before .before .before .before .before .before .before .before .before .before .before .before .args .pages) (c .before .before .before .before .before .before .before .before .before .before .before .loop .j .0) (c .before .before .before .before .before .before .address-page .result .0) (c .before .before .before .before .before .before .before .before .before .first-of .result .0) (c .before .before .before .before .before .before .before .before .before .before .before .before .before .before .before .before .args .table .now) _ _ (c .before .before .before .before .before .before .before .before .before .before .loop-test .taken) (c .before .before .before .before .before .before .before .before .before .first-of .ensures .0) (c .before .before .before .before .before .before .address-page .ensures) (c .before .before .before .before .before .give-chain .ensures)) ∙ c .before .before .before .before .before .before .before .before .before .before .before .loop .inv .0), c .before .before .before .before .before .give-chain .kept .0 ∙ c .before .before .before .before .before .before .before .before .before .before .before .loop .inv .1, c .before .before .before .before .before .give-chain .kept .1 .0 ∙ c .before .before .before .before .before .before .before .before .before .before .before .loop .inv .2, omega (arith, c .next-region .ensures))
 
 same-length : tie.Need-same-length Inv-loop μ-loop
 same-length c = c .before .loop .inv .1
@@ -57,11 +61,12 @@ give-all-spec =
     (tie.spec
     Inv-loop
     μ-loop
+    region-numbered-requires
     loop-holds
     first-of-requires
     address-page-requires
     give-chain-requires
-    add-j
+    next-region-requires
     sub-left
     loop-less
     loop-again

@@ -28,7 +28,7 @@ root-word-requires : tie.Need-root-word-requires Inv-loop μ-loop
 root-word-requires c κs = omega (arith, c .word .ensures .1)
 
 write-requires : tie.Need-write-requires Inv-loop μ-loop
-write-requires c κs = c .before .root-word .ensures .1
+write-requires c κs = omega (arith, c .before .root-word .ensures .1)
 
 add-i : tie.Need-add-i Inv-loop μ-loop
 add-i c = omega arith

@@ -26,7 +26,7 @@ word-requires : tie.Need-word-requires Inv-loop μ-loop
 word-requires c κs = search needs
 
 write-requires : tie.Need-write-requires Inv-loop μ-loop
-write-requires c κs = c .before .word .ensures .1
+write-requires c κs = omega (arith, c .before .word .ensures .1)
 
 add-i : tie.Need-add-i Inv-loop μ-loop
 add-i c = omega arith

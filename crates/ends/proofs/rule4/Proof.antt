@@ -43,8 +43,12 @@ few c = pages-few _ _ _ (c .before .before .before .before .before .before .befo
 cast-pages : tie.Need-cast-pages Inv-pages μ-pages Inv-regions μ-regions
 cast-pages c = omega (arith, few c)
 
+region-numbered-requires :
+    tie.Need-region-numbered-requires Inv-pages μ-pages Inv-regions μ-regions
+region-numbered-requires c κs = omega arith
+
 regions-holds : tie.Need-regions-holds Inv-pages μ-pages Inv-regions μ-regions
-regions-holds c = (refl, refl, omega arith)
+regions-holds c = (rw (c .region-numbered .ensures), refl, omega arith)
 
 top-fits-requires : tie.Need-top-fits-requires Inv-pages μ-pages Inv-regions μ-regions
 top-fits-requires c κs = omega arith
@@ -56,16 +60,16 @@ first-link-requires : tie.Need-first-link-requires Inv-pages μ-pages Inv-region
 first-link-requires c κs = omega arith
 
 pages-holds : tie.Need-pages-holds Inv-pages μ-pages Inv-regions μ-regions
-pages-holds c = (sym (four-open _ _ _ _ (c .before .before .before .before .before .before .page-count .ensures) _ _ (c .before .before .before .before .regions-test .taken) _ (sym (c .before .before .before .top-fits .ensures) ∙ not-false _ (c .before .before .if1 .left)) (c .first-link .ensures)) ∙ c .before .before .before .before .before .regions .inv .0, c .before .before .before .before .before .regions .inv .1)
+pages-holds c = (sym (four-open _ _ _ _ (c .before .before .before .before .before .before .before .page-count .ensures) _ _ (omega arith) _ (sym (c .before .before .before .top-fits .ensures) ∙ not-false _ (c .before .before .if1 .left)) (c .first-link .ensures)) ∙ c .before .before .before .before .before .regions .inv .0, c .before .before .before .before .before .regions .inv .1)
 
-over : (c : tie.Left-pages Inv-pages μ-pages Inv-regions μ-regions) → Over (c .before .before .before .before .before .before .before .before .before .before .before .before .before .before .before .args .c .n) (c .before .before .before .before .before .before .before .before .page-count .result) (c .before .before .before .before .before .before .before .before .before .before .before .before .before .before .before .args .heap .now) (c .before .before .before .before .before .before .before .before .page-count .ensures) (c .before .pages .left) (c .before .pages .link)
-over c = ⊎-elim (λ w. over-fuel _ _ _ _ _ _ (w .left)) (⊎-elim (λ w. over-none _ _ _ _ _ _ (w .1 .taken)) (λ w. over-bad _ _ _ _ _ _ (w .2 .taken))) (c .pages-test .came)
+over : (c : tie.Left-pages Inv-pages μ-pages Inv-regions μ-regions) → Over (c .before .before .before .before .before .before .before .before .before .before .before .before .before .before .before .before .args .c .n) (c .before .before .before .before .before .before .before .before .before .page-count .result) (c .before .before .before .before .before .before .before .before .before .before .before .before .before .before .before .before .args .heap .now) (c .before .before .before .before .before .before .before .before .before .page-count .ensures) (c .before .pages .left) (c .before .pages .link)
+over c = ⊎-elim (λ w. over-fuel _ _ _ _ _ _ (omega (arith, w .left))) (⊎-elim (λ w. over-none _ _ _ _ _ _ (omega (arith, w .1 .taken))) (λ w. over-bad _ _ _ _ _ _ (omega (arith, w .2 .taken)))) (c .pages-test .came)
 
 link-address-requires : tie.Need-link-address-requires Inv-pages μ-pages Inv-regions μ-regions
-link-address-requires c κs = omega (arith, few ((c .before .before .before .before .before .before .before .before .before .before)))
+link-address-requires c κs = omega (arith, few ((c .before .before .before .before .before .before .before .before .before .before .before)))
 
-here : (c : tie.After-link-address Inv-pages μ-pages Inv-regions μ-regions) → Inside (2 ^ c .before .before .before .before .before .before .before .before .before .before .before .before .before .before .before .before .before .before .args .c .n) (c .link-address .result .0) (length (c .before .before .before .before .before .before .before .before .before .before .before .before .before .before .before .before .before .before .args .heap .now))
-here c = page-here _ _ _ _ _ (c .before .before .before .before .before .before .before .before .before .before .before .before .before .before .before .before .before .before .pre .paged) (c .before .before .before .before .before .before .before .before .before .before .before .page-count .ensures) (c .link-address .ensures) (c .before .before .if2 .left) (c .before .if3 .left)
+here : (c : tie.After-link-address Inv-pages μ-pages Inv-regions μ-regions) → Inside (2 ^ c .before .before .before .before .before .before .before .before .before .before .before .before .before .before .before .before .before .before .before .args .c .n) (c .link-address .result .0) (length (c .before .before .before .before .before .before .before .before .before .before .before .before .before .before .before .before .before .before .before .args .heap .now))
+here c = page-here _ _ _ _ _ (c .before .before .before .before .before .before .before .before .before .before .before .before .before .before .before .before .before .before .before .pre .paged) (c .before .before .before .before .before .before .before .before .before .before .before .before .page-count .ensures) (c .link-address .ensures) (λ z. omega arith) (omega arith)
 
 mul-link : tie.Need-mul-link Inv-pages μ-pages Inv-regions μ-regions
 mul-link c = omega (arith, here c)
@@ -80,19 +84,19 @@ pages-less : tie.Need-pages-less Inv-pages μ-pages Inv-regions μ-regions
 pages-less c = omega arith
 
 pages-again : tie.Need-pages-again Inv-pages μ-pages Inv-regions μ-regions
-pages-again c = (sym (four-on _ _ _ _ (c .before .before .before .before .before .before .before .before .before .before .before .before .before .page-count .ensures) _ _ _ _ _ (c .before .before .before .before .before .before .before .before .end-of .ensures .0) (c .before .before .before .before .before .before .before .before .before .before .before .before .before .before .page-words .ensures) _ _ (c .before .before .link-address .ensures) (c .before .before .before .before .before .pages-test .taken) (c .before .before .before .before .if2 .left) (c .before .before .before .if3 .left) (c .if4 .taken)) ∙ c .before .before .before .before .before .before .pages .inv .0, c .before .before .before .before .before .before .pages .inv .1)
+pages-again c = (sym (four-on _ _ _ _ (c .before .before .before .before .before .before .before .before .before .before .before .before .before .before .page-count .ensures) _ _ _ _ _ (c .before .before .before .before .before .before .before .before .end-of .ensures .0) (c .before .before .before .before .before .before .before .before .before .before .before .before .before .before .before .page-words .ensures) _ _ (c .before .before .link-address .ensures) (omega arith) (λ z. omega arith) (omega arith) (omega arith)) ∙ c .before .before .before .before .before .before .pages .inv .0, c .before .before .before .before .before .before .pages .inv .1)
 
-add-if5 : tie.Need-add-if5 Inv-pages μ-pages Inv-regions μ-regions
-add-if5 c = omega (arith, here ((c .before .before)), c .before .before .before .before .before .before .before .before .before .before .before .before .before .before .page-words .ensures)
+address-behind-requires : tie.Need-address-behind-requires Inv-pages μ-pages Inv-regions μ-regions
+address-behind-requires c κs = omega (arith, here (c .before .before), c .before .before .before .before .before .before .before .before .before .before .before .before .before .before .before .page-words .ensures)
 
 pages-less-2 : tie.Need-pages-less-2 Inv-pages μ-pages Inv-regions μ-regions
 pages-less-2 c = omega arith
 
 pages-again-2 : tie.Need-pages-again-2 Inv-pages μ-pages Inv-regions μ-regions
-pages-again-2 c = (sym (four-at _ _ _ _ (c .before .before .before .before .before .before .before .before .before .before .before .before .before .before .page-count .ensures) _ _ _ _ _ (c .before .before .before .before .before .before .before .before .before .end-of .ensures .0) (c .before .before .before .before .before .before .before .before .before .before .before .before .before .before .before .page-words .ensures) _ _ (c .before .before .before .link-address .ensures) (c .before .before .before .before .before .before .pages-test .taken) (c .before .before .before .before .before .if2 .left) (c .before .before .before .before .if3 .left) (c .before .if4 .left) (c .if5 .left)) ∙ c .before .before .before .before .before .before .before .pages .inv .0, c .before .before .before .before .before .before .before .pages .inv .1)
+pages-again-2 c = (sym (four-at _ _ _ _ (c .before .before .before .before .before .before .before .before .before .before .before .before .before .before .before .before .before .before .page-count .ensures) _ _ _ _ _ (c .before .before .before .before .before .before .before .before .before .before .before .before .end-of .ensures .0) (c .before .before .before .before .before .before .before .before .before .before .before .before .before .before .before .before .before .before .before .page-words .ensures) _ _ (c .before .before .before .before .before .before .link-address .ensures) (omega arith) (λ z. omega arith) (omega arith) (omega arith) (omega arith)) ∙ c .before .before .before .before .before .before .before .before .before .before .pages .inv .0, c .before .before .before .before .before .before .before .before .before .before .pages .inv .1)
 
-add-t27 : tie.Need-add-t27 Inv-pages μ-pages Inv-regions μ-regions
-add-t27 c = omega arith
+next-region-requires : tie.Need-next-region-requires Inv-pages μ-pages Inv-regions μ-regions
+next-region-requires c κs = omega arith
 
 sub-regions-left : tie.Need-sub-regions-left Inv-pages μ-pages Inv-regions μ-regions
 sub-regions-left c = omega arith
@@ -101,16 +105,16 @@ regions-less : tie.Need-regions-less Inv-pages μ-pages Inv-regions μ-regions
 regions-less c = omega arith
 
 regions-again : tie.Need-regions-again Inv-pages μ-pages Inv-regions μ-regions
-regions-again c = (sym (pages-over _ _ _ _ _ _ _ _ (over ((c .before)))) ∙ c .before .before .pages .inv .0, c .before .before .pages .inv .1, omega arith)
+regions-again c = (rw (c .next-region .ensures) (sym (pages-over _ _ _ _ _ _ _ _ (over (c .before))) ∙ c .before .before .pages .inv .0), c .before .before .pages .inv .1, omega arith)
 
 returns : tie.Need-returns Inv-pages μ-pages Inv-regions μ-regions
-returns c = c .before .regions .inv .1 ∙ sym (from-end _ _ _ (c .regions-test .left)) ∙ c .before .regions .inv .0 ∙ four-each _ _ _ _ _
+returns c = c .before .regions .inv .1 ∙ sym (from-end _ _ _ (omega arith)) ∙ c .before .regions .inv .0 ∙ four-each _ _ _ _ _
 
 returns-2 : tie.Need-returns-2 Inv-pages μ-pages Inv-regions μ-regions
-returns-2 c = sym (four-shut _ _ _ _ (c .before .before .before .before .page-count .ensures) _ _ (c .before .before .regions-test .taken) (sym (c .before .top-fits .ensures) ∙ not-true _ (c .if1 .taken))) ∙ c .before .before .before .regions .inv .0 ∙ four-each _ _ _ _ _
+returns-2 c = sym (four-shut _ _ _ _ (c .before .before .before .before .before .page-count .ensures) _ _ (omega arith) (sym (c .before .top-fits .ensures) ∙ not-true _ (c .if1 .taken))) ∙ c .before .before .before .regions .inv .0 ∙ four-each _ _ _ _ _
 
 returns-3 : tie.Need-returns-3 Inv-pages μ-pages Inv-regions μ-regions
-returns-3 c = sym (four-off _ _ _ _ (c .before .before .before .before .before .before .before .before .before .before .before .before .before .before .page-count .ensures) _ _ _ _ _ (c .before .before .before .before .before .before .before .before .before .end-of .ensures .0) (c .before .before .before .before .before .before .before .before .before .before .before .before .before .before .before .page-words .ensures) _ _ (c .before .before .before .link-address .ensures) (c .before .before .before .before .before .before .pages-test .taken) (c .before .before .before .before .before .if2 .left) (c .before .before .before .before .if3 .left) (c .before .if4 .left) (c .if5 .taken)) ∙ c .before .before .before .before .before .before .before .pages .inv .0 ∙ four-each _ _ _ _ _
+returns-3 c = sym (four-off _ _ _ _ (c .before .before .before .before .before .before .before .before .before .before .before .before .before .before .before .before .before .before .page-count .ensures) _ _ _ _ _ (c .before .before .before .before .before .before .before .before .before .before .before .before .end-of .ensures .0) (c .before .before .before .before .before .before .before .before .before .before .before .before .before .before .before .before .before .before .before .page-words .ensures) _ _ (c .before .before .before .before .before .before .link-address .ensures) (omega arith) (λ z. omega arith) (omega arith) (omega arith) (λ z. omega arith)) ∙ c .before .before .before .before .before .before .before .before .before .before .pages .inv .0 ∙ four-each _ _ _ _ _
 
 pub rule4-spec : {M : Type 1} → statement M
 rule4-spec =
@@ -124,6 +128,7 @@ rule4-spec =
     page-words-requires
     page-count-requires
     cast-pages
+    region-numbered-requires
     regions-holds
     top-fits-requires
     end-of-requires
@@ -135,10 +140,10 @@ rule4-spec =
     sub-left
     pages-less
     pages-again
-    add-if5
+    address-behind-requires
     pages-less-2
     pages-again-2
-    add-t27
+    next-region-requires
     sub-regions-left
     regions-less
     regions-again

@@ -39,22 +39,22 @@ link-address-requires : tie.Need-link-address-requires Inv-pages μ-pages
 link-address-requires c κs = omega (arith, few ((c .before .before .before .before)))
 
 here : (c : tie.After-link-address Inv-pages μ-pages) → Inside (2 ^ c .before .before .before .before .before .before .before .before .before .before .before .args .c .n) (c .link-address .result .0) (length (c .before .before .before .before .before .before .before .before .before .before .before .args .heap .now))
-here c = page-here _ _ _ _ _ (c .before .before .before .before .before .before .before .before .before .before .before .pre .paged) (c .before .before .before .before .before .page-count .ensures) (c .link-address .ensures) (c .before .before .if1 .left) (c .before .if2 .left)
+here c = page-here _ _ _ _ _ (c .before .before .before .before .before .before .before .before .before .before .before .pre .paged) (c .before .before .before .before .before .page-count .ensures) (c .link-address .ensures) (λ z. omega arith) (omega arith)
 
-add-link : tie.Need-add-link Inv-pages μ-pages
-add-link c = omega (arith, here c)
+address-behind-requires : tie.Need-address-behind-requires Inv-pages μ-pages
+address-behind-requires c κs = omega (arith, here c)
 
-add-t19 : tie.Need-add-t19 Inv-pages μ-pages
-add-t19 c = omega (arith, here c, c .before .before .before .before .before .before .page-words .ensures)
+address-behind-requires-2 : tie.Need-address-behind-requires-2 Inv-pages μ-pages
+address-behind-requires-2 c κs = omega (arith, here (c .before), c .before .before .before .before .before .before .before .page-words .ensures)
 
 zero-between-requires : tie.Need-zero-between-requires Inv-pages μ-pages
-zero-between-requires c κs = omega (arith, here c, c .before .before .before .before .before .before .page-words .ensures)
+zero-between-requires c κs = omega (arith, here (c .before .before), c .before .before .before .before .before .before .before .before .page-words .ensures)
 
 mul-link : tie.Need-mul-link Inv-pages μ-pages
-mul-link c = omega (arith, here ((c .before .before)))
+mul-link c = omega (arith, here ((c .before .before .before .before)))
 
 shared-slice-read-link : tie.Need-shared-slice-read-link Inv-pages μ-pages
-shared-slice-read-link c = omega (arith, here ((c .before .before .before)))
+shared-slice-read-link c = omega (arith, here ((c .before .before .before .before .before)))
 
 sub-left : tie.Need-sub-left Inv-pages μ-pages
 sub-left c = omega arith
@@ -63,19 +63,19 @@ pages-less : tie.Need-pages-less Inv-pages μ-pages
 pages-less c = omega arith
 
 pages-again : tie.Need-pages-again Inv-pages μ-pages
-pages-again c = (sym (nine-go _ _ _ (c .before .before .before .before .before .before .before .before .page-count .ensures) _ _ _ (c .before .before .before .before .before .before .before .before .before .page-words .ensures) _ _ (c .before .before .before .link-address .ensures) (c .before .before .before .before .before .before .pages-test .taken) (c .before .before .before .before .before .if1 .left) (c .before .before .before .before .if2 .left) (sym (c .before .before .zero-between .ensures) ∙ not-false _ (c .before .if3 .left))) ∙ c .before .before .before .before .before .before .before .pages .inv .0, c .before .before .before .before .before .before .before .pages .inv .1)
+pages-again c = (sym (nine-go _ _ _ (c .before .before .before .before .before .before .before .before .before .before .page-count .ensures) _ _ _ (c .before .before .before .before .before .before .before .before .before .before .before .page-words .ensures) _ _ (c .before .before .before .before .before .link-address .ensures) (omega arith) (λ z. omega arith) (omega arith) (c .before .before .before .before .address-behind .result .0) (c .before .before .before .address-behind2 .result .0) (omega arith) (omega arith) (sym (c .before .before .zero-between .ensures) ∙ not-false _ (c .before .if3 .left))) ∙ c .before .before .before .before .before .before .before .before .before .pages .inv .0, c .before .before .before .before .before .before .before .before .before .pages .inv .1)
 
 returns : tie.Need-returns Inv-pages μ-pages
-returns c = c .before .pages .inv .1 ∙ sym (pages-over _ _ _ _ _ _ _ _ (over-fuel _ _ _ (c .before .before .page-count .ensures) _ _ (c .pages-test .left))) ∙ c .before .pages .inv .0 ∙ nine-open _ _ _ _ _ _ (c .before .before .page-count .ensures)
+returns c = c .before .pages .inv .1 ∙ sym (pages-over _ _ _ _ _ _ _ _ (over-fuel _ _ _ (c .before .before .page-count .ensures) _ _ (omega arith))) ∙ c .before .pages .inv .0 ∙ nine-open _ _ _ _ _ _ (c .before .before .page-count .ensures)
 
 returns-2 : tie.Need-returns-2 Inv-pages μ-pages
-returns-2 c = c .before .before .pages .inv .1 ∙ sym (pages-over _ _ _ _ _ _ _ _ (over-none _ _ _ (c .before .before .before .page-count .ensures) _ _ (c .if1 .taken))) ∙ c .before .before .pages .inv .0 ∙ nine-open _ _ _ _ _ _ (c .before .before .before .page-count .ensures)
+returns-2 c = c .before .before .pages .inv .1 ∙ sym (pages-over _ _ _ _ _ _ _ _ (over-none _ _ _ (c .before .before .before .page-count .ensures) _ _ (omega arith))) ∙ c .before .before .pages .inv .0 ∙ nine-open _ _ _ _ _ _ (c .before .before .before .page-count .ensures)
 
 returns-3 : tie.Need-returns-3 Inv-pages μ-pages
-returns-3 c = c .before .before .before .pages .inv .1 ∙ sym (pages-over _ _ _ _ _ _ _ _ (over-bad _ _ _ (c .before .before .before .before .page-count .ensures) _ _ (c .if2 .taken))) ∙ c .before .before .before .pages .inv .0 ∙ nine-open _ _ _ _ _ _ (c .before .before .before .before .page-count .ensures)
+returns-3 c = c .before .before .before .pages .inv .1 ∙ sym (pages-over _ _ _ _ _ _ _ _ (over-bad _ _ _ (c .before .before .before .before .page-count .ensures) _ _ (omega arith))) ∙ c .before .before .before .pages .inv .0 ∙ nine-open _ _ _ _ _ _ (c .before .before .before .before .page-count .ensures)
 
 returns-4 : tie.Need-returns-4 Inv-pages μ-pages
-returns-4 c = sym (nine-stop _ _ _ (c .before .before .before .before .before .before .before .page-count .ensures) _ _ _ (c .before .before .before .before .before .before .before .before .page-words .ensures) _ _ (c .before .before .link-address .ensures) (c .before .before .before .before .before .pages-test .taken) (c .before .before .before .before .if1 .left) (c .before .before .before .if2 .left) (sym (c .before .zero-between .ensures) ∙ not-true _ (c .if3 .taken))) ∙ c .before .before .before .before .before .before .pages .inv .0 ∙ nine-open _ _ _ _ _ _ (c .before .before .before .before .before .before .before .page-count .ensures)
+returns-4 c = sym (nine-stop _ _ _ (c .before .before .before .before .before .before .before .before .before .page-count .ensures) _ _ _ (c .before .before .before .before .before .before .before .before .before .before .page-words .ensures) _ _ (c .before .before .before .before .link-address .ensures) (omega arith) (λ z. omega arith) (omega arith) (c .before .before .before .address-behind .result .0) (c .before .before .address-behind2 .result .0) (omega arith) (omega arith) (sym (c .before .zero-between .ensures) ∙ not-true _ (c .if3 .taken))) ∙ c .before .before .before .before .before .before .before .before .pages .inv .0 ∙ nine-open _ _ _ _ _ _ (c .before .before .before .before .before .before .before .before .before .page-count .ensures)
 
 pub rule9-spec : {M : Type 1} → statement M
 rule9-spec =
@@ -88,8 +88,8 @@ rule9-spec =
     cast-pages
     pages-holds
     link-address-requires
-    add-link
-    add-t19
+    address-behind-requires
+    address-behind-requires-2
     zero-between-requires
     mul-link
     shared-slice-read-link

@@ -15,17 +15,17 @@ top-of-requires c κs = omega arith
 page-words-requires : tie.Need-page-words-requires
 page-words-requires c κs = omega arith
 
-add-if1 : tie.Need-add-if1
-add-if1 c = let z = page-size _ (c .before .before .before .before .before .pre .2) (c .before .before .before .before .before .pre .3) .1 in omega arith
+address-behind-requires : tie.Need-address-behind-requires
+address-behind-requires c κs = let z = page-size _ (c .before .before .before .before .pre .2) (c .before .before .before .before .pre .3) .1 in omega arith
 
-add-if1-2 : tie.Need-add-if1-2
-add-if1-2 c = omega arith
+address-behind-requires-2 : tie.Need-address-behind-requires-2
+address-behind-requires-2 c κs = omega arith
 
 returns : tie.Need-returns
-returns c = sym (top-low _ _ _ _ _ _ (c .before .before .before .before .before .end-of .ensures .0) (c .before .before .before .before .top-of .ensures .0) (c .before .before .before .page-words .ensures) (c .if1 .taken))
+returns c = sym (top-low _ _ _ _ _ _ (c .before .before .before .before .before .before .before .end-of .ensures .0) (c .before .before .before .before .before .before .top-of .ensures .0) (c .before .before .before .before .before .page-words .ensures) (omega arith))
 
 returns-2 : tie.Need-returns-2
-returns-2 c = sym (top-is _ _ _ _ _ _ (c .before .before .before .before .before .before .before .end-of .ensures .0) (c .before .before .before .before .before .before .top-of .ensures .0) (c .before .before .before .before .before .page-words .ensures) (c .before .before .if1 .left))
+returns-2 c = sym (top-is _ _ _ _ _ _ (c .before .before .before .before .before .before .before .before .before .end-of .ensures .0) (c .before .before .before .before .before .before .before .before .top-of .ensures .0) (c .before .before .before .before .before .before .before .page-words .ensures) (omega arith))
 
 pub top-fits-spec : {M : Type 1} → statement M
 top-fits-spec =
@@ -34,7 +34,7 @@ top-fits-spec =
     end-of-requires
     top-of-requires
     page-words-requires
-    add-if1
-    add-if1-2
+    address-behind-requires
+    address-behind-requires-2
     returns
     returns-2)

@@ -2,7 +2,7 @@
 use mathlib.Core.Path.{_≡_, refl, sym, _∙_}
 use mathlib.Core.Bool.{true, _&&_}
 use mathlib.Core.Logic.{⊎-elim}
-use Prim.Native.Nat.{_+_, _-_, _/_, _^_, _≤_}
+use Prim.Native.Nat.{_+_, _-_, _^_, _≤_}
 use native.Mathlib.Omega.{arith}
 use borrow.Author.Tests.{not-true, not-false}
 use lib.ListN.{length, getD}
@@ -14,7 +14,7 @@ use Rattle.rules.specs.Words.{valsIn, fieldsPass}
 use Rattle.rules.specs.Audit.{pagePass}
 use Rattle.rules.proofs.Headers.{fit-of}
 use Rattle.rules.proofs.Limits.{Inside, page-here, pages-few}
-use Rattle.rules.proofs.Stepping.{values-end, values-stop, values-raw, values-rec}
+use Rattle.rules.proofs.Stepping.{values-end, values-stop, raw-go, record-go}
 use Rattle.rules.proofs.Nests.{Over, over-fuel, over-none, over-bad, pages-over, regions-go}
 use Rattle.fields.specs.Passing.{passes}
 use Rattle.fields.proofs.Turns.{Records, page-records}
@@ -22,16 +22,16 @@ use Rattle.fields.proofs.records_pass.Statement.{statement}
 use Rattle.fields.proofs.records_pass.Tie as tie
 
 abbrev Inv-loop : tie.InvT-loop
-Inv-loop heap table consts n regions wanted below size pages fine₀ j regions-left link left base end at head next field₀ fine field = ((all (passes n regions heap consts wanted) (slice field next heap) && (all (fieldsPass (passes n regions heap consts wanted)) (valsIn heap next end) && (all (pagePass (passes n regions heap consts wanted) n heap) (chain (left - 1) n heap (getD heap base 0)) && Records (passes n regions heap consts wanted) n heap table (regions-left - 1) (j .0 + 1)))) ≡ Records (passes n regions heap consts wanted) n heap table below 0) × (fine ≡ true)
+Inv-loop heap table consts n regions wanted below size pages fine₀ j regions-left link left base end i head next field₀ fine field = ((all (passes n regions heap consts wanted) (slice (field .0) (next .0) heap) && (all (fieldsPass (passes n regions heap consts wanted)) (valsIn heap (next .0) (end .0)) && (all (pagePass (passes n regions heap consts wanted) n heap) (chain (left - 1) n heap (getD heap (base .0) 0)) && Records (passes n regions heap consts wanted) n heap table (regions-left - 1) (j .0 + 1)))) ≡ Records (passes n regions heap consts wanted) n heap table below 0) × (fine ≡ true)
 
 abbrev μ-loop : tie.MeasureT-loop
-μ-loop heap table consts n regions wanted below size pages fine₀ j regions-left link left base end at head next field₀ fine field = next - field
+μ-loop heap table consts n regions wanted below size pages fine₀ j regions-left link left base end i head next field₀ fine field = next .0 - field .0
 
 abbrev Inv-values : tie.InvT-values
-Inv-values heap table consts n regions wanted below size pages fine₀ j regions-left link left base end at₀ fine at = ((all (fieldsPass (passes n regions heap consts wanted)) (valsIn heap at end) && (all (pagePass (passes n regions heap consts wanted) n heap) (chain (left - 1) n heap (getD heap base 0)) && Records (passes n regions heap consts wanted) n heap table (regions-left - 1) (j .0 + 1))) ≡ Records (passes n regions heap consts wanted) n heap table below 0) × (fine ≡ true)
+Inv-values heap table consts n regions wanted below size pages fine₀ j regions-left link left base end at₀ fine at = ((all (fieldsPass (passes n regions heap consts wanted)) (valsIn heap (at .0) (end .0)) && (all (pagePass (passes n regions heap consts wanted) n heap) (chain (left - 1) n heap (getD heap (base .0) 0)) && Records (passes n regions heap consts wanted) n heap table (regions-left - 1) (j .0 + 1))) ≡ Records (passes n regions heap consts wanted) n heap table below 0) × (fine ≡ true)
 
 abbrev μ-values : tie.MeasureT-values
-μ-values heap table consts n regions wanted below size pages fine₀ j regions-left link left base end at₀ fine at = end - at
+μ-values heap table consts n regions wanted below size pages fine₀ j regions-left link left base end at₀ fine at = end .0 - at .0
 
 abbrev Inv-pages : tie.InvT-pages
 Inv-pages heap table consts n regions wanted below size pages fine₀ j regions-left link₀ left₀ fine link left = ((all (pagePass (passes n regions heap consts wanted) n heap) (chain left n heap link) && Records (passes n regions heap consts wanted) n heap table (regions-left - 1) (j .0 + 1)) ≡ Records (passes n regions heap consts wanted) n heap table below 0) × (fine ≡ true)
@@ -76,6 +76,18 @@ cast-pages :
     tie.Need-cast-pages Inv-loop μ-loop Inv-values μ-values Inv-pages μ-pages Inv-regions μ-regions
 cast-pages c = omega (arith, few c)
 
+region-numbered-requires :
+    tie.Need-region-numbered-requires
+    Inv-loop
+    μ-loop
+    Inv-values
+    μ-values
+    Inv-pages
+    μ-pages
+    Inv-regions
+    μ-regions
+region-numbered-requires c κs = omega arith
+
 regions-holds :
     tie.Need-regions-holds
     Inv-loop
@@ -86,7 +98,7 @@ regions-holds :
     μ-pages
     Inv-regions
     μ-regions
-regions-holds c = (refl, refl, omega arith)
+regions-holds c = (rw (c .region-numbered .ensures), refl, omega arith)
 
 first-link-requires :
     tie.Need-first-link-requires
@@ -110,9 +122,9 @@ pages-holds :
     μ-pages
     Inv-regions
     μ-regions
-pages-holds c = (sym (regions-go _ _ _ _ _ _ _ _ (c .before .before .before .page-count .ensures) (c .first-link .ensures) (c .before .regions-test .taken)) ∙ c .before .before .regions .inv .0, c .before .before .regions .inv .1)
+pages-holds c = (sym (regions-go _ _ _ _ _ _ _ _ (c .before .before .before .before .page-count .ensures) (c .first-link .ensures) (c .before .regions-test .taken)) ∙ c .before .before .regions .inv .0, c .before .before .regions .inv .1)
 
-over : (c : tie.Left-pages Inv-loop μ-loop Inv-values μ-values Inv-pages μ-pages Inv-regions μ-regions) → Over (c .before .before .before .before .before .before .before .before .before .before .args .n) (c .before .before .before .before .before .page-count .result) (c .before .before .before .before .before .before .before .before .before .before .args .heap .now) (c .before .before .before .before .before .page-count .ensures) (c .before .pages .left) (c .before .pages .link)
+over : (c : tie.Left-pages Inv-loop μ-loop Inv-values μ-values Inv-pages μ-pages Inv-regions μ-regions) → Over (c .before .before .before .before .before .before .before .before .before .before .before .args .n) (c .before .before .before .before .before .before .page-count .result) (c .before .before .before .before .before .before .before .before .before .before .before .args .heap .now) (c .before .before .before .before .before .before .page-count .ensures) (c .before .pages .left) (c .before .pages .link)
 over c = ⊎-elim (λ w. over-fuel _ _ _ _ _ _ (w .left)) (⊎-elim (λ w. over-none _ _ _ _ _ _ (w .1 .taken)) (λ w. over-bad _ _ _ _ _ _ (w .2 .taken))) (c .pages-test .came)
 
 link-address-requires :
@@ -125,21 +137,37 @@ link-address-requires :
     μ-pages
     Inv-regions
     μ-regions
-link-address-requires c κs = omega (arith, few ((c .before .before .before .before .before .before .before)))
+link-address-requires c κs = omega (arith, few (c .before .before .before .before .before .before .before .before))
 
-here : (c : tie.After-link-address Inv-loop μ-loop Inv-values μ-values Inv-pages μ-pages Inv-regions μ-regions) → Inside (2 ^ c .before .before .before .before .before .before .before .before .before .before .before .before .before .args .n) (c .link-address .result .0) (length (c .before .before .before .before .before .before .before .before .before .before .before .before .before .args .heap .now))
-here c = page-here _ _ _ _ _ (c .before .before .before .before .before .before .before .before .before .before .before .before .before .pre .0) (c .before .before .before .before .before .before .before .before .page-count .ensures) (c .link-address .ensures) (c .before .before .if1 .left) (c .before .if2 .left)
+here : (c : tie.After-link-address Inv-loop μ-loop Inv-values μ-values Inv-pages μ-pages Inv-regions μ-regions) → Inside (2 ^ c .before .before .before .before .before .before .before .before .before .before .before .before .before .before .args .n) (c .link-address .result .0) (length (c .before .before .before .before .before .before .before .before .before .before .before .before .before .before .args .heap .now))
+here c = page-here _ _ _ _ _ (c .before .before .before .before .before .before .before .before .before .before .before .before .before .before .pre .0) (c .before .before .before .before .before .before .before .before .before .page-count .ensures) (c .link-address .ensures) (c .before .before .if1 .left) (c .before .if2 .left)
 
-inside : (c : tie.After-link-address Inv-loop μ-loop Inv-values μ-values Inv-pages μ-pages Inv-regions μ-regions) → c .link-address .result .0 + c .before .before .before .before .before .before .before .before .before .page-words .result ≤ length (c .before .before .before .before .before .before .before .before .before .before .before .before .before .args .heap .now)
-inside c = omega (arith, here c, c .before .before .before .before .before .before .before .before .before .page-words .ensures)
+address-behind-requires :
+    tie.Need-address-behind-requires
+    Inv-loop
+    μ-loop
+    Inv-values
+    μ-values
+    Inv-pages
+    μ-pages
+    Inv-regions
+    μ-regions
+address-behind-requires c κs = omega (arith, here c, c .before .before .before .before .before .before .before .before .before .before .page-words .ensures)
 
-add-end :
-    tie.Need-add-end Inv-loop μ-loop Inv-values μ-values Inv-pages μ-pages Inv-regions μ-regions
-add-end c = omega (arith, here c, c .before .before .before .before .before .before .before .before .before .page-words .ensures)
+inside : (c : tie.After-address-behind Inv-loop μ-loop Inv-values μ-values Inv-pages μ-pages Inv-regions μ-regions) → c .address-behind .result .0 ≤ length (c .before .before .before .before .before .before .before .before .before .before .before .before .before .before .before .args .heap .now)
+inside c = omega (arith, here (c .before), c .before .before .before .before .before .before .before .before .before .before .before .page-words .ensures)
 
-add-at :
-    tie.Need-add-at Inv-loop μ-loop Inv-values μ-values Inv-pages μ-pages Inv-regions μ-regions
-add-at c = omega (arith, here c)
+address-behind-requires-2 :
+    tie.Need-address-behind-requires-2
+    Inv-loop
+    μ-loop
+    Inv-values
+    μ-values
+    Inv-pages
+    μ-pages
+    Inv-regions
+    μ-regions
+address-behind-requires-2 c κs = omega (arith, here (c .before))
 
 values-holds :
     tie.Need-values-holds
@@ -151,11 +179,11 @@ values-holds :
     μ-pages
     Inv-regions
     μ-regions
-values-holds c = (sym (page-records _ _ _ _ (c .before .before .before .before .before .before .before .before .page-count .ensures) _ _ _ (c .before .before .before .before .before .before .before .before .before .page-words .ensures) _ _ (c .link-address .ensures) (c .before .before .before .pages-test .taken) (c .before .before .if1 .left) (c .before .if2 .left)) ∙ c .before .before .before .before .pages .inv .0, c .before .before .before .before .pages .inv .1)
+values-holds c = (sym (page-records _ _ _ _ (c .before .before .before .before .before .before .before .before .before .before .before .page-count .ensures) _ _ _ (c .before .before .before .before .before .before .before .before .before .before .before .before .page-words .ensures) _ _ (c .before .before .link-address .ensures) (c .before .before .before .before .before .pages-test .taken) (c .before .before .before .before .if1 .left) (c .before .before .before .if2 .left) _ _ (c .address-behind2 .ensures) (c .before .address-behind .ensures)) ∙ c .before .before .before .before .before .before .pages .inv .0, c .before .before .before .before .before .before .pages .inv .1)
 
 mul-head :
     tie.Need-mul-head Inv-loop μ-loop Inv-values μ-values Inv-pages μ-pages Inv-regions μ-regions
-mul-head c = omega (arith, here ((c .before .before)), c .before .before .before .before .before .before .before .before .before .before .before .page-words .ensures)
+mul-head c = omega (arith, here (c .before .before .before .before .before .before), inside (c .before .before .before .before .before))
 
 shared-slice-read-head :
     tie.Need-shared-slice-read-head
@@ -167,11 +195,11 @@ shared-slice-read-head :
     μ-pages
     Inv-regions
     μ-regions
-shared-slice-read-head c = omega (arith, (inside ((c .before .before .before))))
+shared-slice-read-head c = omega (arith, (inside (c .before .before .before .before .before .before)))
 
 add-fits :
     tie.Need-add-fits Inv-loop μ-loop Inv-values μ-values Inv-pages μ-pages Inv-regions μ-regions
-add-fits c = omega (arith, here ((c .before .before .before)), c .before .before .before .before .before .before .before .before .before .before .before .before .page-words .ensures)
+add-fits c = omega (arith, here (c .before .before .before .before .before .before .before .before), inside (c .before .before .before .before .before .before .before))
 
 sub-fits :
     tie.Need-sub-fits Inv-loop μ-loop Inv-values μ-values Inv-pages μ-pages Inv-regions μ-regions
@@ -189,20 +217,44 @@ fits-requires :
     μ-regions
 fits-requires c κs = omega arith
 
-add-next :
-    tie.Need-add-next Inv-loop μ-loop Inv-values μ-values Inv-pages μ-pages Inv-regions μ-regions
-add-next c = omega (arith, here ((c .before .before .before .before .before)), c .before .before .before .before .before .before .before .before .before .before .before .before .before .before .page-words .ensures)
+cast-address-behind :
+    tie.Need-cast-address-behind
+    Inv-loop
+    μ-loop
+    Inv-values
+    μ-values
+    Inv-pages
+    μ-pages
+    Inv-regions
+    μ-regions
+cast-address-behind c = omega (arith, c .before .before .before .before .shared-slice-known4 .given (c .before .before .before .before .before .before .before .before .values .at .0))
 
-cast-next :
-    tie.Need-cast-next Inv-loop μ-loop Inv-values μ-values Inv-pages μ-pages Inv-regions μ-regions
-cast-next c = omega (arith, c .before .before .shared-slice-known4 .given (c .before .before .before .before .values .at))
+add-address-behind :
+    tie.Need-add-address-behind
+    Inv-loop
+    μ-loop
+    Inv-values
+    μ-values
+    Inv-pages
+    μ-pages
+    Inv-regions
+    μ-regions
+add-address-behind c = omega (arith, c .before .before .before .before .shared-slice-known4 .given (c .before .before .before .before .before .before .before .before .values .at .0))
 
-add-next-2 :
-    tie.Need-add-next-2 Inv-loop μ-loop Inv-values μ-values Inv-pages μ-pages Inv-regions μ-regions
-add-next-2 c = omega (arith, here ((c .before .before .before .before .before)), c .before .before .before .before .before .before .before .before .before .before .before .before .before .before .page-words .ensures, c .before .before .shared-slice-known4 .given (c .before .before .before .before .values .at))
+address-behind-requires-3 :
+    tie.Need-address-behind-requires-3
+    Inv-loop
+    μ-loop
+    Inv-values
+    μ-values
+    Inv-pages
+    μ-pages
+    Inv-regions
+    μ-regions
+address-behind-requires-3 c κs = omega (arith, here (c .before .before .before .before .before .before .before .before .before .before .before), inside (c .before .before .before .before .before .before .before .before .before .before), c .before .before .before .before .shared-slice-known4 .given (c .before .before .before .before .before .before .before .before .values .at .0))
 
-within : (c : tie.Else3 Inv-loop μ-loop Inv-values μ-values Inv-pages μ-pages Inv-regions μ-regions) → c .before .before .before .before .values .at + 1 + getD (c .before .before .before .before .before .before .before .before .before .before .before .before .before .before .before .before .before .before .args .heap .now) (c .before .before .before .before .values .at) 0 / 8 ≤ length (c .before .before .before .before .before .before .before .before .before .before .before .before .before .before .before .before .before .before .args .heap .now)
-within c = let f = fit-of _ _ (sym (c .before .fits2 .ensures) ∙ not-false _ (c .if3 .left)) .1 in omega (arith, inside ((c .before .before .before .before .before)))
+within : (c : tie.After-address-behind3 Inv-loop μ-loop Inv-values μ-values Inv-pages μ-pages Inv-regions μ-regions) → c .address-behind3 .result .0 ≤ length (c .before .before .before .before .before .before .before .before .before .before .before .before .before .before .before .before .before .before .before .before .before .before .before .before .before .before .args .heap .now)
+within c = let f = fit-of _ _ (sym (c .before .before .fits2 .ensures) ∙ not-false _ (c .before .if4 .left)) .1 in omega (arith, inside (c .before .before .before .before .before .before .before .before .before .before .before))
 
 is-record-requires :
     tie.Need-is-record-requires
@@ -238,15 +290,23 @@ values-again :
     μ-pages
     Inv-regions
     μ-regions
-values-again c = (sym (values-raw _ _ _ _ _ (c .before .before .before .before .before .values-test .taken) (inside ((c .before .before .before .before .before .before .before))) (sym (c .before .before .before .fits2 .ensures) ∙ not-false _ (c .before .before .if3 .left)) (sym (c .before .is-record .ensures) ∙ not-true _ (c .if4 .taken))) ∙ c .before .before .before .before .before .before .values .inv .0, c .before .before .before .before .before .before .values .inv .1)
+values-again c = (sym (raw-go _ _ _ _ _ (c .before .before .before .before .before .before .before .before .if3 .taken) (inside (c .before .before .before .before .before .before .before .before .before .before .before .before .before)) (sym (c .before .before .before .before .fits2 .ensures) ∙ not-false _ (c .before .before .before .if4 .left)) _ (c .before .before .address-behind3 .ensures) (sym (c .before .is-record .ensures) ∙ not-true _ (c .if5 .taken))) ∙ c .before .before .before .before .before .before .before .before .before .before .before .values .inv .0, c .before .before .before .before .before .before .before .before .before .before .before .values .inv .1)
 
-add-field :
-    tie.Need-add-field Inv-loop μ-loop Inv-values μ-values Inv-pages μ-pages Inv-regions μ-regions
-add-field c = omega (arith, here ((c .before .before .before .before .before .before .before)), c .before .before .before .before .before .before .before .before .before .before .before .before .before .before .before .before .page-words .ensures)
+address-behind-requires-4 :
+    tie.Need-address-behind-requires-4
+    Inv-loop
+    μ-loop
+    Inv-values
+    μ-values
+    Inv-pages
+    μ-pages
+    Inv-regions
+    μ-regions
+address-behind-requires-4 c κs = omega (arith, here (c .before .before .before .before .before .before .before .before .before .before .before .before .before .before), inside (c .before .before .before .before .before .before .before .before .before .before .before .before .before))
 
 loop-holds :
     tie.Need-loop-holds Inv-loop μ-loop Inv-values μ-values Inv-pages μ-pages Inv-regions μ-regions
-loop-holds c = (sym (values-rec _ _ _ _ _ (c .before .before .before .before .before .values-test .taken) (inside ((c .before .before .before .before .before .before .before))) (sym (c .before .before .before .fits2 .ensures) ∙ not-false _ (c .before .before .if3 .left)) (sym (c .before .is-record .ensures) ∙ not-false _ (c .if4 .left))) ∙ c .before .before .before .before .before .before .values .inv .0, c .before .before .before .before .before .before .values .inv .1)
+loop-holds c = (sym (record-go _ _ _ _ _ (c .before .before .before .before .before .before .before .before .before .if3 .taken) (inside (c .before .before .before .before .before .before .before .before .before .before .before .before .before .before)) (sym (c .before .before .before .before .before .fits2 .ensures) ∙ not-false _ (c .before .before .before .before .if4 .left)) _ (c .before .before .before .address-behind3 .ensures) (sym (c .before .before .is-record .ensures) ∙ not-false _ (c .before .if5 .left)) (c .address-behind4 .result .0) (omega arith)) ∙ c .before .before .before .before .before .before .before .before .before .before .before .before .values .inv .0, c .before .before .before .before .before .before .before .before .before .before .before .before .values .inv .1)
 
 mul-word-passes :
     tie.Need-mul-word-passes
@@ -258,7 +318,7 @@ mul-word-passes :
     μ-pages
     Inv-regions
     μ-regions
-mul-word-passes c = omega (arith, here ((c .before .before .before .before .before .before .before .before .before)), within ((c .before .before .before .before)))
+mul-word-passes c = omega (arith, here (c .before .before .before .before .before .before .before .before .before .before .before .before .before .before .before .before .before .before .before), within (c .before .before .before .before .before .before .before))
 
 shared-slice-read-word-passes :
     tie.Need-shared-slice-read-word-passes
@@ -270,7 +330,7 @@ shared-slice-read-word-passes :
     μ-pages
     Inv-regions
     μ-regions
-shared-slice-read-word-passes c = omega (arith, within ((c .before .before .before .before .before)))
+shared-slice-read-word-passes c = omega (arith, within (c .before .before .before .before .before .before .before .before))
 
 word-passes-requires :
     tie.Need-word-passes-requires
@@ -282,10 +342,10 @@ word-passes-requires :
     μ-pages
     Inv-regions
     μ-regions
-word-passes-requires c κs = (c .before .before .before .before .before .before .before .before .before .before .before .before .before .before .before .before .before .before .before .before .before .before .before .pre .0, c .before .before .before .before .before .before .before .before .before .before .before .before .before .before .before .before .before .before .before .before .before .before .before .pre .2)
+word-passes-requires c κs = (c .before .before .before .before .before .before .before .before .before .before .before .before .before .before .before .before .before .before .before .before .before .before .before .before .before .before .before .before .before .before .before .before .before .before .pre .0, c .before .before .before .before .before .before .before .before .before .before .before .before .before .before .before .before .before .before .before .before .before .before .before .before .before .before .before .before .before .before .before .before .before .before .pre .2)
 
-add-field-2 :
-    tie.Need-add-field-2
+address-behind-requires-5 :
+    tie.Need-address-behind-requires-5
     Inv-loop
     μ-loop
     Inv-values
@@ -294,7 +354,7 @@ add-field-2 :
     μ-pages
     Inv-regions
     μ-regions
-add-field-2 c = omega (arith, here ((c .before .before .before .before .before .before .before .before .before .before .before .before)), within ((c .before .before .before .before .before .before .before)))
+address-behind-requires-5 c κs = omega (arith, here (c .before .before .before .before .before .before .before .before .before .before .before .before .before .before .before .before .before .before .before .before .before .before), within (c .before .before .before .before .before .before .before .before .before .before))
 
 loop-less :
     tie.Need-loop-less Inv-loop μ-loop Inv-values μ-values Inv-pages μ-pages Inv-regions μ-regions
@@ -302,7 +362,7 @@ loop-less c = omega arith
 
 loop-again :
     tie.Need-loop-again Inv-loop μ-loop Inv-values μ-values Inv-pages μ-pages Inv-regions μ-regions
-loop-again c = (sym (fields-go _ _ _ _ _ (c .before .before .before .loop-test .taken) (within ((c .before .before .before .before .before .before .before))) (sym (c .before .word-passes .ensures) ∙ not-false _ (c .if5 .left))) ∙ c .before .before .before .before .loop .inv .0, c .before .before .before .before .loop .inv .1)
+loop-again c = (rw (c .address-behind5 .ensures) (sym (fields-go _ _ _ _ _ (c .before .before .before .before .if6 .taken) (within (c .before .before .before .before .before .before .before .before .before .before .before)) (sym (c .before .before .word-passes .ensures) ∙ not-false _ (c .before .if7 .left))) ∙ c .before .before .before .before .before .before .before .loop .inv .0), c .before .before .before .before .before .before .before .loop .inv .1)
 
 values-less-2 :
     tie.Need-values-less-2
@@ -326,11 +386,11 @@ values-again-2 :
     μ-pages
     Inv-regions
     μ-regions
-values-again-2 c = (sym (fields-end _ _ _ _ _ (c .loop-test .left)) ∙ c .before .loop .inv .0, c .before .loop .inv .1)
+values-again-2 c = (sym (fields-end _ _ _ _ _ (c .if6 .left)) ∙ c .before .before .before .loop .inv .0, c .before .before .before .loop .inv .1)
 
 mul-link :
     tie.Need-mul-link Inv-loop μ-loop Inv-values μ-values Inv-pages μ-pages Inv-regions μ-regions
-mul-link c = omega (arith, here ((c .before .before)))
+mul-link c = omega (arith, here (c .before .before .before .before .before .before))
 
 shared-slice-read-link :
     tie.Need-shared-slice-read-link
@@ -342,7 +402,7 @@ shared-slice-read-link :
     μ-pages
     Inv-regions
     μ-regions
-shared-slice-read-link c = omega (arith, here ((c .before .before .before)))
+shared-slice-read-link c = omega (arith, here (c .before .before .before .before .before .before .before))
 
 sub-left :
     tie.Need-sub-left Inv-loop μ-loop Inv-values μ-values Inv-pages μ-pages Inv-regions μ-regions
@@ -362,11 +422,19 @@ pages-again :
     μ-pages
     Inv-regions
     μ-regions
-pages-again c = (⊎-elim (λ w. sym (values-end _ _ _ _ _ (w .left)) ∙ c .before .before .values .inv .0) (λ w. sym (values-stop _ _ _ _ _ (w .0 .taken) (inside ((c .before .before .before))) (sym (w .2 .ensures) ∙ not-true _ (w .3 .taken))) ∙ c .before .before .values .inv .0) (c .before .values-test .came), c .before .before .values .inv .1)
+pages-again c = (⊎-elim (λ w. sym (values-end _ _ _ _ _ (w .left)) ∙ c .before .before .before .before .values .inv .0) (λ w. sym (values-stop _ _ _ _ _ (w .0 .taken) (inside (c .before .before .before .before .before .before)) (sym (w .4 .ensures) ∙ not-true _ (w .5 .taken))) ∙ c .before .before .before .before .values .inv .0) (c .before .if3 .came), c .before .before .before .before .values .inv .1)
 
-add-t40 :
-    tie.Need-add-t40 Inv-loop μ-loop Inv-values μ-values Inv-pages μ-pages Inv-regions μ-regions
-add-t40 c = omega arith
+next-region-requires :
+    tie.Need-next-region-requires
+    Inv-loop
+    μ-loop
+    Inv-values
+    μ-values
+    Inv-pages
+    μ-pages
+    Inv-regions
+    μ-regions
+next-region-requires c κs = omega arith
 
 sub-regions-left :
     tie.Need-sub-regions-left
@@ -402,7 +470,7 @@ regions-again :
     μ-pages
     Inv-regions
     μ-regions
-regions-again c = (sym (pages-over _ _ _ _ _ _ _ _ (over ((c .before)))) ∙ c .before .before .pages .inv .0, c .before .before .pages .inv .1, omega arith)
+regions-again c = (rw (c .next-region .ensures) (sym (pages-over _ _ _ _ _ _ _ _ (over (c .before))) ∙ c .before .before .pages .inv .0), c .before .before .pages .inv .1, omega arith)
 
 returns :
     tie.Need-returns Inv-loop μ-loop Inv-values μ-values Inv-pages μ-pages Inv-regions μ-regions
@@ -410,7 +478,7 @@ returns c = c .before .regions .inv .1 ∙ sym (from-end _ _ _ (c .regions-test 
 
 returns-2 :
     tie.Need-returns-2 Inv-loop μ-loop Inv-values μ-values Inv-pages μ-pages Inv-regions μ-regions
-returns-2 c = sym (fields-stop _ _ _ _ _ (c .before .before .before .loop-test .taken) (within ((c .before .before .before .before .before .before .before))) (sym (c .before .word-passes .ensures) ∙ not-true _ (c .if5 .taken))) ∙ c .before .before .before .before .loop .inv .0
+returns-2 c = sym (fields-stop _ _ _ _ _ (c .before .before .before .if6 .taken) (within (c .before .before .before .before .before .before .before .before .before .before)) (sym (c .before .word-passes .ensures) ∙ not-true _ (c .if7 .taken))) ∙ c .before .before .before .before .before .before .loop .inv .0
 
 pub records-pass-spec : {M : Type 1} → statement M
 records-pass-spec =
@@ -427,30 +495,31 @@ records-pass-spec =
     page-words-requires
     page-count-requires
     cast-pages
+    region-numbered-requires
     regions-holds
     first-link-requires
     pages-holds
     link-address-requires
-    add-end
-    add-at
+    address-behind-requires
+    address-behind-requires-2
     values-holds
     mul-head
     shared-slice-read-head
     add-fits
     sub-fits
     fits-requires
-    add-next
-    cast-next
-    add-next-2
+    cast-address-behind
+    add-address-behind
+    address-behind-requires-3
     is-record-requires
     values-less
     values-again
-    add-field
+    address-behind-requires-4
     loop-holds
     mul-word-passes
     shared-slice-read-word-passes
     word-passes-requires
-    add-field-2
+    address-behind-requires-5
     loop-less
     loop-again
     values-less-2
@@ -460,7 +529,7 @@ records-pass-spec =
     sub-left
     pages-less
     pages-again
-    add-t40
+    next-region-requires
     sub-regions-left
     regions-less
     regions-again

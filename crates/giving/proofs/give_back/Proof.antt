@@ -14,13 +14,13 @@ add-count : tie.Need-add-count
 add-count c = search needs
 
 clear-page-requires : tie.Need-clear-page-requires
-clear-page-requires c κs = (c .before .before .before .before .pre .0 .paged, c .before .before .before .before .pre .1)
+clear-page-requires c κs = (c .before .before .before .before .pre .0 .paged, omega arith)
 
 same-length : tie.Need-same-length
 same-length c = search needs
 
 returns : tie.Need-returns
-returns c = given-alone _ _ _ _ _ (c .before .before .before .before .clear-page .ensures) (c .before .before .before .before .before .before .before .page-link .ensures) (c .if1 .taken)
+returns c = given-alone _ _ _ _ _ _ (c .before .before .before .before .clear-page .ensures) (c .before .before .before .before .before .before .before .page-link .ensures) (omega arith) (omega arith)
 
 link-address-requires : tie.Need-link-address-requires
 link-address-requires c κs =
@@ -30,13 +30,13 @@ link-address-requires c κs =
 
 mul-heap : tie.Need-mul-heap
 mul-heap c =
-    let i = page-here _ _ _ _ _ (c .before .before .before .before .before .before .before .before .before .before .pre .0 .paged) refl (c .link-address .ensures) (c .before .if1 .left) (c .before .before .before .before .before .before .before .before .before .before .pre .0 .last) in
+    let i = page-here _ _ _ _ _ (c .before .before .before .before .before .before .before .before .before .before .pre .0 .paged) refl (c .link-address .ensures) (λ z. omega arith) (c .before .before .before .before .before .before .before .before .before .before .pre .0 .last) in
     let z = c .before .before .before .before .before .before .before .before .before .before .pre .0 .paged .size in
     omega arith
 
 slice-write-heap : tie.Need-slice-write-heap
 slice-write-heap c =
-    let i = page-here _ _ _ _ _ (c .before .before .before .before .before .before .before .before .before .before .pre .0 .paged) refl (c .link-address .ensures) (c .before .if1 .left) (c .before .before .before .before .before .before .before .before .before .before .pre .0 .last) in
+    let i = page-here _ _ _ _ _ (c .before .before .before .before .before .before .before .before .before .before .pre .0 .paged) refl (c .link-address .ensures) (λ z. omega arith) (c .before .before .before .before .before .before .before .before .before .before .pre .0 .last) in
     let e = c .before .before .before .before .before .clear-page .kept .0 in
     omega arith
 
@@ -44,7 +44,7 @@ same-length-2 : tie.Need-same-length-2
 same-length-2 c = search needs
 
 returns-2 : tie.Need-returns-2
-returns-2 c = given-behind _ _ _ _ _ (c .before .before .before .before .before .clear-page .ensures) (c .before .before .before .before .before .before .before .before .page-link .ensures) _ (c .before .if1 .left) (c .link-address .ensures)
+returns-2 c = given-behind _ _ _ _ _ _ (c .before .before .before .before .before .clear-page .ensures) (c .before .before .before .before .before .before .before .before .page-link .ensures) (omega arith) _ (λ z. omega arith) (c .link-address .ensures)
 
 pub give-back-spec : {M : Type 1} → statement M
 give-back-spec =

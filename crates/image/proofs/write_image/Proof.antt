@@ -57,20 +57,20 @@ text-length-requires c κs = tests-admit _ _ _ _ _ (c .before .before .before .b
 
 returns-3 : tie.Need-returns-3
 unfolding writeImage
-returns-3 c = let f = tests-pass _ _ _ _ _ (c .before .before .before .before .before .before .before .before .first-tests .ensures) (c .before .before .before .before .before .before .enum-told .given .1) in rw (f .0, f .1, ap zeros (sym (part-rest (c .before .before .before .before .before .before .before .before .before .before .before .before .before .before .args .table .now) (4 * c .before .before .before .before .before .before .before .before .before .before .before .before .before .before .args .c .regions))) ∙ sym (c .before .before .before .all-zero .ensures) ∙ not-false _ (c .before .before .if1 .left)) (sym (text-long (lent (c .before .before .before .before .before .before .before .before .before .before .before .before .before .before .args .heap .now) (c .before .before .before .before .before .before .before .before .before .before .before .before .before .before .args .table .now) (c .before .before .before .before .before .before .before .before .before .before .before .before .before .before .args .roots .now) (c .before .before .before .before .before .before .before .before .before .before .before .before .before .before .args .consts .now) (c .before .before .before .before .before .before .before .before .before .before .before .before .before .before .args .c)) _ _ (c .before .text-length .ensures .0) (c .if2 .taken)))
+returns-3 c = let f = tests-pass _ _ _ _ _ (c .before .before .before .before .before .before .before .before .first-tests .ensures) (c .before .before .before .before .before .before .enum-told .given .1) in rw (f .0, f .1, ap zeros (sym (part-rest (c .before .before .before .before .before .before .before .before .before .before .before .before .before .before .args .table .now) (4 * c .before .before .before .before .before .before .before .before .before .before .before .before .before .before .args .c .regions))) ∙ sym (c .before .before .before .all-zero .ensures) ∙ not-false _ (c .before .before .if1 .left)) (sym (text-long (lent (c .before .before .before .before .before .before .before .before .before .before .before .before .before .before .args .heap .now) (c .before .before .before .before .before .before .before .before .before .before .before .before .before .before .args .table .now) (c .before .before .before .before .before .before .before .before .before .before .before .before .before .before .args .roots .now) (c .before .before .before .before .before .before .before .before .before .before .before .before .before .before .args .consts .now) (c .before .before .before .before .before .before .before .before .before .before .before .before .before .before .args .c)) _ _ (c .before .text-length .ensures .0) (omega arith)))
 
 write-text-requires : tie.Need-write-text-requires
 write-text-requires c κs = (tests-admit _ _ _ _ _ (c .before .before .before .before .before .before .before .before .before .first-tests .ensures) (c .before .before .before .before .before .before .before .enum-told .given .1), omega (arith, c .before .before .text-length .ensures .0))
 
-cast-t25 : tie.Need-cast-t25
-cast-t25 c = search needs
+cast-answer : tie.Need-cast-answer
+cast-answer c = search needs
 
 same-length : tie.Need-same-length
 same-length c = search needs
 
 returns-4 : tie.Need-returns-4
 unfolding writeImage
-returns-4 c = let f = tests-pass _ _ _ _ _ (c .before .before .before .before .before .before .before .before .before .before .before .before .first-tests .ensures) (c .before .before .before .before .before .before .before .before .before .before .enum-told .given .1) in rw (f .0, f .1, ap zeros (sym (part-rest (c .before .before .before .before .before .before .before .before .before .before .before .before .before .before .before .before .before .before .args .table .now) (4 * c .before .before .before .before .before .before .before .before .before .before .before .before .before .before .before .before .before .before .args .c .regions))) ∙ sym (c .before .before .before .before .before .before .before .all-zero .ensures) ∙ not-false _ (c .before .before .before .before .before .before .if1 .left)) (sym (text-done (lent (c .before .before .before .before .before .before .before .before .before .before .before .before .before .before .before .before .before .before .args .heap .now) (c .before .before .before .before .before .before .before .before .before .before .before .before .before .before .before .before .before .before .args .table .now) (c .before .before .before .before .before .before .before .before .before .before .before .before .before .before .before .before .before .before .args .roots .now) (c .before .before .before .before .before .before .before .before .before .before .before .before .before .before .before .before .before .before .args .consts .now) (c .before .before .before .before .before .before .before .before .before .before .before .before .before .before .before .before .before .before .args .c)) _ _ (c .before .before .before .before .before .text-length .ensures .0) _ (c .before .before .before .before .if2 .left) (c .before .before .write-text .ensures)))
+returns-4 c = let f = tests-pass _ _ _ _ _ (c .before .before .before .before .before .before .before .before .before .before .before .before .first-tests .ensures) (c .before .before .before .before .before .before .before .before .before .before .enum-told .given .1) in rw (f .0, f .1, ap zeros (sym (part-rest (c .before .before .before .before .before .before .before .before .before .before .before .before .before .before .before .before .before .before .args .table .now) (4 * c .before .before .before .before .before .before .before .before .before .before .before .before .before .before .before .before .before .before .args .c .regions))) ∙ sym (c .before .before .before .before .before .before .before .all-zero .ensures) ∙ not-false _ (c .before .before .before .before .before .before .if1 .left)) (sym (text-done (lent (c .before .before .before .before .before .before .before .before .before .before .before .before .before .before .before .before .before .before .args .heap .now) (c .before .before .before .before .before .before .before .before .before .before .before .before .before .before .before .before .before .before .args .table .now) (c .before .before .before .before .before .before .before .before .before .before .before .before .before .before .before .before .before .before .args .roots .now) (c .before .before .before .before .before .before .before .before .before .before .before .before .before .before .before .before .before .before .args .consts .now) (c .before .before .before .before .before .before .before .before .before .before .before .before .before .before .before .before .before .before .args .c)) _ _ (c .before .before .before .before .before .text-length .ensures .0) _ (omega arith) (c .before .before .write-text .ensures)))
 
 pub write-image-spec : {M : Type 1} → statement M
 write-image-spec =
@@ -91,6 +91,6 @@ write-image-spec =
     text-length-requires
     returns-3
     write-text-requires
-    cast-t25
+    cast-answer
     same-length
     returns-4)

@@ -3,11 +3,14 @@ use borrow.Author.Needs.{needs}
 use Rattle.leaves.proofs.link_start.Statement.{statement}
 use Rattle.leaves.proofs.link_start.Tie as tie
 
+page-numbered-requires : tie.Need-page-numbered-requires
+page-numbered-requires c κs = search needs
+
 page-start-requires : tie.Need-page-start-requires
 page-start-requires c κs = search needs
 
 returns : tie.Need-returns
-returns c = (rw (c .before .if1 .taken) (c .page-start .ensures .0), c .page-start .ensures .1)
+returns c = (rw (c .before .before .if1 .taken) (rw (c .before .page-numbered .ensures) at (c .page-start .ensures .0)), c .page-start .ensures .1)
 
 cast-link-page : tie.Need-cast-link-page
 cast-link-page c = search needs
@@ -25,6 +28,7 @@ pub link-start-spec : {M : Type 1} → statement M
 link-start-spec =
     tie.close
     (tie.spec
+    page-numbered-requires
     page-start-requires
     returns
     cast-link-page

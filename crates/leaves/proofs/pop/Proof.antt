@@ -42,12 +42,18 @@ word-requires-3 c κs = search needs
 write-requires : tie.Need-write-requires
 write-requires c κs = search needs
 
+region-numbered-requires : tie.Need-region-numbered-requires
+region-numbered-requires c κs = search needs
+
+address-numbered-requires : tie.Need-address-numbered-requires
+address-numbered-requires c κs = search needs
+
 same-length-2 : tie.Need-same-length-2
 same-length-2 c = search needs
 
 returns-2 : tie.Need-returns-2
 unfolding popOn
-returns-2 c = (rw (c .before .before .write .ensures, c .before .before .before .before .word3 .ensures .0, c .before .before .before .before .before .before .word2 .ensures .0, ← (c .before .before .before .before .before .before .before .before .before .word .ensures .0)) (search tests), (c .before .before .before .before .word3 .ensures .1, c .before .before .before .before .before .before .word2 .ensures .1))
+returns-2 c = (rw (c .before .before .before .before .before .before .before .address-numbered .ensures, c .before .before .before .before .region-numbered .ensures, c .before .before .write .ensures, c .before .before .before .before .before .word3 .ensures .0, c .before .before .before .before .before .before .before .before .word2 .ensures .0, ← (c .before .before .before .before .before .before .before .before .before .before .before .word .ensures .0)) (search tests), (rw (c .before .before .before .before .region-numbered .ensures) (c .before .before .before .before .before .word3 .ensures .1), rw (c .before .before .before .before .before .before .before .address-numbered .ensures) (c .before .before .before .before .before .before .before .before .word2 .ensures .1)))
 
 pub pop-spec : {M : Type 1} → statement M
 pop-spec =
@@ -60,10 +66,12 @@ pop-spec =
     mul-word
     add-word
     word-requires-2
+    address-numbered-requires
     mul-word-2
     add-word-2
     add-word-3
     word-requires-3
+    region-numbered-requires
     write-requires
     same-length-2
     returns-2)

@@ -13,8 +13,11 @@ add-word c = search needs
 word-requires : tie.Need-word-requires
 word-requires c κs = search needs
 
+region-numbered-requires : tie.Need-region-numbered-requires
+region-numbered-requires c κs = search needs
+
 returns : tie.Need-returns
-returns c = (rw (← (c .before .before .before .start-at .ensures .0), ← (c .before .word .ensures .0), c .if1 .taken), omega arith)
+returns c = (rw (c .region-numbered .ensures, ← (c .before .before .before .before .start-at .ensures .0), ← (c .before .before .word .ensures .0), c .before .if1 .taken), omega arith)
 
 cast-origin-region : tie.Need-cast-origin-region
 cast-origin-region c = search needs
@@ -32,6 +35,7 @@ region-at-spec =
     start-at-requires
     add-word
     word-requires
+    region-numbered-requires
     returns
     cast-origin-region
     origin-region-requires

@@ -1,5 +1,6 @@
 -- `leaves::wake` meets its contract: each write is one of the definition's, in its order.
-use Rattle.laws.proofs.Tests.{tests}
+use native.Mathlib.Omega.{arith}
+use borrow.Author.Tests.{eq-eqb, ne-eqb}
 use Rattle.motion.specs.Leaves.{wakeOn}
 use borrow.Author.Needs.{needs}
 use Rattle.leaves.proofs.wake.Statement.{statement}
@@ -16,7 +17,7 @@ same-length c = search needs
 
 returns : tie.Need-returns
 unfolding wakeOn
-returns c = rw (← (c .before .status-of .ensures)) (search tests)
+returns c = rw (← (c .before .status-of .ensures), ne-eqb (c .before .status-of .result) 0 (λ z. omega arith))
 
 set-status-requires : tie.Need-set-status-requires
 set-status-requires c κs = search needs
@@ -56,7 +57,7 @@ same-length-2 c = search needs
 
 returns-2 : tie.Need-returns-2
 unfolding wakeOn
-returns-2 c = rw (c .before .before .write3 .ensures, c .before .before .before .low .ensures .0, c .before .before .before .before .before .before .before .write2 .ensures, c .before .before .before .before .before .before .before .before .before .before .before .write .ensures, c .before .before .before .before .before .before .before .before .before .before .before .before .before .before .before .set-status .ensures, ← (c .before .before .before .before .before .before .before .before .before .before .before .before .before .before .before .before .before .before .before .before .word .ensures .0), ← (c .before .before .before .before .before .before .before .before .before .before .before .before .before .before .before .before .before .before .status-of .ensures)) (search tests)
+returns-2 c = rw (c .before .before .write3 .ensures, c .before .before .before .low .ensures .0, c .before .before .before .before .before .before .before .write2 .ensures, c .before .before .before .before .before .before .before .before .before .before .before .write .ensures, c .before .before .before .before .before .before .before .before .before .before .before .before .before .before .before .set-status .ensures, ← (c .before .before .before .before .before .before .before .before .before .before .before .before .before .before .before .before .before .before .before .before .word .ensures .0), ← (c .before .before .before .before .before .before .before .before .before .before .before .before .before .before .before .before .before .before .status-of .ensures), eq-eqb (c .before .before .before .before .before .before .before .before .before .before .before .before .before .before .before .before .before .before .status-of .result) 0 (omega (arith, c .before .before .before .before .before .before .before .before .before .before .before .before .before .before .before .before .before .if1 .left)))
 
 pub wake-spec : {M : Type 1} → statement M
 wake-spec =

@@ -1,6 +1,8 @@
 -- `limits::within_limits` meets its contract: it makes the tests of `limits` one by one, n before the shift by n.
 use borrow.Author.Needs.{needs}
 use native.Mathlib.Omega.{arith}
+use borrow.Author.Tests.{le-leb, lt-leb}
+use Prim.Native.Nat.{_*_, _^_}
 use lib.Pow.{pow-pos}
 use Rattle.laws.proofs.Tests.{tests}
 use Rattle.rules.specs.Memory.{limits}
@@ -31,23 +33,23 @@ mul-if4 c = let s = page-size _ (c .before .before .before .if1 .left) (c .befor
 
 returns-4 : tie.Need-returns-4
 unfolding limits
-returns-4 c = search (← (c .before .before .page-words .ensures), tests)
+returns-4 c = search (lt-leb (2 * 2 ^ c .before .before .before .before .before .args .n) (c .before .before .before .before .before .args .heap) (omega (arith, c .before .before .page-words .ensures)), ← (c .before .before .page-words .ensures), tests)
 
 returns-5 : tie.Need-returns-5
 unfolding limits
-returns-5 c = search (← (c .before .before .before .page-words .ensures), tests)
+returns-5 c = search (le-leb (2 * 2 ^ c .before .before .before .before .before .before .args .n) (c .before .before .before .before .before .before .args .heap) (omega (arith, c .before .before .before .page-words .ensures)), ← (c .before .before .before .page-words .ensures), tests)
 
 returns-6 : tie.Need-returns-6
 unfolding limits
-returns-6 c = search (← (c .before .before .before .before .page-words .ensures), tests)
+returns-6 c = search (le-leb (2 * 2 ^ c .before .before .before .before .before .before .before .args .n) (c .before .before .before .before .before .before .before .args .heap) (omega (arith, c .before .before .before .before .page-words .ensures)), ← (c .before .before .before .before .page-words .ensures), tests)
 
 returns-7 : tie.Need-returns-7
 unfolding limits
-returns-7 c = search (← (c .before .before .before .before .before .page-words .ensures), tests)
+returns-7 c = search (le-leb (2 * 2 ^ c .before .before .before .before .before .before .before .before .args .n) (c .before .before .before .before .before .before .before .before .args .heap) (omega (arith, c .before .before .before .before .before .page-words .ensures)), ← (c .before .before .before .before .before .page-words .ensures), tests)
 
 returns-8 : tie.Need-returns-8
 unfolding limits
-returns-8 c = search (← (c .before .before .before .before .before .page-words .ensures), tests)
+returns-8 c = search (le-leb (2 * 2 ^ c .before .before .before .before .before .before .before .before .args .n) (c .before .before .before .before .before .before .before .before .args .heap) (omega (arith, c .before .before .before .before .before .page-words .ensures)), ← (c .before .before .before .before .before .page-words .ensures), tests)
 
 pub within-limits-spec : {M : Type 1} → statement M
 within-limits-spec =

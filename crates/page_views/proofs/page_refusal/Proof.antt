@@ -1,9 +1,11 @@
 -- `page_views::page_refusal` meets its contract: the first tests, and then the one test of its own.
 use borrow.Author.Needs.{needs}
-use Rattle.laws.proofs.Tests.{tests}
+use Prim.Native.Nat.{_≤_, _<_}
+use borrow.Author.Tests.{le-leb, lt-leb}
 use Rattle.rules.specs.Calls.{pageRefusal}
 use Rattle.limits.proofs.First.{tests-refuse, tests-pass, tests-admit}
 use Rattle.rules.specs.declared.Plain.{Plain}
+use Rattle.laws.proofs.Turned.{turned}
 use Rattle.page_views.proofs.page_refusal.Statement.{statement}
 use Rattle.page_views.proofs.page_refusal.Tie as tie
 
@@ -25,11 +27,17 @@ page-count-requires c κs = tests-admit _ _ _ _ _ (c .before .before .first-test
 
 returns-2 : tie.Need-returns-2
 unfolding pageRefusal
-returns-2 c = let f = tests-pass _ _ _ _ _ (c .before .before .before .before .before .first-tests .ensures) (c .before .before .before .enum-told .given .1) in search (f .0, f .1, ← (c .before .before .page-count .ensures), tests)
+returns-2 c =
+    let f = tests-pass _ _ _ _ _ (c .before .before .before .before .before .first-tests .ensures) (c .before .before .before .enum-told .given .1) in
+    let none : c .before .before .page-count .result ≤ c .before .before .before .before .before .before .before .before .before .before .args .k .0 = search turned in
+    rw (f .0, f .1, ← (c .before .before .page-count .ensures), le-leb _ _ none)
 
 returns-3 : tie.Need-returns-3
 unfolding pageRefusal
-returns-3 c = let f = tests-pass _ _ _ _ _ (c .before .before .before .before .before .first-tests .ensures) (c .before .before .before .enum-told .given .1) in search (f .0, f .1, ← (c .before .before .page-count .ensures), tests)
+returns-3 c =
+    let f = tests-pass _ _ _ _ _ (c .before .before .before .before .before .first-tests .ensures) (c .before .before .before .enum-told .given .1) in
+    let below : c .before .before .before .before .before .before .before .before .before .before .args .k .0 < c .before .before .page-count .result = search turned in
+    rw (f .0, f .1, ← (c .before .before .page-count .ensures), lt-leb _ _ below)
 
 pub page-refusal-spec : {M : Type 1} → statement M
 page-refusal-spec =

@@ -8,11 +8,11 @@ use Rattle.pages.proofs.body_address.Tie as tie
 page-address-requires : tie.Need-page-address-requires
 page-address-requires c κs = search needs
 
-add-t4 : tie.Need-add-t4
-add-t4 c = let s = address-small _ _ (c .before .before .pre .0) (c .before .before .pre .1) in omega (arith, c .before .page-address .ensures)
+address-behind-requires : tie.Need-address-behind-requires
+address-behind-requires c κs = let s = address-small _ _ (c .before .pre .0) (c .before .pre .1) in omega (arith, c .page-address .ensures)
 
 returns : tie.Need-returns
 returns c = search needs
 
 pub body-address-spec : {M : Type 1} → statement M
-body-address-spec = tie.close (tie.spec page-address-requires add-t4 returns)
+body-address-spec = tie.close (tie.spec page-address-requires address-behind-requires returns)

@@ -1,5 +1,4 @@
 -- `pages::clear_page` meets its contract: the page lies inside the heap, and what is lent of it comes back all 0.
-
 use mathlib.Core.Path.{refl}
 use native.Mathlib.Omega.{arith}
 use borrow.Author.Needs.{needs}
@@ -11,23 +10,20 @@ use Rattle.pages.proofs.clear_page.Tie as tie
 page-address-requires : tie.Need-page-address-requires
 page-address-requires c κs = page-number _ _ _ (c .before .pre .0) (c .before .pre .1)
 
-page-words-requires : tie.Need-page-words-requires
-page-words-requires c κs = (c .before .before .pre .0 .low, c .before .before .pre .0 .high)
-
-add-e : tie.Need-add-e
-add-e c = let i = page-inside _ _ _ _ refl (c .before .before .before .pre .0) (c .before .before .before .pre .1) in omega (arith, c .before .page-address .ensures, c .page-words .ensures)
+past-page-requires : tie.Need-past-page-requires
+past-page-requires c κs = let i = page-inside _ _ _ _ refl (c .before .before .pre .0) (c .before .before .pre .1) in omega (arith, c .page-address .ensures, c .before .before .pre .0 .low, c .before .before .pre .0 .high)
 
 mul-clear : tie.Need-mul-clear
-mul-clear c = let i = page-inside _ _ _ _ refl (c .before .before .before .pre .0) (c .before .before .before .pre .1) in omega (arith, c .before .page-address .ensures, c .page-words .ensures)
+mul-clear c = let i = page-inside _ _ _ _ refl (c .before .before .before .pre .0) (c .before .before .before .pre .1) in omega (arith, c .before .page-address .ensures, c .past-page .ensures)
 
 sub-clear : tie.Need-sub-clear
-sub-clear c = let i = page-inside _ _ _ _ refl (c .before .before .before .pre .0) (c .before .before .before .pre .1) in omega (arith, c .before .page-address .ensures, c .page-words .ensures)
+sub-clear c = let i = page-inside _ _ _ _ refl (c .before .before .before .pre .0) (c .before .before .before .pre .1) in omega (arith, c .before .page-address .ensures, c .past-page .ensures)
 
 part-clear-start : tie.Need-part-clear-start
-part-clear-start c = let i = page-inside _ _ _ _ refl (c .before .before .before .pre .0) (c .before .before .before .pre .1) in omega (arith, c .before .page-address .ensures, c .page-words .ensures)
+part-clear-start c = let i = page-inside _ _ _ _ refl (c .before .before .before .pre .0) (c .before .before .before .pre .1) in omega (arith, c .before .page-address .ensures, c .past-page .ensures)
 
 part-clear-end : tie.Need-part-clear-end
-part-clear-end c = let i = page-inside _ _ _ _ refl (c .before .before .before .pre .0) (c .before .before .before .pre .1) in omega (arith, c .before .page-address .ensures, c .page-words .ensures)
+part-clear-end c = let i = page-inside _ _ _ _ refl (c .before .before .before .pre .0) (c .before .before .before .pre .1) in omega (arith, c .before .page-address .ensures, c .past-page .ensures)
 
 clear-requires : tie.Need-clear-requires
 clear-requires c κs = search needs
@@ -36,15 +32,14 @@ same-length : tie.Need-same-length
 same-length c = search needs
 
 returns : tie.Need-returns
-returns c = page-cleared _ _ _ _ _ _ (c .before .before .before .before .before .page-address .ensures) (c .before .before .before .before .page-words .ensures) (page-inside _ _ _ _ refl (c .before .before .before .before .before .before .before .pre .0) (c .before .before .before .before .before .before .before .pre .1) .ends) (c .before .before .clear .ensures)
+returns c = rw (c .before .before .before .before .past-page .ensures) (page-cleared _ _ _ _ _ _ (c .before .before .before .before .before .page-address .ensures) refl (page-inside _ _ _ _ refl (c .before .before .before .before .before .before .before .pre .0) (c .before .before .before .before .before .before .before .pre .1) .ends) (rw (c .before .before .before .before .past-page .ensures) at (c .before .before .clear .ensures)))
 
 pub clear-page-spec : {M : Type 1} → statement M
 clear-page-spec =
     tie.close
     (tie.spec
     page-address-requires
-    page-words-requires
-    add-e
+    past-page-requires
     mul-clear
     sub-clear
     part-clear-start

@@ -1,11 +1,13 @@
 -- `pages::free_after` meets its contract: page k lies inside the heap, and free last is 0 where the count was 1.
 use borrow.Author.Needs.{needs}
-use mathlib.Core.Path.{refl, sym}
+use Prim.Native.Nat.{_<_}
+use mathlib.Core.Path.{_≡_, refl, sym}
 use native.Mathlib.Omega.{arith}
 use Rattle.rules.specs.Memory.{link}
 use Rattle.rules.proofs.Limits.{page-number}
 use Rattle.rules.proofs.Pages.{last-none, last-stays}
 use Rattle.pages.proofs.Taking.{free-page, free-inside}
+use Rattle.laws.proofs.Turned.{turned}
 use Rattle.pages.proofs.free_after.Statement.{statement}
 use Rattle.pages.proofs.free_after.Tie as tie
 
@@ -20,14 +22,18 @@ shared-slice-read-link c = let i = free-inside _ _ _ (c .before .before .before 
 
 returns : tie.Need-returns
 unfolding link
-returns c = (rw (c .before .before .before .page-address .ensures), sym (last-none _ _ (c .if1 .taken)), rw (c .if1 .taken))
+returns c =
+    let one : c .before .before .before .before .before .args .c .count ≡ 1 = search turned in
+    (rw (c .before .before .before .page-address .ensures), sym (last-none _ _ one), rw one)
 
 sub-t9 : tie.Need-sub-t9
 sub-t9 c = search needs
 
 returns-2 : tie.Need-returns-2
 unfolding link
-returns-2 c = (rw (c .before .before .before .before .page-address .ensures), sym (last-stays _ _ (c .before .before .before .before .before .before .pre .0 .some-count) (c .before .if1 .left)), refl)
+returns-2 c =
+    let more : 1 < c .before .before .before .before .before .before .args .c .count = omega (arith, c .before .before .before .before .before .before .pre .0 .some-count, c .before .if1 .left) in
+    (rw (c .before .before .before .before .page-address .ensures), sym (last-stays _ _ (c .before .before .before .before .before .before .pre .0 .some-count) (λ e. omega arith)), refl)
 
 pub free-after-spec : {M : Type 1} → statement M
 free-after-spec =

@@ -1,13 +1,17 @@
 -- `paths::walk_from` meets its contract. The path handed on is the path without its first field, so the rest of the walk is the walk of
 -- the rest; the measure is the path's length.
-use mathlib.Core.Path.{sym, ap, _∙_}
+use mathlib.Core.Path.{_≡_, sym, ap}
+use mathlib.Core.List.{List}
 use native.Mathlib.Omega.{arith}
 use borrow.Author.Needs.{needs}
 use borrow.Author.Tests.{not-true, not-false}
 use lib.ListN.{length}
-use Rattle.rules.specs.Calls.{walkSays}
+use Rattle.laws.specs.Lists.{at}
+use Rattle.rules.specs.declared.Control.{Control}
+use Rattle.rules.specs.declared.Valued.{Valued}
+use Rattle.rules.specs.Calls.{Walked, walkFrom, walkSays}
 use Rattle.rules.proofs.Walks.{walk-number-end, walk-number, walk-not-good, walk-end, walk-raw, walk-past, walk-go}
-use Prim.Native.Nat.{ℕ, _<_}
+use Prim.Native.Nat.{ℕ, _+_, _<_}
 use borrow.Fn.Kinds.{In}
 use borrow.Fn.PlainCycle.{Measures, is, falls, and}
 use Rattle.paths.proofs.walk_from.Reads as walk-from
@@ -27,6 +31,10 @@ walk-from-at t = and 2 walk-from-kinds.ps (is 2 walk-from-kinds.ps μ-walk-from 
 abbrev walk-from-below : ℕ → In 2 walk-from-kinds.ps
 walk-from-below t =
     and 2 walk-from-kinds.ps (falls 2 walk-from-kinds.ps _<_ μ-walk-from t) walk-from.Pre
+
+-- the rest of a walk goes on from word m of the value v, which is the field f behind the header
+stepped : (view : ℕ → List ℕ) (k : Control) (v fs : List ℕ) (f m : ℕ) {x : Valued} {y : Walked} → x ≡ walkSays k (walkFrom view (at v m) fs) → m ≡ f + 1 → y ≡ walkFrom view (at v (f + 1)) fs → x ≡ walkSays k y
+stepped view k v fs f m said field step = rw (step, ← field) said
 
 walk-from-returns : (t : ℕ) → walk-from-lts.Need-returns (
   look-reads.Asked,
@@ -66,7 +74,7 @@ walk-from-returns-3 : (t : ℕ) → walk-from-lts.Need-returns-3 (
   walk-from-below t,
   walk-from.Post,
 ) (walk-from-at t) walk-from.Post
-walk-from-returns-3 t c = ap (walkSays (c .before .before .before .before .before .before .args .c)) (sym (walk-not-good _ _ (c .before .before .if1 .left) _ (c .before .look .ensures) _ (c .if3 .taken)))
+walk-from-returns-3 t c = ap (walkSays (c .before .before .before .before .before .before .args .c)) (sym (walk-not-good _ _ (c .before .before .if1 .left) _ (c .before .look .ensures) _ (omega (arith, c .if3 .taken))))
 
 walk-from-returns-4 : (t : ℕ) → walk-from-lts.Need-returns-4 (
   look-reads.Asked,
@@ -76,7 +84,7 @@ walk-from-returns-4 : (t : ℕ) → walk-from-lts.Need-returns-4 (
   walk-from-below t,
   walk-from.Post,
 ) (walk-from-at t) walk-from.Post
-walk-from-returns-4 t c = ap (walkSays (c .before .before .before .before .before .before .before .args .c)) (sym (walk-end _ _ (c .before .before .before .if1 .left) _ (c .before .before .look .ensures) (c .before .if3 .left) _ (c .if4 .taken)))
+walk-from-returns-4 t c = ap (walkSays (c .before .before .before .before .before .before .before .args .c)) (sym (walk-end _ _ (c .before .before .before .if1 .left) _ (c .before .before .look .ensures) (λ z. omega (arith, c .before .if3 .left)) _ (c .if4 .taken)))
 
 walk-from-shared-slice-read-is-record : (t : ℕ) → walk-from-lts.Need-shared-slice-read-is-record (
   look-reads.Asked,
@@ -106,7 +114,7 @@ walk-from-returns-5 : (t : ℕ) → walk-from-lts.Need-returns-5 (
   walk-from-below t,
   walk-from.Post,
 ) (walk-from-at t) walk-from.Post
-walk-from-returns-5 t c = ap (walkSays (c .before .before .before .before .before .before .before .before .before .before .args .c)) (sym (walk-raw _ _ (c .before .before .before .before .before .before .if1 .left) _ (c .before .before .before .before .before .look .ensures) (c .before .before .before .before .if3 .left) _ (c .before .before .before .if4 .left) (sym (c .before .is-record .ensures) ∙ not-true _ (c .if5 .taken))))
+walk-from-returns-5 t c = ap (walkSays (c .before .before .before .before .before .before .before .before .before .before .args .c)) (sym (walk-raw _ _ (c .before .before .before .before .before .before .if1 .left) _ (c .before .before .before .before .before .look .ensures) (λ z. omega (arith, c .before .before .before .before .if3 .left)) _ (c .before .before .before .if4 .left) (search (← (c .before .is-record .ensures), c .if5 .taken, not-true))))
 
 walk-from-shared-slice-read-field : (t : ℕ) → walk-from-lts.Need-shared-slice-read-field (
   look-reads.Asked,
@@ -146,7 +154,7 @@ walk-from-returns-6 : (t : ℕ) → walk-from-lts.Need-returns-6 (
   walk-from-below t,
   walk-from.Post,
 ) (walk-from-at t) walk-from.Post
-walk-from-returns-6 t c = ap (walkSays (c .before .before .before .before .before .before .before .before .before .before .before .before .args .c)) (sym (walk-past _ _ (c .before .before .before .before .before .before .before .before .if1 .left) _ (c .before .before .before .before .before .before .before .look .ensures) (c .before .before .before .before .before .before .if3 .left) _ (c .before .before .before .before .before .if4 .left) (sym (c .before .before .before .is-record .ensures) ∙ not-false _ (c .before .before .if5 .left)) (c .if6 .taken)))
+walk-from-returns-6 t c = ap (walkSays (c .before .before .before .before .before .before .before .before .before .before .before .before .args .c)) (sym (walk-past _ _ (c .before .before .before .before .before .before .before .before .if1 .left) _ (c .before .before .before .before .before .before .before .look .ensures) (λ z. omega (arith, c .before .before .before .before .before .before .if3 .left)) _ (c .before .before .before .before .before .if4 .left) (search (← (c .before .before .before .is-record .ensures), c .before .before .if5 .left, not-false)) (omega (arith, c .if6 .taken))))
 
 walk-from-add-next : (t : ℕ) → walk-from-lts.Need-add-next (
   look-reads.Asked,
@@ -226,7 +234,7 @@ walk-from-returns-7 : (t : ℕ) → walk-from-lts.Need-returns-7 (
   walk-from-below t,
   walk-from.Post,
 ) (walk-from-at t) walk-from.Post
-walk-from-returns-7 t c = c .walk-from .ensures ∙ ap (walkSays (c .before .before .before .before .before .before .before .before .before .before .before .before .before .before .before .args .c)) (sym (walk-go _ _ (c .before .before .before .before .before .before .before .before .before .before .before .if1 .left) _ (c .before .before .before .before .before .before .before .before .before .before .look .ensures) (c .before .before .before .before .before .before .before .before .before .if3 .left) _ (c .before .before .before .before .before .before .before .before .if4 .left) (sym (c .before .before .before .before .before .before .is-record .ensures) ∙ not-false _ (c .before .before .before .before .before .if5 .left)) (c .before .before .before .if6 .left)))
+walk-from-returns-7 t c = stepped _ _ (c .before .before .before .before .before .before .before .before .before .before .look .result .now) _ _ _ (c .walk-from .ensures) (omega arith) (walk-go _ _ (c .before .before .before .before .before .before .before .before .before .before .before .if1 .left) _ (c .before .before .before .before .before .before .before .before .before .before .look .ensures) (λ z. omega (arith, c .before .before .before .before .before .before .before .before .before .if3 .left)) _ (c .before .before .before .before .before .before .before .before .if4 .left) (search (← (c .before .before .before .before .before .before .is-record .ensures), c .before .before .before .before .before .if5 .left, not-false)) (omega (arith, c .before .before .before .if6 .left)))
 
 pub +walk-from-spec : {M : Type 1} → statement M
 +walk-from-spec = close μ-walk-from λ t. walk-from-lts.spec (

@@ -65,10 +65,8 @@ loop-less c = search needs
 loop-again : tie.Need-loop-again Inv-loop μ-loop
 loop-again c =
     let a = c .before .before .before .before .before .before .before .before .before .before .args in
-    let l = c .before .before .before .before .before .before .loop in (
-      omega arith,
-      l .inv .1 ∙ piece-ends (lookOf (a .c .n) (a .c .regions) (a .heap .now) (a .consts .now)) (a .c) _ (l .i) (l .i + 256) _ (omega arith) (c .before .before .before .walk-from .ensures) (c .before .walked .given .1),
-    )
+    let l = c .before .before .before .before .before .before .loop in
+    piece-ends (lookOf (a .c .n) (a .c .regions) (a .heap .now) (a .consts .now)) (a .c) _ (l .i) (l .i + 256) _ (omega arith) (c .before .before .before .walk-from .ensures) _ _ (omega arith) (omega arith) (c .before .walked .given .1) (l .inv .1)
 
 mul-walk-from-2 : tie.Need-mul-walk-from-2 Inv-loop μ-loop
 mul-walk-from-2 c = search needs

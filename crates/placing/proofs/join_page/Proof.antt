@@ -14,8 +14,8 @@ end-of-requires c κs = (c .before .before .before .before .pre .2, c .before .b
 page-words-requires : tie.Need-page-words-requires
 page-words-requires c κs = (c .before .before .before .before .before .pre .0 .low, c .before .before .before .before .before .pre .0 .high)
 
-sub-t12 : tie.Need-sub-t12
-sub-t12 c = omega (arith, c .before .before .before .before .before .before .before .pre .4, c .before .before .end-of .ensures .0, c .before .page-words .ensures)
+address-before-requires : tie.Need-address-before-requires
+address-before-requires c κs = omega (arith, c .before .before .before .before .before .before .pre .4, c .before .end-of .ensures .0, c .page-words .ensures)
 
 region-origin-requires : tie.Need-region-origin-requires
 region-origin-requires c κs = omega (arith, c .before .before .before .before .before .before .before .before .pre .3)
@@ -26,7 +26,7 @@ page-link-requires c κs = let b = page-number _ _ _ (c .before .before .before 
 append-page-requires : tie.Need-append-page-requires
 append-page-requires c κs =
     let i = page-inside _ _ _ _ refl (c .before .before .before .before .before .before .before .before .before .before .pre .0) (c .before .before .before .before .before .before .before .before .before .before .pre .1) in
-    (omega (arith, c .before .before .before .before .before .before .before .page-address .ensures), omega (arith, c .before .before .before .before .before .before .before .before .before .before .pre .4, c .before .before .before .before .before .before .before .before .before .before .pre .5, i .low, c .before .before .before .before .before .end-of .ensures .0, c .before .before .before .before .page-words .ensures), i .size)
+    (omega (arith, c .before .before .before .before .before .before .before .page-address .ensures), omega (arith, c .before .before .before .address-before .ensures, c .before .before .before .before .before .before .before .before .before .before .pre .4, c .before .before .before .before .before .before .before .before .before .before .pre .5, i .low, c .before .before .before .before .before .end-of .ensures .0, c .before .before .before .before .page-words .ensures), i .size)
 
 page-end-requires : tie.Need-page-end-requires
 page-end-requires c κs = let s = page-number _ _ _ (c .before .before .before .before .before .before .before .before .before .before .before .before .before .before .pre .0) (c .before .before .before .before .before .before .before .before .before .before .before .before .before .before .pre .1) in (s .0, c .before .before .before .before .before .before .before .before .before .before .before .before .before .before .pre .0 .low, s .1)
@@ -47,7 +47,7 @@ same-length-2 : tie.Need-same-length-2
 same-length-2 c = c .before .before .set-top .kept .0 ∙ c .before .before .before .before .before .before .before .set-end .kept .0
 
 returns : tie.Need-returns
-returns c = (rw (c .before .before .before .before .before .before .before .before .before .before .before .before .append-page .ensures, c .before .before .before .before .before .before .before .before .before .before .before .before .before .before .before .before .before .before .before .before .page-address .ensures, c .before .before .before .before .before .before .before .before .before .before .before .before .before .before .region-origin .ensures, c .before .before .before .before .before .before .before .before .before .before .before .before .before .before .before .before .before .before .end-of .ensures .0, c .before .before .before .before .before .before .before .before .before .before .before .before .before .before .before .before .before .page-words .ensures, c .before .before .before .before .before .before .before .before .before .before .before .before .before .page-link .ensures), rw (c .before .before .set-top .ensures, c .before .before .before .before .before .before .before .set-end .ensures, c .before .before .before .before .before .before .before .before .page-end .ensures, c .before .before .before .body-address .ensures))
+returns c = (rw (c .before .before .before .before .before .before .before .before .before .before .before .before .append-page .ensures, c .before .before .before .before .before .before .before .before .before .before .before .before .before .before .before .before .before .before .before .before .page-address .ensures, c .before .before .before .before .before .before .before .before .before .before .before .before .before .before .region-origin .ensures, c .before .before .before .before .before .before .before .before .before .before .before .before .before .before .before .before .address-before .ensures, c .before .before .before .before .before .before .before .before .before .before .before .before .before .before .before .before .before .before .end-of .ensures .0, c .before .before .before .before .before .before .before .before .before .before .before .before .before .before .before .before .before .page-words .ensures, c .before .before .before .before .before .before .before .before .before .before .before .before .before .page-link .ensures), rw (c .before .before .set-top .ensures, c .before .before .before .before .before .before .before .set-end .ensures, c .before .before .before .before .before .before .before .before .page-end .ensures, c .before .before .before .body-address .ensures))
 
 pub join-page-spec : {M : Type 1} → statement M
 join-page-spec =
@@ -56,7 +56,7 @@ join-page-spec =
     page-address-requires
     end-of-requires
     page-words-requires
-    sub-t12
+    address-before-requires
     region-origin-requires
     page-link-requires
     append-page-requires

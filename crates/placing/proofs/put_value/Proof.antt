@@ -16,14 +16,14 @@ top-of-requires c κs = (c .before .before .before .before .pre .rows, c .before
 end-of-requires : tie.Need-end-of-requires
 end-of-requires c κs = (c .before .before .before .before .before .before .pre .rows, c .before .before .before .before .before .before .pre .region)
 
-add-if1 : tie.Need-add-if1
-add-if1 c = let s = page-size _ (c .before .before .before .before .before .before .before .before .pre .paged .low) (c .before .before .before .before .before .before .before .before .pre .paged .high) in omega (arith, c .before .before .before .top-of .ensures .1, c .before .before .before .before .before .before .before .before .pre .short)
+add-address-behind : tie.Need-add-address-behind
+add-address-behind c = let s = page-size _ (c .before .before .before .before .before .before .before .pre .paged .low) (c .before .before .before .before .before .before .before .pre .paged .high) in omega (arith, c .before .before .top-of .ensures .1, c .before .before .before .before .before .before .before .pre .short)
 
-add-if1-2 : tie.Need-add-if1-2
-add-if1-2 c = let s = page-size _ (c .before .before .before .before .before .before .before .before .pre .paged .low) (c .before .before .before .before .before .before .before .before .pre .paged .high) in omega (arith, c .before .before .before .top-of .ensures .1, c .before .before .before .before .before .before .before .before .pre .short)
+address-behind-requires : tie.Need-address-behind-requires
+address-behind-requires c κs = let s = page-size _ (c .before .before .before .before .before .before .before .pre .paged .low) (c .before .before .before .before .before .before .before .pre .paged .high) in omega (arith, c .before .before .top-of .ensures .1, c .before .before .before .before .before .before .before .pre .short)
 
 put-further-requires : tie.Need-put-further-requires
-put-further-requires c κs = (c .before .before .before .before .before .before .before .before .before .before .before .before .pre, omega (arith, c .before .before .if1 .taken, c .before .before .before .before .before .before .before .top-of .ensures .0, c .before .before .before .before .before .end-of .ensures .0))
+put-further-requires c κs = (c .before .before .before .before .before .before .before .before .before .before .before .before .before .pre, omega (arith, c .before .before .if1 .taken, c .before .before .before .before .before .address-behind .ensures, c .before .before .before .before .before .before .before .before .top-of .ensures .0, c .before .before .before .before .before .before .end-of .ensures .0))
 
 same-length : tie.Need-same-length
 same-length c = c .before .before .before .before .put-further .kept .0
@@ -35,10 +35,10 @@ returns : tie.Need-returns
 returns c = c .before .before .before .before .put-further .ensures
 
 store-value-requires : tie.Need-store-value-requires
-store-value-requires c κs = omega (arith, c .before .before .if1 .left, c .before .before .before .before .before .end-of .ensures .0, c .before .before .before .before .before .before .before .before .before .before .before .before .pre .end, c .before .before .before .before .before .before .before .before .before .before .before .before .pre .paged .size, c .before .before .before .before .before .before .before .before .before .before .before .before .pre .rows, c .before .before .before .before .before .before .before .before .before .before .before .before .pre .region)
+store-value-requires c κs = omega (arith, c .before .before .if1 .left, c .before .before .before .before .before .address-behind .ensures, c .before .before .before .before .before .before .end-of .ensures .0, c .before .before .before .before .before .before .before .before .before .before .before .before .before .pre .end, c .before .before .before .before .before .before .before .before .before .before .before .before .before .pre .paged .size, c .before .before .before .before .before .before .before .before .before .before .before .before .before .pre .rows, c .before .before .before .before .before .before .before .before .before .before .before .before .before .pre .region)
 
 address-pointer-requires : tie.Need-address-pointer-requires
-address-pointer-requires c κs = omega (arith, c .before .before .before .before .before .before .before .if1 .left, c .before .before .before .before .before .before .before .before .before .before .end-of .ensures .0, c .before .before .before .before .before .before .before .before .before .before .before .before .before .before .before .before .before .pre .end, c .before .before .before .before .before .before .before .before .before .before .before .before .before .before .before .before .before .pre .paged .size)
+address-pointer-requires c κs = omega (arith, c .before .before .before .before .before .before .before .if1 .left, c .before .before .before .before .before .before .before .before .before .before .address-behind .ensures, c .before .before .before .before .before .before .before .before .before .before .before .end-of .ensures .0, c .before .before .before .before .before .before .before .before .before .before .before .before .before .before .before .before .before .before .pre .end, c .before .before .before .before .before .before .before .before .before .before .before .before .before .before .before .before .before .before .pre .paged .size)
 
 same-length-3 : tie.Need-same-length-3
 same-length-3 c = c .before .before .before .before .before .store-value .kept .0
@@ -49,8 +49,8 @@ same-length-4 c = c .before .before .before .before .before .store-value .kept .
 returns-2 : tie.Need-returns-2
 returns-2 c =
     λ r k.
-    let b : topOf (c .before .before .before .before .before .before .before .before .before .before .before .before .before .before .before .before .before .before .args .table .now) (c .before .before .before .before .before .before .before .before .before .before .before .before .before .before .before .before .before .before .args .j .0) + suc (length (c .before .before .before .before .before .before .before .before .before .before .before .before .before .before .before .before .before .before .args .words .now)) ≤ endOf (c .before .before .before .before .before .before .before .before .before .before .before .before .before .before .before .before .before .before .args .table .now) (c .before .before .before .before .before .before .before .before .before .before .before .before .before .before .before .before .before .before .args .j .0) = omega (arith, c .before .before .before .before .before .before .before .before .if1 .left, c .before .before .before .before .before .before .before .before .before .before .before .before .before .top-of .ensures .0, c .before .before .before .before .before .before .before .before .before .before .before .end-of .ensures .0) in
-    rw (c .address-pointer .ensures, c .before .before .before .before .before .store-value .ensures .0, c .before .before .before .before .before .store-value .ensures .1, c .before .before .before .before .before .before .before .before .before .before .before .before .before .top-of .ensures .0) (sym (value-here (lent _ _ r k (c .before .before .before .before .before .before .before .before .before .before .before .before .before .before .before .before .before .before .args .c)) _ (c .before .before .before .before .before .before .before .before .before .before .before .before .before .before .before .before .before .before .args .header ∷ c .before .before .before .before .before .before .before .before .before .before .before .before .before .before .before .before .before .before .args .words .now) b))
+    let b : topOf (c .before .before .before .before .before .before .before .before .before .before .before .before .before .before .before .before .before .before .before .args .table .now) (c .before .before .before .before .before .before .before .before .before .before .before .before .before .before .before .before .before .before .before .args .j .0) + suc (length (c .before .before .before .before .before .before .before .before .before .before .before .before .before .before .before .before .before .before .before .args .words .now)) ≤ endOf (c .before .before .before .before .before .before .before .before .before .before .before .before .before .before .before .before .before .before .before .args .table .now) (c .before .before .before .before .before .before .before .before .before .before .before .before .before .before .before .before .before .before .before .args .j .0) = omega (arith, c .before .before .before .before .before .before .before .before .if1 .left, c .before .before .before .before .before .before .before .before .before .before .before .address-behind .ensures, c .before .before .before .before .before .before .before .before .before .before .before .before .before .before .top-of .ensures .0, c .before .before .before .before .before .before .before .before .before .before .before .before .end-of .ensures .0) in
+    rw (c .address-pointer .ensures, c .before .before .before .before .before .store-value .ensures .0, c .before .before .before .before .before .store-value .ensures .1, c .before .before .before .before .before .before .before .before .before .before .before .before .before .before .top-of .ensures .0) (sym (value-here (lent _ _ r k (c .before .before .before .before .before .before .before .before .before .before .before .before .before .before .before .before .before .before .before .args .c)) _ (c .before .before .before .before .before .before .before .before .before .before .before .before .before .before .before .before .before .before .before .args .header ∷ c .before .before .before .before .before .before .before .before .before .before .before .before .before .before .before .before .before .before .before .args .words .now) b))
 
 pub put-value-spec : {M : Type 1} → statement M
 put-value-spec =
@@ -58,8 +58,8 @@ put-value-spec =
     (tie.spec
     top-of-requires
     end-of-requires
-    add-if1
-    add-if1-2
+    add-address-behind
+    address-behind-requires
     put-further-requires
     same-length
     same-length-2

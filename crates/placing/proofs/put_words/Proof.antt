@@ -9,10 +9,10 @@ use Rattle.placing.proofs.put_words.Statement.{statement}
 use Rattle.placing.proofs.put_words.Tie as tie
 
 abbrev Inv-loop : tie.InvT-loop
-Inv-loop heap₀ words start i₀ heap i = (heap ≡ paste heap₀ start words i) × (i ≤ length words) × (length heap ≡ length heap₀)
+Inv-loop heap₀ words from i₀ heap i = (heap ≡ paste heap₀ from words i) × (i ≤ length words) × (length heap ≡ length heap₀)
 
 abbrev μ-loop : tie.MeasureT-loop
-μ-loop heap₀ words start i₀ heap i = length words - i
+μ-loop heap₀ words from i₀ heap i = length words - i
 
 loop-holds : tie.Need-loop-holds Inv-loop μ-loop
 loop-holds c = (paste-zero _ (c .args .a .0) (c .args .words .now), omega arith, refl)

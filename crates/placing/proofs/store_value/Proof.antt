@@ -15,31 +15,31 @@ mul-heap c = search needs
 slice-write-heap : tie.Need-slice-write-heap
 slice-write-heap c = search needs
 
-add-t8 : tie.Need-add-t8
-add-t8 c = search needs
+address-behind-requires : tie.Need-address-behind-requires
+address-behind-requires c κs = omega arith
 
 put-words-requires : tie.Need-put-words-requires
-put-words-requires c κs = simp length-set (omega arith)
+put-words-requires c κs = simp length-set (omega (arith, c .address-behind .ensures))
 
-add-t16 : tie.Need-add-t16
-add-t16 c = search needs
+add-address-behind : tie.Need-add-address-behind
+add-address-behind c = search needs
 
-add-t17 : tie.Need-add-t17
-add-t17 c = search needs
+address-behind-requires-2 : tie.Need-address-behind-requires-2
+address-behind-requires-2 c κs = omega arith
 
 set-top-requires : tie.Need-set-top-requires
-set-top-requires c κs = search needs
+set-top-requires c κs = omega (arith, c .address-behind2 .ensures)
 
 same-length : tie.Need-same-length
-same-length c = c .before .before .before .before .before .before .put-words .kept .0 ∙ simp length-set
+same-length c = c .before .before .before .before .before .before .before .put-words .kept .0 ∙ simp length-set
 
 same-length-2 : tie.Need-same-length-2
 same-length-2 c = search needs
 
 returns : tie.Need-returns
 returns c =
-    let q : c .before .before .before .before .before .before .before .before .before .before .before .args .a .0 + length (c .before .before .before .before .before .before .before .before .before .before .before .args .words .now) + 1 ≡ c .before .before .before .before .before .before .before .before .before .before .before .args .a .0 + suc (length (c .before .before .before .before .before .before .before .before .before .before .before .args .words .now)) = omega arith in
-    (c .before .before .before .before .before .before .put-words .ensures ∙ put-first _ _ _ _ (omega (arith, c .before .before .before .before .before .before .before .before .before .before .before .pre .0)), c .before .before .set-top .ensures ∙ ap (λ x. setTop (c .before .before .before .before .before .before .before .before .before .before .before .args .table .now) (c .before .before .before .before .before .before .before .before .before .before .before .args .j .0) x) q)
+    let q : c .before .before .before .address-behind2 .result .0 ≡ c .before .before .before .before .before .before .before .before .before .before .before .before .before .args .a .0 + suc (length (c .before .before .before .before .before .before .before .before .before .before .before .before .before .args .words .now)) = omega (arith, c .before .before .before .address-behind2 .ensures) in
+    (rw (c .before .before .before .before .before .before .before .put-words .ensures, c .before .before .before .before .before .before .before .before .address-behind .ensures) (put-first _ _ _ _ (omega (arith, c .before .before .before .before .before .before .before .before .before .before .before .before .before .pre .0))), c .before .before .set-top .ensures ∙ ap (λ x. setTop (c .before .before .before .before .before .before .before .before .before .before .before .before .before .args .table .now) (c .before .before .before .before .before .before .before .before .before .before .before .before .before .args .j .0) x) q)
 
 pub store-value-spec : {M : Type 1} → statement M
 store-value-spec =
@@ -47,10 +47,10 @@ store-value-spec =
     (tie.spec
     mul-heap
     slice-write-heap
-    add-t8
+    address-behind-requires
     put-words-requires
-    add-t16
-    add-t17
+    add-address-behind
+    address-behind-requires-2
     set-top-requires
     same-length
     same-length-2

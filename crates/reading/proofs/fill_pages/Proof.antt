@@ -2,6 +2,7 @@
 use Prim.Native.Nat.{_+_, _*_, _-_, _^_, _≤_}
 use mathlib.Core.Path.{_≡_, refl, sym, ap, _∙_}
 use native.Mathlib.Omega.{arith}
+use borrow.Author.Needs.{needs}
 use lib.ListN.{length}
 use lib.Seq.{sets}
 use native.Mathlib.Nat.{zero-mul, le-trans}
@@ -14,7 +15,7 @@ use Rattle.reading.proofs.fill_pages.Statement.{statement}
 use Rattle.reading.proofs.fill_pages.Tie as tie
 
 abbrev Inv-loop : tie.InvT-loop
-Inv-loop text from heap₀ n pages p i₀ k₀ left₀ heap i k left = (sets heap (k * 2 ^ n) (pagesAt left (2 ^ n) text i) ≡ sets heap₀ 0 (pagesAt pages (2 ^ n) text from)) × (length heap ≡ length heap₀) × (k + left ≡ pages) × (i ≤ from + 524287 * k)
+Inv-loop text from heap₀ n pages p i₀ k₀ left₀ heap i k left = (sets heap (k .0 * 2 ^ n) (pagesAt left (2 ^ n) text i) ≡ sets heap₀ 0 (pagesAt pages (2 ^ n) text from)) × (length heap ≡ length heap₀) × (k .0 + left ≡ pages) × (i ≤ from + 524287 * k .0)
 
 abbrev μ-loop : tie.MeasureT-loop
 μ-loop text from heap₀ n pages p i₀ k₀ left₀ heap i k left = left
@@ -22,32 +23,37 @@ abbrev μ-loop : tie.MeasureT-loop
 page-words-requires : tie.Need-page-words-requires Inv-loop μ-loop
 page-words-requires c κs = (c .before .before .pre .1 .low, c .before .before .pre .1 .high)
 
+page-numbered-requires : tie.Need-page-numbered-requires Inv-loop μ-loop
+page-numbered-requires c κs = search needs
+
 loop-holds : tie.Need-loop-holds Inv-loop μ-loop
-loop-holds c = (ap (λ x. sets (c .before .before .before .args .heap .now) x (pagesAt (c .before .before .before .args .pages) (2 ^ c .before .before .before .args .n) (c .before .before .before .args .text .now) (c .before .before .before .args .from))) (zero-mul (2 ^ c .before .before .before .args .n)), refl, omega arith, omega arith)
+loop-holds c =
+    let z = c .page-numbered .ensures in
+    (rw z (ap (λ x. sets (c .before .before .before .before .args .heap .now) x (pagesAt (c .before .before .before .before .args .pages) (2 ^ c .before .before .before .before .args .n) (c .before .before .before .before .args .text .now) (c .before .before .before .before .args .from))) (zero-mul (2 ^ c .before .before .before .before .args .n))), refl, omega (arith, z), omega (arith, z))
 
 page-address-requires : tie.Need-page-address-requires Inv-loop μ-loop
-page-address-requires c κs = page-number _ _ _ (c .before .before .before .before .before .pre .1) (omega arith)
+page-address-requires c κs = page-number _ _ _ (c .before .before .before .before .before .before .pre .1) (omega arith)
 
-add-e : tie.Need-add-e Inv-loop μ-loop
-add-e c = omega (arith, page-inside (c .before .before .before .before .before .before .args .n) (length (c .before .before .before .before .before .before .args .heap .now)) (2 ^ c .before .before .before .before .before .before .args .n) (c .before .before .loop .k) refl (c .before .before .before .before .before .before .pre .1) (omega arith))
+add-high : tie.Need-add-high Inv-loop μ-loop
+add-high c = omega (arith, page-inside (c .before .before .before .before .before .before .before .args .n) (length (c .before .before .before .before .before .before .before .args .heap .now)) (2 ^ c .before .before .before .before .before .before .before .args .n) (c .before .before .loop .k .0) refl (c .before .before .before .before .before .before .before .pre .1) (omega arith))
 
 mul-fill-part : tie.Need-mul-fill-part Inv-loop μ-loop
-mul-fill-part c = omega (arith, page-inside (c .before .before .before .before .before .before .args .n) (length (c .before .before .before .before .before .before .args .heap .now)) (2 ^ c .before .before .before .before .before .before .args .n) (c .before .before .loop .k) refl (c .before .before .before .before .before .before .pre .1) (omega arith))
+mul-fill-part c = omega (arith, page-inside (c .before .before .before .before .before .before .before .args .n) (length (c .before .before .before .before .before .before .before .args .heap .now)) (2 ^ c .before .before .before .before .before .before .before .args .n) (c .before .before .loop .k .0) refl (c .before .before .before .before .before .before .before .pre .1) (omega arith))
 
 sub-fill-part : tie.Need-sub-fill-part Inv-loop μ-loop
-sub-fill-part c = omega (arith, page-inside (c .before .before .before .before .before .before .args .n) (length (c .before .before .before .before .before .before .args .heap .now)) (2 ^ c .before .before .before .before .before .before .args .n) (c .before .before .loop .k) refl (c .before .before .before .before .before .before .pre .1) (omega arith))
+sub-fill-part c = omega (arith, page-inside (c .before .before .before .before .before .before .before .args .n) (length (c .before .before .before .before .before .before .before .args .heap .now)) (2 ^ c .before .before .before .before .before .before .before .args .n) (c .before .before .loop .k .0) refl (c .before .before .before .before .before .before .before .pre .1) (omega arith))
 
 part-fill-part-start : tie.Need-part-fill-part-start Inv-loop μ-loop
-part-fill-part-start c = omega (arith, page-inside (c .before .before .before .before .before .before .args .n) (length (c .before .before .before .before .before .before .args .heap .now)) (2 ^ c .before .before .before .before .before .before .args .n) (c .before .before .loop .k) refl (c .before .before .before .before .before .before .pre .1) (omega arith))
+part-fill-part-start c = omega (arith, page-inside (c .before .before .before .before .before .before .before .args .n) (length (c .before .before .before .before .before .before .before .args .heap .now)) (2 ^ c .before .before .before .before .before .before .before .args .n) (c .before .before .loop .k .0) refl (c .before .before .before .before .before .before .before .pre .1) (omega arith))
 
 part-fill-part-end : tie.Need-part-fill-part-end Inv-loop μ-loop
-part-fill-part-end c = omega (arith, page-inside (c .before .before .before .before .before .before .args .n) (length (c .before .before .before .before .before .before .args .heap .now)) (2 ^ c .before .before .before .before .before .before .args .n) (c .before .before .loop .k) refl (c .before .before .before .before .before .before .pre .1) (omega arith))
+part-fill-part-end c = omega (arith, page-inside (c .before .before .before .before .before .before .before .args .n) (length (c .before .before .before .before .before .before .before .args .heap .now)) (2 ^ c .before .before .before .before .before .before .before .args .n) (c .before .before .loop .k .0) refl (c .before .before .before .before .before .before .before .pre .1) (omega arith))
 
 fill-part-requires : tie.Need-fill-part-requires Inv-loop μ-loop
-fill-part-requires c κs = (omega (arith, page-number (c .before .before .before .before .before .before .before .args .n) (length (c .before .before .before .before .before .before .before .args .heap .now)) (c .before .before .before .loop .k) (c .before .before .before .before .before .before .before .pre .1) (omega arith)), le-trans (page-short _ _ _ _ (c .before .before .before .before .before .before .before .pre .1 .low) (c .before .before .before .before .before .before .before .pre .1 .high) (c .before .before .before .before .page-words .ensures)) (omega arith))
+fill-part-requires c κs = (omega (arith, page-number (c .before .before .before .before .before .before .before .before .args .n) (length (c .before .before .before .before .before .before .before .before .args .heap .now)) (c .before .before .before .loop .k .0) (c .before .before .before .before .before .before .before .before .pre .1) (omega arith)), le-trans (page-short _ _ _ _ (c .before .before .before .before .before .before .before .before .pre .1 .low) (c .before .before .before .before .before .before .before .before .pre .1 .high) (c .before .before .before .before .before .page-words .ensures)) (omega arith))
 
-add-k : tie.Need-add-k Inv-loop μ-loop
-add-k c = omega (arith, page-number (c .before .before .before .before .before .before .before .before .before .before .args .n) (length (c .before .before .before .before .before .before .before .before .before .before .args .heap .now)) (c .before .before .before .before .before .before .loop .k) (c .before .before .before .before .before .before .before .before .before .before .pre .1) (omega arith))
+next-page-requires : tie.Need-next-page-requires Inv-loop μ-loop
+next-page-requires c κs = omega (arith, page-number (c .before .before .before .before .before .before .before .before .before .before .before .args .n) (length (c .before .before .before .before .before .before .before .before .before .before .before .args .heap .now)) (c .before .before .before .before .before .before .loop .k .0) (c .before .before .before .before .before .before .before .before .before .before .before .pre .1) (omega arith))
 
 sub-left : tie.Need-sub-left Inv-loop μ-loop
 sub-left c = omega arith
@@ -57,13 +63,15 @@ loop-less c = omega arith
 
 loop-again : tie.Need-loop-again Inv-loop μ-loop
 loop-again c =
-    let b : c .before .before .before .before .before .before .loop .k * 2 ^ c .before .before .before .before .before .before .before .before .before .before .args .n + 2 ^ c .before .before .before .before .before .before .before .before .before .before .args .n ≤ length (c .before .before .before .before .before .before .loop .heap) = omega (arith, page-inside (c .before .before .before .before .before .before .before .before .before .before .args .n) (length (c .before .before .before .before .before .before .before .before .before .before .args .heap .now)) (2 ^ c .before .before .before .before .before .before .before .before .before .before .args .n) (c .before .before .before .before .before .before .loop .k) refl (c .before .before .before .before .before .before .before .before .before .before .pre .1) (omega arith)) in (sym (pages-fill-turn _ _ _ _ _ _ _ _ _ _ (c .before .before .before .before .page-address .ensures) (c .before .before .before .before .before .before .before .page-words .ensures) b (c .before .before .fill-part .ensures .0) (c .before .before .before .before .before .loop-test .taken) (c .before .before .fill-part .ensures .1)) ∙ c .before .before .before .before .before .before .loop .inv .0, page-filled-length _ _ _ _ _ (c .before .before .before .before .before .before .loop .left) _ _ 0 _ (c .before .before .before .before .page-address .ensures) (c .before .before .before .before .before .before .before .page-words .ensures) b (c .before .before .fill-part .ensures .0) ∙ c .before .before .before .before .before .before .loop .inv .1, omega arith, omega arith)
+    let b : c .before .before .before .before .before .before .before .loop .k .0 * 2 ^ c .before .before .before .before .before .before .before .before .before .before .before .before .args .n + 2 ^ c .before .before .before .before .before .before .before .before .before .before .before .before .args .n ≤ length (c .before .before .before .before .before .before .before .loop .heap) = omega (arith, page-inside (c .before .before .before .before .before .before .before .before .before .before .before .before .args .n) (length (c .before .before .before .before .before .before .before .before .before .before .before .before .args .heap .now)) (2 ^ c .before .before .before .before .before .before .before .before .before .before .before .before .args .n) (c .before .before .before .before .before .before .before .loop .k .0) refl (c .before .before .before .before .before .before .before .before .before .before .before .before .pre .1) (omega arith)) in
+    let q = c .next-page .ensures in
+    (rw q (sym (pages-fill-turn _ _ _ _ _ _ _ _ _ _ (c .before .before .before .before .before .page-address .ensures) (c .before .before .before .before .before .before .before .before .before .page-words .ensures) b (c .before .before .before .fill-part .ensures .0) (c .before .before .before .before .before .before .loop-test .taken) (c .before .before .before .fill-part .ensures .1)) ∙ c .before .before .before .before .before .before .before .loop .inv .0), page-filled-length _ _ _ _ _ (c .before .before .before .before .before .before .before .loop .left) _ _ 0 _ (c .before .before .before .before .before .page-address .ensures) (c .before .before .before .before .before .before .before .before .before .page-words .ensures) b (c .before .before .before .fill-part .ensures .0) ∙ c .before .before .before .before .before .before .before .loop .inv .1, omega (arith, q), omega (arith, q))
 
 same-length : tie.Need-same-length Inv-loop μ-loop
 same-length c = omega arith
 
 returns : tie.Need-returns Inv-loop μ-loop
-returns c = sym (pages-fill-end _ _ _ _ _ _ (c .loop-test .left)) ∙ c .before .loop .inv .0 ∙ sets-whole _ _ (pages-at-length _ _ _ _ ∙ ap (λ k. k * 2 ^ c .before .before .before .before .before .args .n) (c .before .before .before .before .before .pre .2) ∙ whole-pages _ _ (c .before .before .before .before .before .pre .1))
+returns c = sym (pages-fill-end _ _ _ _ _ _ (c .loop-test .left)) ∙ c .before .loop .inv .0 ∙ sets-whole _ _ (pages-at-length _ _ _ _ ∙ ap (λ k. k * 2 ^ c .before .before .before .before .before .before .args .n) (c .before .before .before .before .before .before .pre .2) ∙ whole-pages _ _ (c .before .before .before .before .before .before .pre .1))
 
 pub fill-pages-spec : {M : Type 1} → statement M
 fill-pages-spec =
@@ -72,15 +80,16 @@ fill-pages-spec =
     Inv-loop
     μ-loop
     page-words-requires
+    page-numbered-requires
     loop-holds
     page-address-requires
-    add-e
+    add-high
     mul-fill-part
     sub-fill-part
     part-fill-part-start
     part-fill-part-end
     fill-part-requires
-    add-k
+    next-page-requires
     sub-left
     loop-less
     loop-again

@@ -41,10 +41,10 @@ loop-again : tie.Need-loop-again Inv-loop μ-loop
 loop-again c = let f = step-far _ _ _ _ _ _ (c .before .next .given .1) (c .before .before .before .part-frame .ensures) in (sym (page-next _ _ _ _ (c .before .before .before .before .loop-test .taken) _ (c .before .before .before .part-frame .ensures) _ (c .before .next .given .1)) ∙ c .before .before .before .before .before .loop .inv .0, omega arith, omega arith)
 
 returns-2 : tie.Need-returns-2 Inv-loop μ-loop
-returns-2 c = sym (pages-more _ _ _ _ (c .before .before .loop-test .left) (c .if1 .taken)) ∙ c .before .before .before .loop .inv .0
+returns-2 c = sym (pages-more (c .before .before .before .before .before .args .text .now) (c .before .before .before .loop .here) _ _ (c .before .before .loop-test .left) (omega arith)) ∙ c .before .before .before .loop .inv .0
 
 returns-3 : tie.Need-returns-3 Inv-loop μ-loop
-returns-3 c = sym (pages-over _ _ _ _ (c .before .before .loop-test .left) (c .if1 .left)) ∙ c .before .before .before .loop .inv .0
+returns-3 c = sym (pages-over (c .before .before .before .before .before .args .text .now) (c .before .before .before .loop .here) _ _ (c .before .before .loop-test .left) (omega arith)) ∙ c .before .before .before .loop .inv .0
 
 pub judge-pages-spec : {M : Type 1} → statement M
 judge-pages-spec =

@@ -1,9 +1,18 @@
 -- `rows::set_row` meets its contract: the row lies inside the table, and its four words are written in order.
+use Prim.Native.Nat.{ℕ, _+_, _*_}
+use mathlib.Core.Path.{_≡_}
+use mathlib.Core.List.{List}
 use borrow.Author.Needs.{needs}
+use native.Mathlib.Nat.{add-comm}
 use native.Mathlib.Omega.{arith}
-use lib.ListN.{length-set}
+use lib.ListN.{set, length-set}
+use Rattle.rules.specs.Memory.{setRow}
 use Rattle.rows.proofs.set_row.Statement.{statement}
 use Rattle.rows.proofs.set_row.Tie as tie
+
+-- the four writes, by their places
+written : (t : List ℕ) (j e fp a b i₀ i₁ i₂ i₃ : ℕ) → i₀ ≡ 4 * j → i₁ ≡ 4 * j + 1 → i₂ ≡ 4 * j + 2 → i₃ ≡ 4 * j + 3 → set (set (set (set t i₀ e) i₁ fp) i₂ a) i₃ b ≡ setRow t j e fp a b
+written t j e fp a b i₀ i₁ i₂ i₃ q₀ q₁ q₂ q₃ = rw (q₀, q₁, q₂, q₃)
 
 mul-row : tie.Need-mul-row
 mul-row c = search needs
@@ -54,7 +63,7 @@ same-length : tie.Need-same-length
 same-length c = search needs
 
 returns : tie.Need-returns
-returns c = search needs
+returns c = search (written, add-comm)
 
 pub set-row-spec : {M : Type 1} → statement M
 set-row-spec =

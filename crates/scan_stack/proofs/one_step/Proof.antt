@@ -40,6 +40,9 @@ next-scan-requires c κs = search needs
 low-requires : tie.Need-low-requires
 low-requires c κs = search needs
 
+address-numbered-requires : tie.Need-address-numbered-requires
+address-numbered-requires c κs = search needs
+
 same-length-4 : tie.Need-same-length-4
 same-length-4 c = search needs
 
@@ -48,7 +51,7 @@ same-length-5 c = search needs
 
 returns-3 : tie.Need-returns-3
 unfolding stepOn stepDef
-returns-3 c = (rw (← (c .before .before .before .before .before .before .before .before .before .before .before .before .before .before .before .top-of .ensures .0), ne-eqb _ _ (c .before .before .before .before .before .before .before .before .before .before .before .before .if1 .left), ← (c .before .before .before .before .before .before .before .before .before .scan-value .ensures), not-false (c .before .before .before .before .before .before .before .before .before .scan-value .result) (c .before .before .before .before .if2 .left), ← (c .before .next-scan .ensures), c .low .ensures .0), (c .before .before .before .before .before .before .before .before .before .before .before .before .before .before .before .before .before .before .before .pre .2, c .low .ensures .1))
+returns-3 c = (rw (c .address-numbered .ensures, ← (c .before .before .before .before .before .before .before .before .before .before .before .before .before .before .before .before .top-of .ensures .0), ne-eqb _ _ (c .before .before .before .before .before .before .before .before .before .before .before .before .before .if1 .left), ← (c .before .before .before .before .before .before .before .before .before .before .scan-value .ensures), not-false (c .before .before .before .before .before .before .before .before .before .before .scan-value .result) (c .before .before .before .before .before .if2 .left), ← (c .before .before .next-scan .ensures), c .before .low .ensures .0), (c .before .before .before .before .before .before .before .before .before .before .before .before .before .before .before .before .before .before .before .before .pre .2, rw (c .address-numbered .ensures) (c .before .low .ensures .1)))
 
 pub one-step-spec : {M : Type 1} → statement M
 one-step-spec =
@@ -65,6 +68,7 @@ one-step-spec =
     returns-2
     next-scan-requires
     low-requires
+    address-numbered-requires
     same-length-4
     same-length-5
     returns-3)

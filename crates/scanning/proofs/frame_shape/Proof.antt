@@ -2,7 +2,10 @@
 use borrow.Author.Needs.{needs}
 use mathlib.Core.Path.{sym, _∙_}
 use borrow.Author.Tests.{eq-eqb, ne-eqb, not-true, not-false}
+use Rattle.laws.proofs.Tests.{tests}
+use Rattle.rules.specs.Image.{newline}
 use Rattle.scanning.specs.Places.{frameShape}
+use Rattle.scanning.proofs.Frames.{same-by}
 use Rattle.scanning.proofs.frame_shape.Statement.{statement}
 use Rattle.scanning.proofs.frame_shape.Tie as tie
 
@@ -56,7 +59,7 @@ byte-at-requires c κs = search needs
 
 returns-4 : tie.Need-returns-4
 unfolding frameShape
-returns-4 c = rw (sym (c .before .before .before .before .before .before .before .all-digits .ensures) ∙ not-false _ (c .before .before .before .before .before .before .if1 .left), ← (c .before .before .before .before .before .number .ensures .0), eq-eqb _ _ (c .before .before .before .before .if2 .left), ← (c .before .before .before .number2 .ensures .0), sym (c .before .before .all-digits2 .ensures) ∙ not-false _ (c .before .if3 .left), ← (c .byte-at .ensures))
+returns-4 c = rw (sym (c .before .before .before .before .before .before .before .all-digits .ensures) ∙ not-false _ (c .before .before .before .before .before .before .if1 .left), ← (c .before .before .before .before .before .number .ensures .0), eq-eqb _ _ (c .before .before .before .before .if2 .left), ← (c .before .before .before .number2 .ensures .0), sym (c .before .before .all-digits2 .ensures) ∙ not-false _ (c .before .if3 .left), ← (c .byte-at .ensures)) (same-by (c .byte-at .result) newline _ (λ q. rw q) (λ n m. search (tests, n, m)))
 
 pub frame-shape-spec : {M : Type 1} → statement M
 frame-shape-spec =

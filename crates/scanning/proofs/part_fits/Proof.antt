@@ -3,7 +3,8 @@ use borrow.Author.Needs.{needs}
 use mathlib.Core.Path.{sym, ap, _∙_}
 use mathlib.Core.Bool.{not}
 use lib.Dec.{eqb}
-use Rattle.scanning.proofs.Frames.{fits-long, fits-none, fits-last}
+use Rattle.laws.proofs.Tests.{tests}
+use Rattle.scanning.proofs.Frames.{fits-long, fits-none, fits-last, some-by}
 use Rattle.scanning.proofs.part_fits.Statement.{statement}
 use Rattle.scanning.proofs.part_fits.Tie as tie
 
@@ -26,7 +27,7 @@ number-requires : tie.Need-number-requires
 number-requires c κs = search needs
 
 returns-3 : tie.Need-returns-3
-returns-3 c = ap (λ w. not (eqb w 0)) (c .number .ensures .0) ∙ sym (fits-last _ _ _ _ (c .before .before .if1 .left) (c .before .if2 .left))
+returns-3 c = some-by (c .number .result) _ (λ q. rw q) (λ b n m. search (tests, b, n, m)) ∙ ap (λ w. not (eqb w 0)) (c .number .ensures .0) ∙ sym (fits-last _ _ _ _ (c .before .before .if1 .left) (c .before .if2 .left))
 
 pub part-fits-spec : {M : Type 1} → statement M
 part-fits-spec =

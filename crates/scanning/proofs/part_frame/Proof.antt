@@ -2,7 +2,9 @@
 use borrow.Author.Needs.{needs}
 use mathlib.Core.Path.{sym, _∙_}
 use borrow.Author.Tests.{not-true, not-false}
+use native.Mathlib.Omega.{arith}
 use Rattle.scanning.specs.Places.{frameStep, frameFits}
+use Rattle.scanning.proofs.Frames.{next-same}
 use Rattle.scanning.proofs.part_frame.Statement.{statement}
 use Rattle.scanning.proofs.part_frame.Tie as tie
 
@@ -46,7 +48,7 @@ add-t10 c = search needs
 
 returns-3 : tie.Need-returns-3
 unfolding frameStep frameFits
-returns-3 c = rw (sym (c .before .before .before .before .frame-shape .ensures) ∙ not-false _ (c .before .before .before .if1 .left), ← (c .before .before .number .ensures .0), sym (c .before .part-fits .ensures) ∙ not-false _ (c .if2 .left))
+returns-3 c = rw (sym (c .before .before .before .before .frame-shape .ensures) ∙ not-false _ (c .before .before .before .if1 .left), ← (c .before .before .number .ensures .0), sym (c .before .part-fits .ensures) ∙ not-false _ (c .if2 .left)) (next-same (omega arith) (omega arith))
 
 pub part-frame-spec : {M : Type 1} → statement M
 part-frame-spec =

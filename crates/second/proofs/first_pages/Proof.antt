@@ -7,10 +7,13 @@ use Rattle.second.proofs.first_pages.Statement.{statement}
 use Rattle.second.proofs.first_pages.Tie as tie
 
 abbrev Inv-loop : tie.InvT-loop
-Inv-loop new₀ n regions j₀ new j = (length new ≡ length new₀) × (j ≤ regions)
+Inv-loop new₀ n regions j₀ new j = (length new ≡ length new₀) × (j .0 ≤ regions)
 
 abbrev μ-loop : tie.MeasureT-loop
-μ-loop new₀ n regions j₀ new j = regions - j
+μ-loop new₀ n regions j₀ new j = regions - j .0
+
+region-of-requires : tie.Need-region-of-requires Inv-loop μ-loop
+region-of-requires c κs = search needs
 
 loop-holds : tie.Need-loop-holds Inv-loop μ-loop
 loop-holds c = search needs
@@ -24,8 +27,8 @@ same-length c = search needs
 returns : tie.Need-returns Inv-loop μ-loop
 returns c = search needs
 
-add-j : tie.Need-add-j Inv-loop μ-loop
-add-j c = search needs
+next-region-requires : tie.Need-next-region-requires Inv-loop μ-loop
+next-region-requires c κs = search needs
 
 loop-less : tie.Need-loop-less Inv-loop μ-loop
 loop-less c = search needs
@@ -45,11 +48,12 @@ first-pages-spec =
     (tie.spec
     Inv-loop
     μ-loop
+    region-of-requires
     loop-holds
     first-page-requires
     same-length
     returns
-    add-j
+    next-region-requires
     loop-less
     loop-again
     same-length-2

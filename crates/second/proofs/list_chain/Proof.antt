@@ -20,11 +20,11 @@ same-length c = search needs
 returns : tie.Need-returns Inv-loop μ-loop
 returns c = search needs
 
-sub-list-page : tie.Need-sub-list-page Inv-loop μ-loop
-sub-list-page c = search needs
-
 list-page-requires : tie.Need-list-page-requires Inv-loop μ-loop
 list-page-requires c κs = search needs
+
+named-page-requires : tie.Need-named-page-requires Inv-loop μ-loop
+named-page-requires c κs = search needs
 
 base-requires : tie.Need-base-requires Inv-loop μ-loop
 base-requires c κs = search needs
@@ -56,8 +56,8 @@ list-chain-spec =
     loop-holds
     same-length
     returns
-    sub-list-page
     list-page-requires
+    named-page-requires
     base-requires
     get-requires
     sub-left

@@ -7,34 +7,40 @@ use Rattle.second.proofs.list_old.Statement.{statement}
 use Rattle.second.proofs.list_old.Tie as tie
 
 abbrev Inv-loop : tie.InvT-loop
-Inv-loop old new₀ n regions j₀ new j = (length new ≡ length new₀) × (j ≤ regions)
+Inv-loop old new₀ n regions j₀ new j = (length new ≡ length new₀) × (j .0 ≤ regions)
 
 abbrev μ-loop : tie.MeasureT-loop
-μ-loop old new₀ n regions j₀ new j = regions - j
+μ-loop old new₀ n regions j₀ new j = regions - j .0
+
+region-of-requires : tie.Need-region-of-requires Inv-loop μ-loop
+region-of-requires c κs = search needs
 
 loop-holds : tie.Need-loop-holds Inv-loop μ-loop
 loop-holds c = search needs
 
-mul-get : tie.Need-mul-get Inv-loop μ-loop
-mul-get c = search needs
+mul-address-in : tie.Need-mul-address-in Inv-loop μ-loop
+mul-address-in c = search needs
 
-add-get : tie.Need-add-get Inv-loop μ-loop
-add-get c = search needs
+add-address-in : tie.Need-add-address-in Inv-loop μ-loop
+add-address-in c = search needs
 
-add-get-2 : tie.Need-add-get-2 Inv-loop μ-loop
-add-get-2 c = search needs
+add-address-in-2 : tie.Need-add-address-in-2 Inv-loop μ-loop
+add-address-in-2 c = search needs
 
-get-requires : tie.Need-get-requires Inv-loop μ-loop
-get-requires c κs = search needs
+address-in-requires : tie.Need-address-in-requires Inv-loop μ-loop
+address-in-requires c κs = search needs
 
-link-of-requires : tie.Need-link-of-requires Inv-loop μ-loop
-link-of-requires c κs = search needs
+page-at-requires : tie.Need-page-at-requires Inv-loop μ-loop
+page-at-requires c κs = search needs
+
+link-to-requires : tie.Need-link-to-requires Inv-loop μ-loop
+link-to-requires c κs = search needs
 
 list-chain-requires : tie.Need-list-chain-requires Inv-loop μ-loop
 list-chain-requires c κs = search needs
 
-add-j : tie.Need-add-j Inv-loop μ-loop
-add-j c = search needs
+next-region-requires : tie.Need-next-region-requires Inv-loop μ-loop
+next-region-requires c κs = search needs
 
 loop-less : tie.Need-loop-less Inv-loop μ-loop
 loop-less c = search needs
@@ -54,14 +60,16 @@ list-old-spec =
     (tie.spec
     Inv-loop
     μ-loop
+    region-of-requires
     loop-holds
-    mul-get
-    add-get
-    add-get-2
-    get-requires
-    link-of-requires
+    mul-address-in
+    add-address-in
+    add-address-in-2
+    address-in-requires
+    page-at-requires
+    link-to-requires
     list-chain-requires
-    add-j
+    next-region-requires
     loop-less
     loop-again
     same-length

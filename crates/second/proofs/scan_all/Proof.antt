@@ -38,6 +38,9 @@ add-get c = search needs
 get-requires-2 : tie.Need-get-requires-2 Inv-loop μ-loop
 get-requires-2 c κs = search needs
 
+region-of-requires : tie.Need-region-of-requires Inv-loop μ-loop
+region-of-requires c κs = search needs
+
 scan-region-requires : tie.Need-scan-region-requires Inv-loop μ-loop
 scan-region-requires c κs = search needs
 
@@ -77,6 +80,7 @@ scan-all-spec =
     sub-get
     add-get
     get-requires-2
+    region-of-requires
     scan-region-requires
     same-length-2
     returns-2

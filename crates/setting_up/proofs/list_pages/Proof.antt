@@ -1,7 +1,8 @@
 -- `setting_up::list_pages` meets its contract. The invariant is `Linked`: the pages below k are linked, and from page k on all words are 0.
-use Prim.Native.Nat.{_+_, _/_, _^_, _<_}
-use mathlib.Core.Path.{_≡_, refl, sym}
+use Prim.Native.Nat.{suc, _+_, _/_, _^_, _<_}
+use mathlib.Core.Path.{_≡_, refl, sym, ap, _∙_}
 use native.Mathlib.Omega.{arith}
+use borrow.Author.Needs.{needs}
 use lib.ListN.{length, length-set}
 use Rattle.rules.proofs.Limits.{whole-pages, two-pages, page-number, page-inside}
 use Rattle.rules.proofs.Fresh.{Linked, linked-start, linked-more, linked-end}
@@ -9,46 +10,46 @@ use Rattle.setting_up.proofs.list_pages.Statement.{statement}
 use Rattle.setting_up.proofs.list_pages.Tie as tie
 
 abbrev Inv-loop : tie.InvT-loop
-Inv-loop heap₀ n k₀ left₀ heap k left = (Linked n (length heap₀ / 2 ^ n) k left heap) × (length heap ≡ length heap₀)
+Inv-loop heap₀ n k₀ left₀ heap k left = (Linked n (length heap₀ / 2 ^ n) (k .0) left heap) × (length heap ≡ length heap₀)
 
 abbrev μ-loop : tie.MeasureT-loop
 μ-loop heap₀ n k₀ left₀ heap k left = left
 
+page-numbered-requires : tie.Need-page-numbered-requires Inv-loop μ-loop
+page-numbered-requires c κs = search needs
+
 page-count-requires : tie.Need-page-count-requires Inv-loop μ-loop
-page-count-requires c κs = c .before .pre .0 .high
+page-count-requires c κs = c .before .before .pre .0 .high
 
 sub-left : tie.Need-sub-left Inv-loop μ-loop
-sub-left c = omega (arith, c .page-count .ensures, two-pages _ _ (c .before .before .pre .0) (c .before .before .pre .1))
+sub-left c = omega (arith, c .page-count .ensures, two-pages _ _ (c .before .before .before .pre .0) (c .before .before .before .pre .1))
 
 loop-holds : tie.Need-loop-holds Inv-loop μ-loop
 loop-holds c =
-    let b = two-pages _ _ (c .before .before .pre .0) (c .before .before .pre .1) in
+    let b = two-pages _ _ (c .before .before .before .pre .0) (c .before .before .before .pre .1) in
     let q = c .page-count .ensures in
-    (rw q (linked-start _ _ _ (omega arith) (sym (whole-pages _ _ (c .before .before .pre .0))) (c .before .before .pre .2)), refl)
+    (rw (c .before .page-numbered .ensures, q) (linked-start _ _ _ (omega arith) (sym (whole-pages _ _ (c .before .before .before .pre .0))) (c .before .before .before .pre .2)), refl)
 
-here : (c : tie.In-loop Inv-loop μ-loop) → c .before .loop .k < length (c .before .before .before .before .args .heap .now) / 2 ^ c .before .before .before .before .args .n
+here : (c : tie.In-loop Inv-loop μ-loop) → c .before .loop .k .0 < length (c .before .before .before .before .before .args .heap .now) / 2 ^ c .before .before .before .before .before .args .n
 here c = omega (arith, c .before .loop .inv .0 .counted)
 
+next-page-requires : tie.Need-next-page-requires Inv-loop μ-loop
+next-page-requires c κs = let b = page-number _ _ _ (c .before .before .before .before .before .pre .0) (here c) in omega (arith, b .0)
+
 page-address-requires : tie.Need-page-address-requires Inv-loop μ-loop
-page-address-requires c κs = page-number _ _ _ (c .before .before .before .before .pre .0) (here c)
+page-address-requires c κs = page-number _ _ _ (c .before .before .before .before .before .before .pre .0) (here (c .before))
 
-add-t12 : tie.Need-add-t12 Inv-loop μ-loop
-add-t12 c = omega arith
-
-next : (c : tie.In-loop Inv-loop μ-loop) → c .before .loop .k + 1 < length (c .before .before .before .before .args .heap .now) / 2 ^ c .before .before .before .before .args .n
+next : (c : tie.In-loop Inv-loop μ-loop) → c .before .loop .k .0 + 1 < length (c .before .before .before .before .before .args .heap .now) / 2 ^ c .before .before .before .before .before .args .n
 next c = omega (arith, c .before .loop .inv .0 .counted)
 
 page-link-requires : tie.Need-page-link-requires Inv-loop μ-loop
-page-link-requires c κs = let b = page-number _ _ _ (c .before .before .before .before .before .pre .0) (next (c .before)) in omega (arith, b .0)
+page-link-requires c κs = let b = page-number _ _ _ (c .before .before .before .before .before .before .before .pre .0) (next (c .before .before)) in omega (arith, c .before .next-page .ensures, b .0)
 
 mul-heap : tie.Need-mul-heap Inv-loop μ-loop
-mul-heap c = let i = page-inside _ _ _ _ refl (c .before .before .before .before .before .before .pre .0) (here (c .before .before)) in omega (arith, c .before .page-address .ensures)
+mul-heap c = let i = page-inside _ _ _ _ refl (c .before .before .before .before .before .before .before .before .pre .0) (here (c .before .before .before)) in omega (arith, c .before .page-address .ensures)
 
 slice-write-heap : tie.Need-slice-write-heap Inv-loop μ-loop
-slice-write-heap c = let i = page-inside _ _ _ _ refl (c .before .before .before .before .before .before .pre .0) (here (c .before .before)) in omega (arith, c .before .page-address .ensures)
-
-add-k : tie.Need-add-k Inv-loop μ-loop
-add-k c = let i = page-number _ _ _ (c .before .before .before .before .before .before .pre .0) (here (c .before .before)) in omega arith
+slice-write-heap c = let i = page-inside _ _ _ _ refl (c .before .before .before .before .before .before .before .before .pre .0) (here (c .before .before .before)) in omega (arith, c .before .page-address .ensures)
 
 sub-left-2 : tie.Need-sub-left-2 Inv-loop μ-loop
 sub-left-2 c = omega arith
@@ -57,7 +58,9 @@ loop-less : tie.Need-loop-less Inv-loop μ-loop
 loop-less c = omega arith
 
 loop-again : tie.Need-loop-again Inv-loop μ-loop
-loop-again c = (linked-more _ _ _ _ _ _ _ (c .before .before .before .loop .inv .0) (c .before .before .loop-test .taken) (c .before .page-address .ensures) (c .page-link .ensures), simp length-set (c .before .before .before .loop .inv .1))
+loop-again c =
+    let q = c .before .before .next-page .ensures in
+    (rw q (linked-more _ _ _ _ _ _ _ (c .before .before .before .before .loop .inv .0) (c .before .before .before .loop-test .taken) (c .before .page-address .ensures) (c .page-link .ensures ∙ ap suc q)), simp length-set (c .before .before .before .before .loop .inv .1))
 
 same-length : tie.Need-same-length Inv-loop μ-loop
 same-length c = c .before .loop .inv .1
@@ -71,15 +74,15 @@ list-pages-spec =
     (tie.spec
     Inv-loop
     μ-loop
+    page-numbered-requires
     page-count-requires
     sub-left
     loop-holds
+    next-page-requires
     page-address-requires
-    add-t12
     page-link-requires
     mul-heap
     slice-write-heap
-    add-k
     sub-left-2
     loop-less
     loop-again

@@ -38,17 +38,23 @@ clear-requires-2 c κs = search needs
 fill-requires : tie.Need-fill-requires
 fill-requires c κs = search needs
 
-sub-t10 : tie.Need-sub-t10
-sub-t10 c = let b = two-pages _ _ (inside (c .before .before .before .before .before .before .before .before .before .before .before .before .before .before .before .before .before) .paged) (inside (c .before .before .before .before .before .before .before .before .before .before .before .before .before .before .before .before .before) .two) in omega (arith, c .before .before .before .before .before .before .before .before .before .before .before .before .before .before .before .before .page-count .ensures)
+sub-page-numbered : tie.Need-sub-page-numbered
+sub-page-numbered c = let b = two-pages _ _ (inside (c .before .before .before .before .before .before .before .before .before .before .before .before .before .before .before .before .before) .paged) (inside (c .before .before .before .before .before .before .before .before .before .before .before .before .before .before .before .before .before) .two) in omega (arith, c .before .before .before .before .before .before .before .before .before .before .before .before .before .before .before .before .page-count .ensures)
+
+page-numbered-requires : tie.Need-page-numbered-requires
+page-numbered-requires c κs = search needs
 
 page-link-requires : tie.Need-page-link-requires
-page-link-requires c κs = omega (arith, c .before .before .before .before .before .before .before .before .before .before .before .before .before .before .before .before .page-count .ensures, shr-le (length (c .before .before .before .before .before .before .before .before .before .before .before .before .before .before .before .before .before .before .before .before .before .before .before .args .heap .now)) (c .before .before .before .before .before .before .before .before .before .before .before .before .before .before .before .before .before .before .before .before .before .before .before .args .n), inside (c .before .before .before .before .before .before .before .before .before .before .before .before .before .before .before .before .before) .paged .size)
+page-link-requires c κs = omega (arith, c .page-numbered .ensures, c .before .before .before .before .before .before .before .before .before .before .before .before .before .before .before .before .before .page-count .ensures, shr-le (length (c .before .before .before .before .before .before .before .before .before .before .before .before .before .before .before .before .before .before .before .before .before .before .before .before .args .heap .now)) (c .before .before .before .before .before .before .before .before .before .before .before .before .before .before .before .before .before .before .before .before .before .before .before .before .args .n), inside (c .before .before .before .before .before .before .before .before .before .before .before .before .before .before .before .before .before .before) .paged .size)
+
+cast-count : tie.Need-cast-count
+cast-count c = search needs
+
+page-numbered-requires-2 : tie.Need-page-numbered-requires-2
+page-numbered-requires-2 c κs = search needs
 
 page-link-requires-2 : tie.Need-page-link-requires-2
 page-link-requires-2 c κs = search needs
-
-cast-t26 : tie.Need-cast-t26
-cast-t26 c = search needs
 
 same-length : tie.Need-same-length
 same-length c = search needs
@@ -62,9 +68,9 @@ same-length-3 c = search needs
 returns-2 : tie.Need-returns-2
 unfolding setUp
 returns-2 c =
-    let b = two-pages _ _ (inside (c .before .before .before .before .before .before .before .before .before .before .before .before .before .before .before .before .before .before .before) .paged) (inside (c .before .before .before .before .before .before .before .before .before .before .before .before .before .before .before .before .before .before .before) .two) in
-    let n : suc (length (c .before .before .before .before .before .before .before .before .before .before .before .before .before .before .before .before .before .before .before .before .before .before .before .before .before .args .heap .now) / 2 ^ c .before .before .before .before .before .before .before .before .before .before .before .before .before .before .before .before .before .before .before .before .before .before .before .before .before .args .n - 1) ≡ length (c .before .before .before .before .before .before .before .before .before .before .before .before .before .before .before .before .before .before .before .before .before .before .before .before .before .args .heap .now) / 2 ^ c .before .before .before .before .before .before .before .before .before .before .before .before .before .before .before .before .before .before .before .before .before .before .before .before .before .args .n = omega arith in
-    rw (← (c .before .before .before .before .before .before .before .before .before .before .before .before .before .before .before .before .before .before .before .before .within-limits .ensures), c .before .before .before .before .before .before .before .before .before .before .before .before .before .before .before .before .before .before .before .if1 .left, c .before .before .before .before .before .before .before .before .before .before .before .before .list-pages .ensures, c .before .before .before .before .before .before .before .before .before .before .before .before .before .before .before .before .clear .kept .0, c .before .before .before .before .before .before .before .before .clear2 .ensures, c .before .before .before .before .fill .ensures, c .before .page-link .ensures, c .page-link2 .ensures, c .before .before .before .before .before .before .before .before .before .before .before .before .before .before .before .before .before .before .page-count .ensures, n)
+    let b = two-pages _ _ (inside (c .before .before .before .before .before .before .before .before .before .before .before .before .before .before .before .before .before .before .before .before .before) .paged) (inside (c .before .before .before .before .before .before .before .before .before .before .before .before .before .before .before .before .before .before .before .before .before) .two) in
+    let n : suc (length (c .before .before .before .before .before .before .before .before .before .before .before .before .before .before .before .before .before .before .before .before .before .before .before .before .before .before .before .args .heap .now) / 2 ^ c .before .before .before .before .before .before .before .before .before .before .before .before .before .before .before .before .before .before .before .before .before .before .before .before .before .before .before .args .n - 1) ≡ length (c .before .before .before .before .before .before .before .before .before .before .before .before .before .before .before .before .before .before .before .before .before .before .before .before .before .before .before .args .heap .now) / 2 ^ c .before .before .before .before .before .before .before .before .before .before .before .before .before .before .before .before .before .before .before .before .before .before .before .before .before .before .before .args .n = omega arith in
+    rw (← (c .before .before .before .before .before .before .before .before .before .before .before .before .before .before .before .before .before .before .before .before .before .before .within-limits .ensures), c .before .before .before .before .before .before .before .before .before .before .before .before .before .before .before .before .before .before .before .before .before .if1 .left, c .before .before .before .before .before .before .before .before .before .before .before .before .before .before .list-pages .ensures, c .before .before .before .before .before .before .before .before .before .before .before .before .before .before .before .before .before .before .clear .kept .0, c .before .before .before .before .before .before .before .before .before .before .clear2 .ensures, c .before .before .before .before .before .before .fill .ensures, c .before .before .page-link .ensures, c .before .before .before .page-numbered .ensures, c .page-link2 .ensures, c .before .page-numbered2 .ensures, c .before .before .before .before .before .before .before .before .before .before .before .before .before .before .before .before .before .before .before .before .page-count .ensures, n)
 
 pub set-up-spec : {M : Type 1} → statement M
 set-up-spec =
@@ -77,10 +83,12 @@ set-up-spec =
     list-pages-requires
     clear-requires-2
     fill-requires
-    sub-t10
+    sub-page-numbered
+    page-numbered-requires
     page-link-requires
+    cast-count
+    page-numbered-requires-2
     page-link-requires-2
-    cast-t26
     same-length
     same-length-2
     same-length-3

@@ -9,21 +9,44 @@ use Rattle.table_words.proofs.rule2.Tie as tie
 cast-regions : tie.Need-cast-regions
 cast-regions c = omega arith
 
-mul-t8 : tie.Need-mul-t8
-mul-t8 c = omega arith
+mul-rows : tie.Need-mul-rows
+mul-rows c = omega arith
 
-zero-between-requires : tie.Need-zero-between-requires
-zero-between-requires c κs = omega arith
+mul-all-zero : tie.Need-mul-all-zero
+mul-all-zero c = omega arith
+
+sub-all-zero : tie.Need-sub-all-zero
+sub-all-zero c = omega arith
+
+part-all-zero-start : tie.Need-part-all-zero-start
+part-all-zero-start c = omega arith
+
+part-all-zero-end : tie.Need-part-all-zero-end
+part-all-zero-end c = omega arith
+
+all-zero-requires : tie.Need-all-zero-requires
+all-zero-requires c κs = omega arith
 
 returns : tie.Need-returns
-returns c = sym (two-off _ _ _ _ _ (c .before .before .before .before .before .before .before .pre .regions) (sym (c .before .zero-between .ensures) ∙ not-true _ (c .if1 .taken)))
+returns c = sym (two-off _ _ _ _ _ (c .before .before .before .before .before .before .before .before .pre .regions) (sym (c .before .all-zero .ensures) ∙ not-true _ (c .if1 .taken)))
 
 idle-requires : tie.Need-idle-requires
 idle-requires c κs = omega arith
 
 returns-2 : tie.Need-returns-2
-returns-2 c = c .idle .ensures ∙ sym (two-at _ _ _ _ _ (c .before .before .before .before .before .before .before .before .pre .regions) (sym (c .before .before .zero-between .ensures) ∙ not-false _ (c .before .if1 .left)))
+returns-2 c = c .idle .ensures ∙ sym (two-at _ _ _ _ _ (c .before .before .before .before .before .before .before .before .before .pre .regions) (sym (c .before .before .all-zero .ensures) ∙ not-false _ (c .before .if1 .left)))
 
 pub rule2-spec : {M : Type 1} → statement M
 rule2-spec =
-    tie.close (tie.spec cast-regions mul-t8 zero-between-requires returns idle-requires returns-2)
+    tie.close
+    (tie.spec
+    cast-regions
+    mul-rows
+    mul-all-zero
+    sub-all-zero
+    part-all-zero-start
+    part-all-zero-end
+    all-zero-requires
+    returns
+    idle-requires
+    returns-2)

@@ -1,55 +1,52 @@
--- `table_words::zero_between` meets its contract: what is left to test, from the present address on, is the whole test.
-use mathlib.Core.Path.{_≡_, sym, _∙_}
-use mathlib.Core.Bool.{true, _&&_}
-use Prim.Native.Nat.{_-_}
-use native.Mathlib.Omega.{arith}
+-- `table_words::zero_between` meets its contract: no words lie from an address up to one that is not above it; others are lent to be tested.
+use Prim.Native.Nat.{ℕ, _+_, _-_, _≤_, _<_}
+use mathlib.Core.Path.{_≡_, sym, ap, _∙_}
+use mathlib.Core.Bool.{true}
+use mathlib.Core.List.{List}
+use lib.ListN.{take, drop}
 use lib.Seq.{slice}
+use native.Mathlib.Omega.{arith}
 use Rattle.laws.specs.Lists.{zeros}
-use Rattle.laws.proofs.Tests.{and-yes, zeros-end, zeros-go, zeros-stop}
+use Rattle.laws.proofs.Lists.{drop-take, slice-none}
 use Rattle.table_words.proofs.zero_between.Statement.{statement}
 use Rattle.table_words.proofs.zero_between.Tie as tie
 
-abbrev Inv-loop : tie.InvT-loop
-Inv-loop words end at₀ at = (zeros (slice at end words) && true) ≡ zeros (slice at₀ end words)
+part : (l : List ℕ) (s e : ℕ) → s < e → take (e - s) (drop s l) ≡ slice s e l
+part l s e b = let q : s + (e - s) ≡ e = omega arith in sym (drop-take s (e - s) l) ∙ ap (λ x. slice s x l) q
 
-abbrev μ-loop : tie.MeasureT-loop
-μ-loop words end at₀ at = end - at
+none : (l : List ℕ) (s e : ℕ) → e ≤ s → zeros (slice s e l) ≡ true
+unfolding zeros
+none l s e b = rw (slice-none s e l b)
 
-loop-holds : tie.Need-loop-holds Inv-loop μ-loop
-loop-holds c = and-yes _
+returns : tie.Need-returns
+returns c = sym (none _ _ _ (c .if1 .taken))
 
-mul-if1 : tie.Need-mul-if1 Inv-loop μ-loop
-mul-if1 c = omega arith
+mul-all-zero : tie.Need-mul-all-zero
+mul-all-zero c = omega arith
 
-shared-slice-read-if1 : tie.Need-shared-slice-read-if1 Inv-loop μ-loop
-shared-slice-read-if1 c = omega arith
+sub-all-zero : tie.Need-sub-all-zero
+sub-all-zero c = omega arith
 
-returns : tie.Need-returns Inv-loop μ-loop
-returns c = sym (zeros-stop _ _ _ _ (c .before .before .loop-test .taken) (c .before .before .before .before .pre) (c .if1 .taken)) ∙ c .before .before .before .loop .inv
+part-all-zero-start : tie.Need-part-all-zero-start
+part-all-zero-start c = omega arith
 
-add-at : tie.Need-add-at Inv-loop μ-loop
-add-at c = omega arith
+part-all-zero-end : tie.Need-part-all-zero-end
+part-all-zero-end c = omega arith
 
-loop-less : tie.Need-loop-less Inv-loop μ-loop
-loop-less c = omega arith
+all-zero-requires : tie.Need-all-zero-requires
+all-zero-requires c κs = omega arith
 
-loop-again : tie.Need-loop-again Inv-loop μ-loop
-loop-again c = sym (zeros-go _ _ _ _ (c .before .before .loop-test .taken) (c .before .before .before .before .pre) (c .if1 .left)) ∙ c .before .before .before .loop .inv
-
-returns-2 : tie.Need-returns-2 Inv-loop μ-loop
-returns-2 c = sym (zeros-end _ _ _ _ (c .loop-test .left)) ∙ c .before .loop .inv
+returns-2 : tie.Need-returns-2
+returns-2 c = c .all-zero .ensures ∙ ap zeros (part _ _ _ (c .before .before .if1 .left))
 
 pub zero-between-spec : {M : Type 1} → statement M
 zero-between-spec =
     tie.close
     (tie.spec
-    Inv-loop
-    μ-loop
-    loop-holds
-    mul-if1
-    shared-slice-read-if1
     returns
-    add-at
-    loop-less
-    loop-again
+    mul-all-zero
+    sub-all-zero
+    part-all-zero-start
+    part-all-zero-end
+    all-zero-requires
     returns-2)

@@ -13,7 +13,7 @@ use Rattle.undoing.proofs.undo_page.Statement.{statement}
 use Rattle.undoing.proofs.undo_page.Tie as tie
 
 abbrev Inv-loop : tie.InvT-loop
-Inv-loop heap₀ n p e x₀ left₀ heap x left = (undoVals left e (after (x .0) heap) ≡ undoVals p e (after (x₀ .0) heap₀)) × (length heap ≡ length heap₀)
+Inv-loop heap₀ n p e x₀ left₀ heap x left = (undoVals left (e .0) (after (x .0) heap) ≡ undoVals p (e .0) (after (x₀ .0) heap₀)) × (length heap ≡ length heap₀)
 
 abbrev μ-loop : tie.MeasureT-loop
 μ-loop heap₀ n p e x₀ left₀ heap x left = left
@@ -24,32 +24,32 @@ page-address-requires c κs = (c .before .pre .2, c .before .pre .1)
 page-words-requires : tie.Need-page-words-requires Inv-loop μ-loop
 page-words-requires c κs = (c .before .before .pre .0, c .before .before .pre .1)
 
-add-e : tie.Need-add-e Inv-loop μ-loop
-add-e c = omega (arith, c .before .before .page-address .ensures, c .before .page-words .ensures, page-below _ _ (c .before .before .before .before .pre .1) (c .before .before .before .before .pre .2), page-size _ (c .before .before .before .before .pre .0) (c .before .before .before .before .pre .1))
+address-behind-requires : tie.Need-address-behind-requires Inv-loop μ-loop
+address-behind-requires c κs = omega (arith, c .before .page-address .ensures, c .page-words .ensures, page-below _ _ (c .before .before .before .pre .1) (c .before .before .before .pre .2), page-size _ (c .before .before .before .pre .0) (c .before .before .before .pre .1))
 
-add-t10 : tie.Need-add-t10 Inv-loop μ-loop
-add-t10 c = omega (arith, c .before .before .before .page-address .ensures, c .before .before .page-words .ensures, page-below _ _ (c .before .before .before .before .before .pre .1) (c .before .before .before .before .before .pre .2), page-size _ (c .before .before .before .before .before .pre .0) (c .before .before .before .before .before .pre .1))
+address-behind-requires-2 : tie.Need-address-behind-requires-2 Inv-loop μ-loop
+address-behind-requires-2 c κs = omega (arith, c .before .before .page-address .ensures, c .before .page-words .ensures, page-below _ _ (c .before .before .before .before .pre .1) (c .before .before .before .before .pre .2), page-size _ (c .before .before .before .before .pre .0) (c .before .before .before .before .pre .1))
 
 loop-holds : tie.Need-loop-holds Inv-loop μ-loop
 loop-holds c = (refl, refl)
 
 same-length : tie.Need-same-length Inv-loop μ-loop
-same-length c = c .before .before .before .loop .inv .1
+same-length c = c .before .before .before .before .loop .inv .1
 
 returns : tie.Need-returns Inv-loop μ-loop
-returns c = sym (undo-past _ _ _ _ (c .before .before .loop-test .taken) (c .if1 .taken)) ∙ c .before .before .before .loop .inv .0 ∙ undo-all _ _ _ _ _ (c .before .before .before .before .before .before .before .page-address .ensures) (c .before .before .before .before .before .before .page-words .ensures)
+returns c = sym (undo-past _ _ _ _ (c .before .before .before .loop-test .taken) (c .if1 .taken)) ∙ c .before .before .before .before .loop .inv .0 ∙ undo-all _ _ _ _ _ _ _ (c .before .before .before .before .before .before .before .before .page-address .ensures) (c .before .before .before .before .before .before .before .page-words .ensures) (c .before .before .before .before .before .before .address-behind .ensures) (c .before .before .before .before .before .address-behind2 .ensures)
 
 word-requires : tie.Need-word-requires Inv-loop μ-loop
 word-requires c κs = search needs
 
 same-length-2 : tie.Need-same-length-2 Inv-loop μ-loop
-same-length-2 c = c .before .before .before .before .before .before .loop .inv .1
+same-length-2 c = c .before .before .before .before .before .before .before .loop .inv .1
 
 returns-2 : tie.Need-returns-2 Inv-loop μ-loop
-returns-2 c = sym (undo-zero _ _ _ _ _ (c .before .before .before .before .before .loop-test .taken) (c .before .before .before .if1 .left) (c .before .word .ensures .0) (c .if2 .taken)) ∙ c .before .before .before .before .before .before .loop .inv .0 ∙ undo-all _ _ _ _ _ (c .before .before .before .before .before .before .before .before .before .before .page-address .ensures) (c .before .before .before .before .before .before .before .before .before .page-words .ensures)
+returns-2 c = sym (undo-zero _ _ _ _ _ (c .before .before .before .before .before .before .loop-test .taken) (c .before .before .before .if1 .left) (c .before .word .ensures .0) (c .if2 .taken)) ∙ c .before .before .before .before .before .before .before .loop .inv .0 ∙ undo-all _ _ _ _ _ _ _ (c .before .before .before .before .before .before .before .before .before .before .before .page-address .ensures) (c .before .before .before .before .before .before .before .before .before .before .page-words .ensures) (c .before .before .before .before .before .before .before .before .before .address-behind .ensures) (c .before .before .before .before .before .before .before .before .address-behind2 .ensures)
 
 undo-value-requires : tie.Need-undo-value-requires Inv-loop μ-loop
-undo-value-requires c κs = omega (arith, c .before .before .before .before .before .before .before .before .before .before .before .page-address .ensures, c .before .before .before .before .before .before .before .before .before .before .page-words .ensures, page-below _ _ (c .before .before .before .before .before .before .before .before .before .before .before .before .before .pre .1) (c .before .before .before .before .before .before .before .before .before .before .before .before .before .pre .2), page-size _ (c .before .before .before .before .before .before .before .before .before .before .before .before .before .pre .0) (c .before .before .before .before .before .before .before .before .before .before .before .before .before .pre .1))
+undo-value-requires c κs = omega (arith, c .before .before .before .before .before .before .before .before .before .before .before .before .page-address .ensures, c .before .before .before .before .before .before .before .before .before .before .before .page-words .ensures, page-below _ _ (c .before .before .before .before .before .before .before .before .before .before .before .before .before .before .pre .1) (c .before .before .before .before .before .before .before .before .before .before .before .before .before .before .pre .2), page-size _ (c .before .before .before .before .before .before .before .before .before .before .before .before .before .before .pre .0) (c .before .before .before .before .before .before .before .before .before .before .before .before .before .before .pre .1))
 
 sub-left : tie.Need-sub-left Inv-loop μ-loop
 sub-left c = omega arith
@@ -58,13 +58,13 @@ loop-less : tie.Need-loop-less Inv-loop μ-loop
 loop-less c = omega arith
 
 loop-again : tie.Need-loop-again Inv-loop μ-loop
-loop-again c = (sym (undo-more _ _ _ _ _ _ (c .before .before .before .before .before .before .before .before .before .loop-test .taken) (c .before .before .before .before .before .before .before .if1 .left) (c .before .before .before .before .before .word .ensures .0) (c .before .before .before .before .if2 .left) (c .before .before .undo-value .ensures)) ∙ c .before .before .before .before .before .before .before .before .before .before .loop .inv .0, c .before .before .undo-value .kept .0 ∙ c .before .before .before .before .before .before .before .before .before .before .loop .inv .1)
+loop-again c = (sym (undo-more _ _ _ _ _ _ (c .before .before .before .before .before .before .before .before .before .before .loop-test .taken) (c .before .before .before .before .before .before .before .if1 .left) (c .before .before .before .before .before .word .ensures .0) (c .before .before .before .before .if2 .left) (c .before .before .undo-value .ensures)) ∙ c .before .before .before .before .before .before .before .before .before .before .before .loop .inv .0, c .before .before .undo-value .kept .0 ∙ c .before .before .before .before .before .before .before .before .before .before .before .loop .inv .1)
 
 same-length-3 : tie.Need-same-length-3 Inv-loop μ-loop
 same-length-3 c = c .before .loop .inv .1
 
 returns-3 : tie.Need-returns-3 Inv-loop μ-loop
-returns-3 c = sym (loop-end _ _ _ _ (c .loop-test .left)) ∙ c .before .loop .inv .0 ∙ undo-all _ _ _ _ _ (c .before .before .before .before .before .page-address .ensures) (c .before .before .before .before .page-words .ensures)
+returns-3 c = sym (loop-end _ _ _ _ (c .loop-test .left)) ∙ c .before .loop .inv .0 ∙ undo-all _ _ _ _ _ _ _ (c .before .before .before .before .before .page-address .ensures) (c .before .before .before .before .page-words .ensures) (c .before .before .before .address-behind .ensures) (c .before .before .address-behind2 .ensures)
 
 pub undo-page-spec : {M : Type 1} → statement M
 undo-page-spec =
@@ -74,8 +74,8 @@ undo-page-spec =
     μ-loop
     page-address-requires
     page-words-requires
-    add-e
-    add-t10
+    address-behind-requires
+    address-behind-requires-2
     loop-holds
     same-length
     returns

@@ -2,7 +2,6 @@
 -- were counted for each page passed, so that a sum never wraps. The measure is the pages that may still be passed.
 use mathlib.Core.Path.{_≡_, refl, _∙_}
 use Prim.Native.Nat.{_+_, _*_, _^_, _≤_}
-use native.Mathlib.Nat.{zero-add}
 use native.Mathlib.Omega.{arith}
 use lib.ListN.{length}
 use Rattle.rules.specs.Memory.{chain, regionPages}
@@ -32,7 +31,7 @@ first-link-requires : tie.Need-first-link-requires Inv-pages μ-pages
 first-link-requires c κs = omega arith
 
 pages-holds : tie.Need-pages-holds Inv-pages μ-pages
-pages-holds c = (zero-add _, omega arith)
+pages-holds c = (omega arith, omega arith)
 
 link-page-requires : tie.Need-link-page-requires Inv-pages μ-pages
 link-page-requires c κs = omega arith

@@ -30,7 +30,7 @@ cast-if1 c = search needs
 
 returns-2 : tie.Need-returns-2
 unfolding usedWords
-returns-2 c = let y = judged-yes _ (sym (c .before .before .before .enum-told .given .1) ∙ c .before .before .before .before .before .audit .ensures) in rw (y .0, y .1, y .2, le-leb _ _ (c .if1 .taken))
+returns-2 c = let y = judged-yes _ (sym (c .before .before .before .enum-told .given .1) ∙ c .before .before .before .before .before .audit .ensures) in rw (y .0, y .1, y .2, le-leb (c .before .before .before .before .before .before .before .before .before .before .args .c .regions) (c .before .before .before .before .before .before .before .before .before .before .args .j .0) (omega arith))
 
 admitted : (c : tie.Else1) → Admitted (length (c .before .before .before .before .before .before .before .before .before .before .args .heap .now)) (length (c .before .before .before .before .before .before .before .before .before .before .args .table .now)) (length (c .before .before .before .before .before .before .before .before .before .before .args .roots .now)) (length (c .before .before .before .before .before .before .before .before .before .before .args .consts .now)) (c .before .before .before .before .before .before .before .before .before .before .args .c)
 admitted c = judged-admits _ (sym (c .before .before .before .enum-told .given .1) ∙ c .before .before .before .before .before .audit .ensures)
@@ -40,7 +40,7 @@ region-used-requires c κs = let a = admitted c in (a .paged, a .table, omega (a
 
 returns-3 : tie.Need-returns-3
 unfolding usedWords
-returns-3 c = let y = judged-yes _ (sym (c .before .before .before .before .enum-told .given .1) ∙ c .before .before .before .before .before .before .audit .ensures) in rw (y .0, y .1, y .2, lt-leb _ _ (c .before .if1 .left), ← (c .region-used .ensures))
+returns-3 c = let y = judged-yes _ (sym (c .before .before .before .before .enum-told .given .1) ∙ c .before .before .before .before .before .before .audit .ensures) in rw (y .0, y .1, y .2, lt-leb (c .before .before .before .before .before .before .before .before .before .before .before .args .c .regions) (c .before .before .before .before .before .before .before .before .before .before .before .args .j .0) (omega arith), ← (c .region-used .ensures))
 
 pub used-words-spec : {M : Type 1} → statement M
 used-words-spec =

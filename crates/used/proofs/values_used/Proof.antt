@@ -13,10 +13,10 @@ use Rattle.used.proofs.values_used.Statement.{statement}
 use Rattle.used.proofs.values_used.Tie as tie
 
 abbrev Inv-loop : tie.InvT-loop
-Inv-loop words stop at₀ used₀ at used = (used + usedOf (valsIn words at stop) ≡ usedOf (valsIn words at₀ stop)) × (at₀ + used ≡ at) × (at ≤ stop)
+Inv-loop words end at₀ used₀ at used = (used + usedOf (valsIn words (at .0) (end .0)) ≡ usedOf (valsIn words (at₀ .0) (end .0))) × (at₀ .0 + used ≡ at .0) × (at .0 ≤ end .0)
 
 abbrev μ-loop : tie.MeasureT-loop
-μ-loop words stop at₀ used₀ at used = stop - at
+μ-loop words end at₀ used₀ at used = end .0 - at .0
 
 loop-holds : tie.Need-loop-holds Inv-loop μ-loop
 loop-holds c = (omega arith, omega arith, omega arith)
@@ -37,10 +37,10 @@ fits-requires : tie.Need-fits-requires Inv-loop μ-loop
 fits-requires c κs = search needs
 
 returns : tie.Need-returns Inv-loop μ-loop
-returns c = (used-stop _ _ _ _ _ (c .before .before .before .before .loop .inv .0) (c .before .before .before .loop-test .taken) (c .before .before .before .before .before .before .pre .1) (sym (c .before .fits2 .ensures) ∙ not-true _ (c .if1 .taken)), omega arith)
+returns c = (used-stop _ _ _ _ _ (c .before .before .before .before .before .before .before .before .loop .inv .0) (c .before .before .before .before .before .if1 .taken) (c .before .before .before .before .before .before .before .before .before .before .pre .1) (sym (c .before .fits2 .ensures) ∙ not-true _ (c .if2 .taken)), omega arith)
 
-inside : (c : tie.Else1 Inv-loop μ-loop) → c .before .before .before .before .loop .at + 1 + getD (c .before .before .before .before .before .before .args .words .now) (c .before .before .before .before .loop .at) 0 / 8 ≤ c .before .before .before .before .before .before .args .end .0
-inside c = let f = fit-of _ _ (sym (c .before .fits2 .ensures) ∙ not-false _ (c .if1 .left)) .1 in omega arith
+inside : (c : tie.Else2 Inv-loop μ-loop) → c .before .before .before .before .before .before .before .before .loop .at .0 + (1 + getD (c .before .before .before .before .before .before .before .before .before .before .args .words .now) (c .before .before .before .before .before .before .before .before .loop .at .0) 0 / 8) ≤ c .before .before .before .before .before .before .before .before .before .before .args .end .0
+inside c = let f = fit-of _ _ (sym (c .before .fits2 .ensures) ∙ not-false _ (c .if2 .left)) .1 in omega arith
 
 cast-fields : tie.Need-cast-fields Inv-loop μ-loop
 cast-fields c = omega (arith, inside c)
@@ -51,20 +51,20 @@ add-used c = omega arith
 add-used-2 : tie.Need-add-used-2 Inv-loop μ-loop
 add-used-2 c = omega (arith, inside c)
 
-add-at : tie.Need-add-at Inv-loop μ-loop
-add-at c = omega arith
+add-address-behind : tie.Need-add-address-behind Inv-loop μ-loop
+add-address-behind c = omega (arith, inside c)
 
-add-at-2 : tie.Need-add-at-2 Inv-loop μ-loop
-add-at-2 c = omega (arith, inside c)
+address-behind-requires : tie.Need-address-behind-requires Inv-loop μ-loop
+address-behind-requires c κs = omega (arith, inside c)
 
 loop-less : tie.Need-loop-less Inv-loop μ-loop
 loop-less c = omega arith
 
 loop-again : tie.Need-loop-again Inv-loop μ-loop
-loop-again c = (used-step _ _ _ _ _ (c .before .before .before .before .loop .inv .0) (c .before .before .before .loop-test .taken) (c .before .before .before .before .before .before .pre .1) (sym (c .before .fits2 .ensures) ∙ not-false _ (c .if1 .left)), omega arith, inside c)
+loop-again c = (used-step _ _ _ _ _ (c .before .before .before .before .before .before .before .before .before .loop .inv .0) (c .before .before .before .before .before .before .if1 .taken) (c .before .before .before .before .before .before .before .before .before .before .before .pre .1) (sym (c .before .before .fits2 .ensures) ∙ not-false _ (c .before .if2 .left)) _ _ (c .address-behind .ensures) (omega arith), omega arith, omega (arith, inside (c .before)))
 
 returns-2 : tie.Need-returns-2 Inv-loop μ-loop
-returns-2 c = (used-end _ _ _ _ _ (c .before .loop .inv .0) (c .loop-test .left), omega arith)
+returns-2 c = (used-end _ _ _ _ _ (c .before .before .before .loop .inv .0) (c .if1 .left), omega arith)
 
 pub values-used-spec : {M : Type 1} → statement M
 values-used-spec =
@@ -82,8 +82,8 @@ values-used-spec =
     cast-fields
     add-used
     add-used-2
-    add-at
-    add-at-2
+    add-address-behind
+    address-behind-requires
     loop-less
     loop-again
     returns-2)

@@ -1,13 +1,15 @@
 -- `values::good_heap` meets its contract: the page of an address below the heap's length lies inside the heap, so its descriptor can be
 -- read, and the stepping goes from its third word to its end.
-use Prim.Native.Nat.{_+_, _*_, _/_, _^_, _≤_}
+use Prim.Native.Nat.{ℕ, _+_, _*_, _/_, _^_, _≤_, _<_}
 use mathlib.Core.Path.{_≡_, refl, sym, ap, _∙_}
 use native.Mathlib.Nat.{div-le-self}
 use native.Mathlib.Omega.{arith}
 use borrow.Author.Needs.{needs}
 use lib.ListN.{length}
+use Rattle.laws.specs.Lists.{at}
 use Rattle.rules.proofs.Limits.{Inside, in-page}
 use Rattle.rules.proofs.Good.{good-out, good-none, good-high, good-go}
+use Rattle.laws.proofs.Turned.{turned}
 use Rattle.values.proofs.good_heap.Statement.{statement}
 use Rattle.values.proofs.good_heap.Tie as tie
 
@@ -35,34 +37,42 @@ here : (c : tie.After-page-address) → Inside (2 ^ entry c .args .n) (c .page-a
 here c = in-page _ _ _ _ _ refl (base c) (entry c .pre) (c .before .before .if1 .left)
 
 add-origin : tie.Need-add-origin
-add-origin c = omega (arith, here c)
+add-origin c = omega (arith, here (c .before))
 
 mul-origin : tie.Need-mul-origin
-mul-origin c = omega (arith, here c)
+mul-origin c = omega (arith, here (c .before))
 
 shared-slice-read-origin : tie.Need-shared-slice-read-origin
-shared-slice-read-origin c = omega (arith, here (c .before))
+shared-slice-read-origin c = omega (arith, here (c .before .before))
+
+-- the origin of a's page
+abbrev owner : tie.After-page-address → ℕ
+owner c = at (entry c .args .heap .now) (c .page-address .result .0 + 1)
 
 returns-2 : tie.Need-returns-2
-returns-2 c = sym (good-none _ _ _ _ _ (base (c .before .before)) (c .if2 .taken))
+returns-2 c =
+    let none : owner (c .before .before .before) < 1 = search turned in
+    sym (good-none _ _ _ _ _ (base (c .before .before .before)) none)
 
 returns-3 : tie.Need-returns-3
-returns-3 c = sym (good-high _ _ _ _ _ (base (c .before .before .before)) (c .if3 .taken))
+returns-3 c =
+    let high : entry (c .before .before .before .before) .args .regions < owner (c .before .before .before .before) = search turned in
+    sym (good-high _ _ _ _ _ (base (c .before .before .before .before)) high)
 
 body-address-requires : tie.Need-body-address-requires
-body-address-requires c κs = let s = small (c .before .before .before .before) in omega arith
+body-address-requires c κs = let s = small (c .before .before .before .before .before) in omega arith
 
 page-end-requires : tie.Need-page-end-requires
-page-end-requires c κs = let s = small (c .before .before .before .before .before) in omega arith
+page-end-requires c κs = let s = small (c .before .before .before .before .before .before) in omega arith
 
 stands-requires : tie.Need-stands-requires
-stands-requires c κs = let i = here (c .before .before .before .before .before) in omega arith
+stands-requires c κs = let i = here (c .before .before .before .before .before .before) in omega arith
 
 returns-4 : tie.Need-returns-4
 returns-4 c =
-    let start : c .before .before .body-address .result .0 ≡ c .before .before .before .before .before .before .page-address .result .0 + 2 = omega arith in
-    let end : c .before .page-end .result .0 ≡ c .before .before .before .before .before .before .page-address .result .0 + 2 ^ c .before .before .before .before .before .before .before .before .before .before .before .args .n = omega arith in
-    c .stands .ensures ∙ sym (good-go _ _ _ _ _ (base (c .before .before .before .before .before .before)) _ _ start end (c .before .before .before .before .if2 .left) (c .before .before .before .if3 .left))
+    let some : 1 ≤ owner (c .before .before .before .before .before .before .before) = search turned in
+    let low : owner (c .before .before .before .before .before .before .before) ≤ entry (c .before .before .before .before .before .before .before) .args .regions = search turned in
+    c .stands .ensures ∙ sym (good-go _ _ _ _ _ (base (c .before .before .before .before .before .before .before)) _ _ (omega arith) (omega arith) some low)
 
 pub good-heap-spec : {M : Type 1} → statement M
 good-heap-spec =

@@ -1,5 +1,7 @@
 -- `writing::digit` meets its contract: both make the same test.
 use borrow.Author.Needs.{needs}
+use borrow.Author.Tests.{le-ltb}
+use native.Mathlib.Omega.{arith}
 use Rattle.laws.proofs.Tests.{tests}
 use Rattle.rules.specs.Image.{digitOf}
 use Rattle.writing.proofs.digit.Statement.{statement}
@@ -23,7 +25,7 @@ add-result-2 c = search needs
 
 returns-2 : tie.Need-returns-2
 unfolding digitOf
-returns-2 c = search tests
+returns-2 c = rw (le-ltb _ _ (c .if1 .left)) (omega arith)
 
 pub digit-spec : {M : Type 1} → statement M
 digit-spec =

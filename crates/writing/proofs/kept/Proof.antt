@@ -28,7 +28,7 @@ shared-slice-read-if1 : tie.Need-shared-slice-read-if1 Inv-loop μ-loop
 shared-slice-read-if1 c = omega arith
 
 returns : tie.Need-returns Inv-loop μ-loop
-returns c = sym (ap length (sym (c .before .before .before .loop .inv .0) ∙ trim-ends _ _ (c .before .before .loop-test .taken) (c .before .before .before .loop .inv .1) (c .if1 .taken)) ∙ length-take-le _ _ (c .before .before .before .loop .inv .1))
+returns c = sym (ap length (sym (c .before .before .before .loop .inv .0) ∙ trim-ends _ _ (omega arith) (c .before .before .before .loop .inv .1) (c .if1 .taken)) ∙ length-take-le _ _ (c .before .before .before .loop .inv .1))
 
 sub-m : tie.Need-sub-m Inv-loop μ-loop
 sub-m c = omega arith
@@ -37,10 +37,10 @@ loop-less : tie.Need-loop-less Inv-loop μ-loop
 loop-less c = omega arith
 
 loop-again : tie.Need-loop-again Inv-loop μ-loop
-loop-again c = (sym (trim-less _ _ (c .before .before .loop-test .taken) (c .before .before .before .loop .inv .1) (c .if1 .left)) ∙ c .before .before .before .loop .inv .0, omega arith)
+loop-again c = (sym (trim-less _ _ (omega arith) (c .before .before .before .loop .inv .1) (c .if1 .left)) ∙ c .before .before .before .loop .inv .0, omega arith)
 
 returns-2 : tie.Need-returns-2 Inv-loop μ-loop
-returns-2 c = trim-none _ _ (c .loop-test .left) ∙ ap length (c .before .loop .inv .0)
+returns-2 c = trim-none _ _ (omega arith) ∙ ap length (c .before .loop .inv .0)
 
 pub kept-spec : {M : Type 1} → statement M
 kept-spec =

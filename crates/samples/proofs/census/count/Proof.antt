@@ -7,10 +7,13 @@ use Rattle.samples.proofs.census.count.Statement.{statement}
 use Rattle.samples.proofs.census.count.Tie as tie
 
 abbrev Inv-loop : tie.InvT-loop
-Inv-loop heap tally₀ p a₀ tally a = length tally ≡ length tally₀
+Inv-loop heap tally₀ p at₀ tally at = length tally ≡ length tally₀
 
 abbrev μ-loop : tie.MeasureT-loop
-μ-loop heap tally₀ p a₀ tally a = length heap - a
+μ-loop heap tally₀ p at₀ tally at = length heap - at .0
+
+address-numbered-requires : tie.Need-address-numbered-requires Inv-loop μ-loop
+address-numbered-requires c κs = search needs
 
 loop-holds : tie.Need-loop-holds Inv-loop μ-loop
 loop-holds c = search needs
@@ -24,8 +27,8 @@ returns c = search needs
 page-requires : tie.Need-page-requires Inv-loop μ-loop
 page-requires c κs = search needs
 
-add-a : tie.Need-add-a Inv-loop μ-loop
-add-a c = search needs
+address-behind-requires : tie.Need-address-behind-requires Inv-loop μ-loop
+address-behind-requires c κs = search needs
 
 loop-less : tie.Need-loop-less Inv-loop μ-loop
 loop-less c = search needs
@@ -45,11 +48,12 @@ count-spec =
     (tie.spec
     Inv-loop
     μ-loop
+    address-numbered-requires
     loop-holds
     same-length
     returns
     page-requires
-    add-a
+    address-behind-requires
     loop-less
     loop-again
     same-length-2

@@ -28,8 +28,8 @@ add-word-2 c = search needs
 word-requires-2 : tie.Need-word-requires-2 Inv-loop μ-loop
 word-requires-2 c κs = search needs
 
-mul-if2 : tie.Need-mul-if2 Inv-loop μ-loop
-mul-if2 c = search needs
+points-to-requires : tie.Need-points-to-requires Inv-loop μ-loop
+points-to-requires c κs = search needs
 
 returns-2 : tie.Need-returns-2 Inv-loop μ-loop
 returns-2 c = search needs
@@ -58,7 +58,7 @@ points-back-spec =
     add-word
     add-word-2
     word-requires-2
-    mul-if2
+    points-to-requires
     returns-2
     add-i
     loop-less

@@ -7,10 +7,10 @@ use Rattle.samples.proofs.census.values.Statement.{statement}
 use Rattle.samples.proofs.census.values.Tie as tie
 
 abbrev Inv-loop : tie.InvT-loop
-Inv-loop heap tally₀ start end a₀ tally a = length tally ≡ length tally₀
+Inv-loop heap tally₀ end at₀ tally at = length tally ≡ length tally₀
 
 abbrev μ-loop : tie.MeasureT-loop
-μ-loop heap tally₀ start end a₀ tally a = «end» - a
+μ-loop heap tally₀ end at₀ tally at = «end» .0 - at .0
 
 loop-holds : tie.Need-loop-holds Inv-loop μ-loop
 loop-holds c = search needs
@@ -27,11 +27,11 @@ returns c = search needs
 value-requires : tie.Need-value-requires Inv-loop μ-loop
 value-requires c κs = search needs
 
-add-a : tie.Need-add-a Inv-loop μ-loop
-add-a c = search needs
+add-address-behind : tie.Need-add-address-behind Inv-loop μ-loop
+add-address-behind c = search needs
 
-add-a-2 : tie.Need-add-a-2 Inv-loop μ-loop
-add-a-2 c = search needs
+address-behind-requires : tie.Need-address-behind-requires Inv-loop μ-loop
+address-behind-requires c κs = search needs
 
 loop-less : tie.Need-loop-less Inv-loop μ-loop
 loop-less c = search needs
@@ -59,8 +59,8 @@ values-spec =
     same-length
     returns
     value-requires
-    add-a
-    add-a-2
+    add-address-behind
+    address-behind-requires
     loop-less
     loop-again
     add-requires

@@ -1,12 +1,12 @@
--- `writing::all_zero` meets its contract: what is left from place i on is all zero exactly if the whole is, as long as each word was 0.
+-- `pages::all_zero` meets its contract: what is left from place i on is all zero exactly if the whole is, as long as each word was 0.
 use Prim.Native.Nat.{_-_, _≤_}
 use mathlib.Core.Path.{_≡_, refl, sym, _∙_}
 use native.Mathlib.Omega.{arith}
 use lib.ListN.{length, drop}
 use Rattle.laws.specs.Lists.{zeros}
 use Rattle.laws.proofs.Tests.{zeros-none, zeros-next, zeros-found}
-use Rattle.writing.proofs.all_zero.Statement.{statement}
-use Rattle.writing.proofs.all_zero.Tie as tie
+use Rattle.pages.proofs.all_zero.Statement.{statement}
+use Rattle.pages.proofs.all_zero.Tie as tie
 
 abbrev Inv-loop : tie.InvT-loop
 Inv-loop words i₀ i = (zeros (drop i words) ≡ zeros words) × (i ≤ length words)

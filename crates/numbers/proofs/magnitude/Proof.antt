@@ -1,11 +1,10 @@
--- `soundings::converting::magnitude` is safe: below 0 the bits turned over are a number below 2^31, and so are the bits of the others.
+-- `numbers::magnitude` meets its contract: below 0 the bits turned over are one less than what is asked for, and below 2^31; else the bits are it.
 use mathlib.Core.Path.{ap}
 use native.Mathlib.Omega.{arith}
 use lib.IntN.{ℤ, natAbs}
-use borrow.Author.Needs.{needs}
-use Rattle.numbers.proofs.Numbers.{below, above, casts}
-use Rattle.soundings.proofs.converting.magnitude.Statement.{statement}
-use Rattle.soundings.proofs.converting.magnitude.Tie as tie
+use Rattle.numbers.proofs.Numbers.{below, above, casts, far-below, far-above}
+use Rattle.numbers.proofs.magnitude.Statement.{statement}
+use Rattle.numbers.proofs.magnitude.Tie as tie
 
 cast-below : tie.Need-cast-below
 cast-below c = let b = below _ (c .before .fits .i) (c .if1 .taken) in casts _ (b .n) (b .turned) (b .small)
@@ -17,13 +16,13 @@ add-result c =
     omega (arith, e, b .small)
 
 returns : tie.Need-returns
-returns c = search needs
+returns c = far-below _ (below _ (c .before .fits .i) (c .if1 .taken))
 
 cast-result : tie.Need-cast-result
 cast-result c = let a = above _ (c .before .fits .i) (c .if1 .left) in casts _ (a .n) (a .read) (a .small)
 
 returns-2 : tie.Need-returns-2
-returns-2 c = search needs
+returns-2 c = far-above _ (above _ (c .before .fits .i) (c .if1 .left))
 
 pub magnitude-spec : {M : Type 1} → statement M
 magnitude-spec = tie.close (tie.spec cast-below add-result returns cast-result returns-2)
