@@ -1,31 +1,30 @@
 -- Steps 1 to 3, at work and in the plain run: both lack a page, or both have all scanned, and then the desk matches the run and the roots' new words
 -- are those that the plain run has.
-use Prim.Native.Nat.{ℕ, _*_}
+use Prim.Native.Nat.{ℕ, _*_, _^_}
 use native.Mathlib.Omega.{arith}
 use mathlib.Core.Path.{_≡_, sym, ap, _∙_, subst}
-use mathlib.Core.Logic.{inl, inr}
 use mathlib.Core.Bool.{Bool, true, false}
 use mathlib.Core.Option.{some}
 use mathlib.Core.List.{List}
 use lib.ListN.{length}
 use Rattle.laws.specs.Each.{After, after, each}
 use Rattle.rules.specs.declared.Refusal.{Refusal}
-use Rattle.rules.specs.Memory.{Store}
+use Rattle.rules.specs.Memory.{Store, pageCount}
 use Rattle.rules.specs.Pages.{Run, begun}
-use Rattle.rules.specs.Collection.{finished, freshen, evacuateAll, workStack, ending, collected}
+use Rattle.rules.specs.Collection.{finished, freshen, evacuateAll, ending, collected}
 use Rattle.rules.specs.Refusals.{refused}
 use Rattle.rules.specs.Seen.{root}
 use Rattle.facts.proofs.Sound.{Sound}
 use Rattle.working.proofs.Fresh.{Fresh, fresh-start}
 use Rattle.working.proofs.Roots.{AllBecame}
 use Rattle.working.proofs.Running.{first, first-inv, Ran, ran, rooted-cost}
-use Rattle.working.proofs.Work.{Finished}
 use Rattle.motion.specs.declared.Step.{Step}
 use Rattle.motion.specs.Leaves.{Desk, desk, begunNotes}
 use Rattle.motion.specs.Whole as Y
 use Rattle.motion.specs.Whole.{fresh, moveRoots, workDone, rootsDone, freshDone, writtenRoots}
 use Rattle.agreement.proofs.Matching.{Matching}
 use Rattle.agreement.proofs.Stuck.{Stuck}
+use Rattle.agreement.proofs.Together.{both-lack, both-go}
 use Rattle.agreement.proofs.Freshens.{starts, Freshens, freshens}
 use Rattle.agreement.proofs.Rooted.{roots-written, Rooted, moves-all}
 use Rattle.agreement.proofs.Works.{WorksStack, works-stack}
@@ -78,29 +77,23 @@ module _ (s : Store) (S : Sound s) where
   unfolding collected ending ran
   attempts = freshened (freshens s S R 0 (begun s) (omega arith) (fresh-start s S) d₀ (starts s S))
     where
+      -- the heap has kept its length, so the fuel is the same
+      fuel : (r₁ : Run) → length (r₁ .heap) ≡ pageCount n (s .heap) * 2 ^ n → (d₂ : Desk) → Y.workStack n f d₂ ≡ Y.workStack n (2 * length (r₁ .heap)) d₂
+      fuel r₁ size d₂ = ap (λ x. Y.workStack n (2 * x) d₂) (S .laid .size ∙ sym size)
+
       worked : (r : Run) (F : Fresh s S R r) (d₁ : Desk) → freshen n R 0 (begun s) ≡ some r → each R (fresh n) 0 d₀ ≡ after true d₁
           → (roots : List ℕ) (r₁ : Run) → evacuateAll n (s .roots) r ≡ some (roots, r₁) → (A : AllBecame s S (first s S r F) r (s .roots) roots r₁)
           → (d₂ : Desk) → moveRoots n (s .roots) d₁ ≡ after true d₂ → WorksStack s S (A .ghost) r₁ d₂ → Attempted s S
-      worked r F d₁ e w roots r₁ e₁ A d₂ w₁ (inl u) =
-          let l : length (r₁ .heap) ≡ length (s .heap) = A .inv .laid .size ∙ sym (S .laid .size) in
-          let t : Y.workStack n f d₂ ≡ after Step.NoPage (u .1) = ap (λ x. Y.workStack n (2 * x) d₂) (sym l) ∙ u .2 in
-          lacking (u .1) (work-lacks d₁ d₂ (u .1) w w₁ t) (rw (e, collected, e₁, u .0)) (u .3)
-      worked r F d₁ e w roots r₁ e₁ A d₂ w₁ (inr u) =
-          let l : length (r₁ .heap) ≡ length (s .heap) = A .inv .laid .size ∙ sym (S .laid .size) in
-          let G : Finished s S (A .ghost) (u .0) = u .2 in
-          let t : Y.workStack n f d₂ ≡ after Step.Finished (u .3) = ap (λ x. Y.workStack n (2 * x) d₂) (sym l) ∙ u .4 in
-          ending-with (u .3) (work-ends d₁ d₂ (u .3) w w₁ t) roots (u .0) (rw (e, collected, e₁, u .1))
-          (ran s S r F e roots r₁ A e₁ (u .0) (u .1) G) (u .5)
+      worked r F d₁ e w roots r₁ e₁ A d₂ w₁ (both-lack q d u K) =
+          lacking d (work-lacks d₁ d₂ d w w₁ (fuel r₁ (A .inv .laid .size) d₂ ∙ u)) (rw (e, collected, e₁, q)) K
+      worked r F d₁ e w roots r₁ e₁ A d₂ w₁ (both-go r₂ q d u (G, M)) =
+          ending-with d (work-ends d₁ d₂ d w w₁ (fuel r₁ (A .inv .laid .size) d₂ ∙ u)) roots r₂ (rw (e, collected, e₁, q)) (ran s S r F e roots r₁ A e₁ r₂ q G) M
 
       rooted : (r : Run) (F : Fresh s S R r) (d₁ : Desk) → freshen n R 0 (begun s) ≡ some r → each R (fresh n) 0 d₀ ≡ after true d₁ → Rooted s S (first s S r F) r d₁ (s .roots) → Attempted s S
-      rooted r F d₁ e w (inl u) = lacking (u .1) (roots-lack d₁ (u .1) w (u .2)) (rw (e, collected, u .0)) (u .3)
-      rooted r F d₁ e w (inr u) =
-          let A : AllBecame s S (first s S r F) r (s .roots) (u .0) (u .1) = u .3 in
-          worked r F d₁ e w (u .0) (u .1) (u .2) A (u .4) (u .5) (works-stack s S (A .ghost) (u .1) (A .inv) (A .later .cur) (A .later .half) (rooted-cost s S r F e (u .0) (u .1) A) (u .4) (u .6))
+      rooted r F d₁ e w (both-lack q d u K) = lacking d (roots-lack d₁ d w u) (rw (e, collected, q)) K
+      rooted r F d₁ e w (both-go (roots, r₁) q d u (A, M)) =
+          worked r F d₁ e w roots r₁ q A d u (works-stack s S (A .ghost) r₁ (A .inv) (A .later .cur) (A .later .half) (rooted-cost s S r F e roots r₁ A) d M)
 
       freshened : Freshens s S R 0 (begun s) d₀ → Attempted s S
-      freshened (inl u) = lacking (u .1) (fresh-lacks (u .1) (u .2)) (rw (u .0, collected)) (u .3)
-      freshened (inr u) =
-          let r : Run = u .0 in
-          let F : Fresh s S R r = u .2 in
-          rooted r F (u .3) (u .1) (u .4) (moves-all s S (s .roots) (first s S r F) r (first-inv s S r F) (S .roots) (λ i b. root i b) (u .3) (u .5))
+      freshened (both-lack q d u K) = lacking d (fresh-lacks d u) (rw (q, collected)) K
+      freshened (both-go r q d u (F, M)) = rooted r F d q u (moves-all s S (s .roots) (first s S r F) r (first-inv s S r F) (S .roots) (λ i b. root i b) d M)

@@ -1,11 +1,10 @@
 -- A collection that is done ends as the plain one: the taken pages have their origins, the old pages are given back, and table, roots and
 -- record are written by the notes and the forwards, which hold what the run holds.
 use Prim.Native.Nat.{ℕ, _+_, _-_, _*_, _/_, _%_, _≤_, _<_}
-use native.Mathlib.Nat.{mod-eq-of-lt}
 use native.Mathlib.Omega.{arith}
 use native.Mathlib.Decide.{decLt}
 use mathlib.Core.Path.{_≡_, refl, sym, ap, _∙_, subst}
-use mathlib.Core.List.{List, [], _∷_, _++_, append-nil, List·Memᴰ, List·Memᴰ·head, List·Memᴰ·not-nil}
+use mathlib.Core.List.{List, [], _∷_, _++_, append-nil, append-eq-nil-iff, List·Memᴰ, List·Memᴰ·head, List·Memᴰ·not-nil}
 use lib.ListN.{length, take, length-append}
 use lib.Seq.{length-take-le, getD-take, ext-getD}
 use Rattle.laws.specs.Lists.{at}
@@ -24,7 +23,7 @@ use Rattle.motion.specs.Whole.{giveAll, writtenRoots, writtenTable, doneAs, don
 use Rattle.agreement.proofs.Matching.{Matching}
 use Rattle.agreement.proofs.Origins.{origins-set}
 use Rattle.agreement.proofs.GivenBack.{Giving, given-back}
-use Rattle.agreement.proofs.Took.{few-pages}
+use Rattle.agreement.proofs.Took.{low-is, few-pages}
 
 -- table, roots and record by the notes
 pub as-leaves : (s : Store) (roots : List ℕ) (d d′ : Desk) (r : Run) → at (d′ .notes) freeFirst ≡ r .first → at (d′ .notes) freeLast ≡ r .last
@@ -105,11 +104,7 @@ module _ (s : Store) (S : Sound s) (g : Ghost) (r : Run) (I : Inv s S g r) (d : 
   none-free : K .free ≡ [] → M .took ≡ []
   none-free e =
       let a : g .free ++ fromSpace s ≡ [] = sym (K .rows) ∙ append-nil (K .free) ∙ e in
-      none-taken (no-regions (go (fromSpace s) refl (ap length a)))
-    where
-      go : (ks : List ℕ) → fromSpace s ≡ ks → length (g .free ++ fromSpace s) ≡ 0 → fromSpace s ≡ []
-      go [] q z = q
-      go (k ∷ ks) q z = let a = length-append (g .free) (fromSpace s) in let b = ap length q in absurd (omega arith)
+      none-taken (no-regions (append-eq-nil-iff {p = g .free} .0 a .1))
 
   count-is : low (s .ctl .count - at (d′ .notes) taken + at (d′ .notes) given) ≡ K .run .count
   count-is =
@@ -121,7 +116,7 @@ module _ (s : Store) (S : Sound s) (g : Ghost) (r : Run) (I : Inv s S g r) (d : 
       let u = K .laid .free-count in
       let v = free-few (K .laid) in
       let w = few-pages s S in
-      mod-eq-of-lt {n = s .ctl .count - at (d′ .notes) taken + at (d′ .notes) given} {m = 4294967296} (omega arith) ∙ e
+      low-is (s .ctl .count - at (d′ .notes) taken + at (d′ .notes) given) (omega arith) ∙ e
 
   module _ (roots : List ℕ) (written : writtenRoots (d .heap) (s .roots) ≡ roots) where
     pub done-as : done s N d ≡ ending s roots (finished r)

@@ -3,7 +3,6 @@
 use Prim.Native.Nat.{ℕ, zero, suc, _+_, _*_, _^_, _≤_, _<_}
 use native.Mathlib.Omega.{arith}
 use mathlib.Core.Path.{_≡_, refl, ap, _∙_}
-use mathlib.Core.Logic.{_≢_, _⊎_, inl, inr}
 use mathlib.Core.Bool.{true, false}
 use mathlib.Core.Option.{none, some}
 use lib.ListN.{length, set}
@@ -12,18 +11,18 @@ use Rattle.laws.specs.Each.{after, each}
 use Rattle.rules.specs.Memory.{Store}
 use Rattle.rules.specs.Words.{rec, headOf}
 use Rattle.rules.specs.Pages.{Run, withHeap}
-use Rattle.rules.specs.Collection.{evacuate, scanFields}
-use Rattle.facts.proofs.Steps.{steps-le}
+use Rattle.rules.specs.Collection.{scanFields}
+use Rattle.rules.proofs.Steps.{steps-le}
 use Rattle.facts.proofs.Laid.{mine≢beyond, page-in}
 use Rattle.facts.proofs.Sound.{Sound}
 use Rattle.working.proofs.Log.{Copy}
-use Rattle.working.proofs.Invariant.{Ghost, Kept, Inv, Became}
+use Rattle.working.proofs.Invariant.{Ghost, Kept, Inv}
 use Rattle.working.proofs.Scanning.{Ready, field-good, field-reached, kind, len-is, unscanned, stepped, field-lacks, field-scans}
 use Rattle.motion.specs.Leaves.{Desk}
 use Rattle.motion.specs.Run as X
 use Rattle.agreement.proofs.Matching.{Matching}
 use Rattle.agreement.proofs.Frames.{by-owners, body-plain}
-use Rattle.agreement.proofs.Stuck.{Stuck, stuck-moving}
+use Rattle.agreement.proofs.Together.{Together, both-lack, both-go, come-to}
 use Rattle.agreement.proofs.Words.{Evacuates, evacuates, field-stops, field-goes}
 
 -- ---- the fields of the copy at b of the record at c
@@ -33,16 +32,15 @@ module _ (s : Store) (S : Sound s) (g₀ : Ghost) (r₀ : Run) (c b l : ℕ) (he
 
   abbrev pub Scans : Run → Desk → ℕ → ℕ → Type 0
   Scans r d m i =
-      ((scanFields n m (b + suc i) r ≡ none) × (d′ : Desk) × (each m (X.evacuate n) (b + suc i) d ≡ after false d′) × Stuck s S d′)
-      ⊎ ((r′ : Run) × (scanFields n m (b + suc i) r ≡ some r′) × (Q : Ready s S g₀ r₀ c b l r′ l) × (d′ : Desk)
-      × (each m (X.evacuate n) (b + suc i) d ≡ after true d′) × Matching s S (Q .ghost) r′ d′)
+      Together s S none some false true (λ r′ d′. (Q : Ready s S g₀ r₀ c b l r′ l) × Matching s S (Q .ghost) r′ d′) (scanFields n m (b + suc i) r)
+      (each m (X.evacuate n) (b + suc i) d)
 
   pub scans-fields : (m : ℕ) (r : Run) (i : ℕ) → i + m ≡ l → (Q : Ready s S g₀ r₀ c b l r i) (d : Desk) → Matching s S (Q .ghost) r d → Scans r d m i
   unfolding scanFields each stepped
   scans-fields zero r i e Q d M = go i (omega arith) Q M
     where
       go : (k : ℕ) → k ≡ l → (Q : Ready s S g₀ r₀ c b l r k) → Matching s S (Q .ghost) r d → Scans r d zero i
-      go k q Q M = inr (r, refl, record { ghost = Q .ghost; inv = Q .inv; later = Q .later; entry = Q .entry; next = Q .next ∙ q; mid = Q .mid; gone = Q .gone }, d, refl, M)
+      go k q Q M = both-go r refl d refl (record { ghost = Q .ghost; inv = Q .inv; later = Q .later; entry = Q .entry; next = Q .next ∙ q; mid = Q .mid; gone = Q .gone }, M)
   scans-fields (suc m) r i e Q d M =
       let z = len-is s S g₀ r₀ c b l head Q in
       go (λ r′ Q′ d′ M′. scans-fields m r′ (suc i) (omega arith) Q′ d′ M′)
@@ -73,22 +71,15 @@ module _ (s : Store) (S : Sound s) (g₀ : Ghost) (r₀ : Run) (c b l : ℕ) (he
       step-at-work : (d′ : Desk) → X.evacuate n (b + suc i) d ≡ after true d′ → each (suc m) (X.evacuate n) (b + suc i) d ≡ each m (X.evacuate n) (b + suc (suc i)) d′
       step-at-work d′ q = let t : suc (b + suc i) ≡ b + suc (suc i) = omega arith in rw q (ap (λ y. each m (X.evacuate n) y d′) t)
 
-      up : (r′ : Run) (d′ : Desk) → scanFields n (suc m) (b + suc i) r ≡ scanFields n m (b + suc (suc i)) r′
-          → each (suc m) (X.evacuate n) (b + suc i) d ≡ each m (X.evacuate n) (b + suc (suc i)) d′ → Scans r′ d′ m (suc i) → Scans r d (suc m) i
-      up r′ d′ q t (inl u) = inl (q ∙ u .0, u .1, t ∙ u .2, u .3)
-      up r′ d′ q t (inr u) = inr (u .0, q ∙ u .1, u .2, u .3, t ∙ u .4, u .5)
-
       go : ((r′ : Run) (Q′ : Ready s S g₀ r₀ c b l r′ (suc i)) (d′ : Desk) → Matching s S (Q′ .ghost) r′ d′ → Scans r′ d′ m (suc i))
           → Evacuates s S (Q .ghost) r (Q .inv) d M (at (s .heap) (c + suc i)) → Scans r d (suc m) i
-      go rest (inl u) =
-          let t = field-stops s S (Q .ghost) r (Q .inv) d M (b + suc i) (at (s .heap) (c + suc i)) here (u .1) (u .2) in
-          inl (field-lacks s S g₀ r₀ c b l head m (omega arith) Q (u .0), d, rw t, stuck-moving s S (Q .ghost) r d (Q .inv) M (u .3))
-      go rest (inr u) =
-          let v : ℕ = u .0 in
-          let r′ : Run = u .1 in
-          let B : Became s S (Q .ghost) r (at (s .heap) (c + suc i)) v r′ = u .3 in
-          let F = field-goes s S (Q .ghost) r (Q .inv) d M (b + suc i) (at (s .heap) (c + suc i)) here (B .ghost) r′ v (u .4) (inside (B .ghost) r′ (B .inv)) (u .5)
-          (body-plain s S (B .ghost) (C .into) (b + suc i) x-lo x-hi) (u .6) in
+      go rest (both-lack q d′ t K) =
+          let stops = field-stops s S (Q .ghost) r (Q .inv) d M (b + suc i) (at (s .heap) (c + suc i)) here d′ t in
+          both-lack (field-lacks s S g₀ r₀ c b l head m (omega arith) Q q) d′ (rw stops) K
+      go rest (both-go (v, r′) q d′ t (B, M′, f)) =
+          let F = field-goes s S (Q .ghost) r (Q .inv) d M (b + suc i) (at (s .heap) (c + suc i)) here (B .ghost) r′ v d′ (inside (B .ghost) r′ (B .inv)) M′
+          (body-plain s S (B .ghost) (C .into) (b + suc i) x-lo x-hi) t f in
           let r″ : Run = withHeap r′ (set (r′ .heap) (b + suc i) v) in
           let Q′ = stepped s S g₀ r₀ c b l head (omega arith) Q v r′ B in
-          up r″ (F .0) (field-scans s S g₀ r₀ c b l head m (omega arith) Q v r′ (u .2)) (step-at-work (F .0) (F .1)) (rest r″ Q′ (F .0) (by-owners s S (B .ghost) r″ (F .0) (F .2) (Q′ .ghost) refl refl))
+          come-to (field-scans s S g₀ r₀ c b l head m (omega arith) Q v r′ q) (step-at-work (F .0) (F .1)) (λ x e G. G)
+          (rest r″ Q′ (F .0) (by-owners s S (B .ghost) r″ (F .0) (F .2) (Q′ .ghost) refl refl))

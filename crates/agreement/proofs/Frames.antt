@@ -12,11 +12,12 @@ use lib.Seq.{getD-set-same, getD-set-other}
 use Rattle.laws.specs.Lists.{at}
 use Rattle.laws.proofs.Lists.{one-part, begins-none, second-none}
 use Rattle.rules.specs.Memory.{Store, link, endOf, topOf, statusOf}
-use Rattle.rules.specs.Pages.{Scan, Run, withHeap, withTable}
+use Rattle.rules.specs.Pages.{Scan, Run, withHeap, withTable, withStack}
+use Rattle.rules.proofs.Steps.{Stands, Steps, steps-le}
 use Rattle.facts.proofs.Laid.{Owner, old, mine, old-mine-apart}
 use Rattle.facts.proofs.Sound.{Sound, descriptor-fits}
 use Rattle.working.proofs.Invariant.{Ghost}
-use Rattle.motion.specs.Leaves.{Desk, desk, entry}
+use Rattle.motion.specs.Leaves.{Desk, desk, notesLength, entry, depth}
 use Rattle.agreement.proofs.Matching.{Noted, bare, above, Matching}
 
 -- ---- the scan stack
@@ -30,14 +31,19 @@ noted-below (above {ts = ts} e f rest) same =
 pub noted-same : {t t′ : List ℕ} {ts : List Scan} → Noted t ts → length ts ≤ 64 → ((x : ℕ) → 256 ≤ x → x < 384 → at t′ x ≡ at t x) → Noted t′ ts
 noted-same m few same = noted-below m (λ x p q. same x p (omega arith))
 
--- ---- a word set in two lists
+-- ---- a word set in a list
 
-pub set-alike : (g h : List ℕ) (x v y : ℕ) → x < length g → x < length h → (y ≢ x → at g y ≡ at h y) → at (set g x v) y ≡ at (set h x v) y
-set-alike g h x v y a b same = go (ℕ-discrete y x)
+-- a word set to what another list has there
+pub set-as : (g h : List ℕ) (x v y : ℕ) → x < length h → v ≡ at g x → (y ≢ x → at h y ≡ at g y) → at (set h x v) y ≡ at g y
+set-as g h x v y inside is same = go (ℕ-discrete y x)
   where
-    go : Dec (y ≡ x) → at (set g x v) y ≡ at (set h x v) y
-    go (yes e) = ap (at (set g x v)) e ∙ getD-set-same g x v 0 a ∙ sym (getD-set-same h x v 0 b) ∙ ap (at (set h x v)) (sym e)
-    go (no ne) = getD-set-other g x y v 0 ne ∙ same ne ∙ sym (getD-set-other h x y v 0 ne)
+    go : Dec (y ≡ x) → at (set h x v) y ≡ at g y
+    go (yes e) = rw e (getD-set-same h x v 0 inside ∙ is)
+    go (no ne) = getD-set-other h x y v 0 ne ∙ same ne
+
+-- a word set in both
+pub set-alike : (g h : List ℕ) (x v y : ℕ) → x < length g → x < length h → (y ≢ x → at g y ≡ at h y) → at (set g x v) y ≡ at (set h x v) y
+set-alike g h x v y a b same = set-as (set h x v) g x v y a (sym (getD-set-same h x v 0 b)) (λ ne. same ne ∙ sym (getD-set-other h x y v 0 ne))
 
 -- x is the origin of no page that is taken
 abbrev pub Plain : Store → Ghost → ℕ → Type 0
@@ -54,6 +60,10 @@ module _ (s : Store) (S : Sound s) (g : Ghost) where
   -- nor is a word behind a page's descriptor
   pub body-plain : (k x : ℕ) → k * P + 2 ≤ x → x < k * P + P → Plain s g x
   body-plain k x lo hi l j o e = begins-none P k l (x - 1) (omega arith) (omega arith) (omega arith)
+
+  -- nor is a value's header
+  pub value-plain : {h : List ℕ} {a l : ℕ} (k : ℕ) → Steps h (k * P + P) (k * P + 2) a → Stands h (k * P + P) a l → Plain s g a
+  value-plain {a = a} k t st = let hi = st .ends in body-plain k a (steps-le t) (omega arith)
 
   -- nor one in an old page
   pub old-plain : (k x : ℕ) → g .own k ≡ old → k * P ≤ x → x < k * P + P → Plain s g x
@@ -138,23 +148,20 @@ module _ (s : Store) (S : Sound s) (g : Ghost) (r : Run) (d : Desk) (M : Matchin
 
   -- one word of the plain heap, which the other has already
   pub word-has : (x v : ℕ) → x < length (r .heap) → at (d .heap) x ≡ v → Matching s S g (withHeap r (set (r .heap) x v)) d
-  word-has x v inside is = heap-on (set (r .heap) x v) (d .heap) (M .heap-length ∙ sym (length-set (r .heap) x v)) same (λ k m. refl)
-    where
-      same : (y : ℕ) → Plain s g y → at (d .heap) y ≡ at (set (r .heap) x v) y
-      same y p = go (ℕ-discrete y x)
-        where
-          go : Dec (y ≡ x) → at (d .heap) y ≡ at (set (r .heap) x v) y
-          go (yes e) = ap (at (d .heap)) e ∙ is ∙ sym (getD-set-same (r .heap) x v 0 inside) ∙ ap (at (set (r .heap) x v)) (sym e)
-          go (no ne) = M .words y p ∙ sym (getD-set-other (r .heap) x y v 0 ne)
+  word-has x v inside is =
+      heap-on (set (r .heap) x v) (d .heap) (M .heap-length ∙ sym (length-set (r .heap) x v))
+      (λ y p. sym (set-as (d .heap) (r .heap) x v y inside (sym is) (λ ne. sym (M .words y p)))) (λ k m. refl)
 
-  -- ---- the rows
+  -- ---- the notes
 
-  pub rows-on : (t t′ : List ℕ) → length t′ ≡ length (d .notes) → ((j c : ℕ) → j < s .ctl .regions → c < 4 → at t′ (4 * j + c) ≡ at t (4 * j + c))
-      → ((x : ℕ) → 256 ≤ x → at t′ x ≡ at (d .notes) x) → Matching s S g (withTable r t) (desk (d .heap) t′)
-  rows-on t t′ len rows else =
+  -- rows as in a table, entries as in a stack; what the words behind the depth say stays
+  pub notes-on : (t : List ℕ) (ts : List Scan) (t′ : List ℕ) → length t′ ≡ notesLength
+      → ((j c : ℕ) → j < s .ctl .regions → c < 4 → at t′ (4 * j + c) ≡ at t (4 * j + c)) → length ts ≤ 64 → at t′ depth ≡ length ts → Noted t′ ts
+      → ((x : ℕ) → depth < x → at t′ x ≡ at (d .notes) x) → Matching s S g (withStack (withTable r t) ts) (desk (d .heap) t′)
+  notes-on t ts t′ len rows shallow deep noted else =
       record {
         heap-length = M .heap-length;
-        notes-length = len ∙ M .notes-length;
+        notes-length = len;
         words = M .words;
         took = M .took;
         front = M .front;
@@ -165,10 +172,16 @@ module _ (s : Store) (S : Sound s) (g : Ghost) (r : Run) (d : Desk) (M : Matchin
         taken-count = else _ (omega arith) ∙ M .taken-count;
         free-last = else _ (omega arith) ∙ M .free-last;
         given-none = else _ (omega arith) ∙ M .given-none;
-        shallow = M .shallow;
-        deep = else _ (omega arith) ∙ M .deep;
-        noted = noted-same (M .noted) (M .shallow) (λ x p q. else x p);
+        shallow = shallow;
+        deep = deep;
+        noted = noted;
       }
+
+  -- other rows
+  pub rows-on : (t t′ : List ℕ) → length t′ ≡ length (d .notes) → ((j c : ℕ) → j < s .ctl .regions → c < 4 → at t′ (4 * j + c) ≡ at t (4 * j + c))
+      → ((x : ℕ) → 256 ≤ x → at t′ x ≡ at (d .notes) x) → Matching s S g (withTable r t) (desk (d .heap) t′)
+  rows-on t t′ len rows else =
+      notes-on t (r .stack) t′ (len ∙ M .notes-length) rows (M .shallow) (else _ (omega arith) ∙ M .deep) (noted-same (M .noted) (M .shallow) (λ x p q. else x p)) (λ x p. else x (omega arith))
 
   -- one word of both
   pub row-on : (y v : ℕ) → y < 4 * s .ctl .regions → y < length (r .table) → Matching s S g (withTable r (set (r .table) y v)) (desk (d .heap) (set (d .notes) y v))

@@ -4,7 +4,7 @@ use Prim.Native.Nat.{ℕ, zero, suc, _+_, _-_, _*_, _^_, _<_, zero-le}
 use native.Mathlib.Numerals.{sub-one}
 use native.Mathlib.Omega.{arith}
 use mathlib.Core.Path.{_≡_, refl, sym, ap, _∙_, subst}
-use mathlib.Core.Logic.{_≢_, _⊎_, inl, inr}
+use mathlib.Core.Logic.{_≢_, inr}
 use mathlib.Core.Bool.{true, false}
 use mathlib.Core.Option.{none, some}
 use mathlib.Core.List.{List, [], _∷_, List·Memᴰ·head}
@@ -13,12 +13,11 @@ use lib.Seq.{getD-set-same, getD-set-other}
 use borrow.Author.Tests.{ne-eqb}
 use Rattle.laws.specs.Lists.{at}
 use Rattle.laws.specs.Each.{after, each}
-use Rattle.laws.proofs.Once.{Linked, linked-first, linked-none}
-use Rattle.rules.specs.Memory.{Store, pageCount, link, pageEnd, pageAddress, bodyAddress, setRow}
+use Rattle.rules.specs.Memory.{Store, pageCount, pageEnd, pageAddress, bodyAddress, setRow}
 use Rattle.rules.specs.Pages.{Run, begun, withTable}
 use Rattle.rules.specs.Collection.{freshen}
 use Rattle.rules.proofs.Rows.{row-width, row-else}
-use Rattle.facts.proofs.Laid.{mine, Layout, upd, free-known, rows-laid}
+use Rattle.facts.proofs.Laid.{mine, Layout, upd, free-known, rows-laid, first-none, first-is}
 use Rattle.facts.proofs.Sound.{Sound}
 use Rattle.working.proofs.Taken as K
 use Rattle.working.proofs.Fresh.{Fresh, fresh-start, start-own, start-free}
@@ -29,7 +28,8 @@ use Rattle.motion.specs.Whole.{freshAt, freshOn, fresh}
 use Rattle.agreement.proofs.Matching.{Matching, bare}
 use Rattle.agreement.proofs.Frames.{set-alike, owning, by-owners, rows-on}
 use Rattle.working.proofs.Running.{unmoved}
-use Rattle.agreement.proofs.Stuck.{Stuck, stuck-fresh}
+use Rattle.agreement.proofs.Stuck.{stuck-fresh}
+use Rattle.agreement.proofs.Together.{Together, both-lack, both-go, come-to}
 use Rattle.agreement.proofs.Took as T
 
 -- the regions below j have their fresh page, in both
@@ -105,9 +105,7 @@ module _ (s : Store) (S : Sound s) where
 
     fresh-stops : F .free ≡ [] → fresh n j d ≡ after false d
     unfolding fresh freshOn
-    fresh-stops e =
-        let links : Linked (link n (r .heap)) (r .first) [] = rw e at (F .laid .free-links) in
-        rw (T.takes-none s S (unmoved F) (withTable r (d .notes)) d (H .matches) (linked-none links))
+    fresh-stops e = rw (T.takes-none s S (unmoved F) (withTable r (d .notes)) d (H .matches) (first-none (F .laid) e))
 
     module _ (k : ℕ) (ks : List ℕ) (free : F .free ≡ k ∷ ks) where
       L : Layout n N 0 (F .own) (F .fin) (F .pages) (k ∷ ks) (withTable r (d .notes))
@@ -190,8 +188,7 @@ module _ (s : Store) (S : Sound s) where
 
   abbrev pub Freshens : ℕ → ℕ → Run → Desk → Type 0
   Freshens m j r d =
-      ((freshen n m j r ≡ none) × (d′ : Desk) × (each m (fresh n) j d ≡ after false d′) × Stuck s S d′)
-      ⊎ ((r′ : Run) × (freshen n m j r ≡ some r′) × (F : Fresh s S R r′) × (d′ : Desk) × (each m (fresh n) j d ≡ after true d′) × Matching s S (unmoved F) r′ d′)
+      Together s S none some false true (λ r′ d′. (F : Fresh s S R r′) × Matching s S (unmoved F) r′ d′) (freshen n m j r) (each m (fresh n) j d)
 
   -- all rows are written
   whole : (r : Run) (d : Desk) (F : Fresh s S R r) → Fresher s S R r F d → Matching s S (unmoved F) r d
@@ -201,25 +198,14 @@ module _ (s : Store) (S : Sound s) where
   unfolding freshen each
   freshens zero j r e F d H =
       let q : R ≡ j = omega arith in
-      subst (λ i. (G : Fresh s S i r) → Fresher s S i r G d → Freshens zero j r d) q (λ G K. inr (r, refl, G, d, refl, whole r d G K)) F H
+      subst (λ i. (G : Fresh s S i r) → Fresher s S i r G d → Freshens zero j r d) q (λ G K. both-go r refl d refl (G, whole r d G K)) F H
   freshens (suc m) j r e F d H = go (F .free) refl (λ r′ F′ d′ H′. freshens m (suc j) r′ (omega arith) F′ d′ H′)
     where
-      up : (r′ : Run) (d′ : Desk) → freshen n (suc m) j r ≡ freshen n m (suc j) r′ → fresh n j d ≡ after true d′ → Freshens m (suc j) r′ d′ → Freshens (suc m) j r d
-      up r′ d′ q t (inl u) = inl (q ∙ u .0, u .1, rw t (u .2), u .3)
-      up r′ d′ q t (inr u) = inr (u .0, q ∙ u .1, u .2, u .3, rw t (u .4), u .5)
-
       go : (fr : List ℕ) → F .free ≡ fr → ((r′ : Run) (F′ : Fresh s S (suc j) r′) (d′ : Desk) → Fresher s S (suc j) r′ F′ d′ → Freshens m (suc j) r′ d′) → Freshens (suc m) j r d
       go [] q rest =
-          let l : Linked (link n (r .heap)) (r .first) [] = subst (λ fr. Linked (link n (r .heap)) (r .first) fr) q (F .laid .free-links) in
           let M : Matching s S (unmoved F) (withTable r (d .notes)) d = H .matches in
-          inl (
-            rw (K.takes-none n j r (linked-none l), freshen),
-            d,
-            rw (fresh-stops j r F (omega arith) d H q),
-            stuck-fresh s S j r d (omega arith) F M q,
-          )
+          both-lack (rw (K.takes-none n j r (first-none (F .laid) q), freshen)) d (rw (fresh-stops j r F (omega arith) d H q)) (stuck-fresh s S j r d (omega arith) F M q)
       go (k ∷ ks) q rest =
-          let l : Linked (link n (r .heap)) (r .first) (k ∷ ks) = subst (λ fr. Linked (link n (r .heap)) (r .first) fr) q (F .laid .free-links) in
           let b : j < R = omega arith in
-          up (r₁ j r F b d H k ks q) (d₁ j r F b d H k ks q) (rw (K.takes n j k r (linked-first l .0), freshen)) (fresh-goes j r F b d H k ks q)
+          come-to (rw (K.takes n j k r (first-is (F .laid) q), freshen)) (rw (fresh-goes j r F b d H k ks q)) (λ r′ d′ G. G)
           (rest _ (F₁ j r F b d H k ks q) (d₁ j r F b d H k ks q) (stepped j r F b d H k ks q))

@@ -8,6 +8,7 @@ use mathlib.Core.Bool.{false≢true}
 use borrow.Author.Tests.{eqb-true}
 use Rattle.rules.specs.Words.{number, inHeap, inConst, wordOf, rec, raw, headOf, lengthBy, recordBy, isRecord}
 use Rattle.rules.proofs.Headers.{header-odd, record-by}
+use Rattle.rules.proofs.Pointers.{heap-word}
 
 module _ (w l : ℕ) where
   pub record-rest : headOf w ≡ rec l → (w % 8 ≡ 1) × (w / 8 ≡ l)
@@ -24,9 +25,7 @@ pointer-rest a = (mul-mod-right 4 a, mul-div-right a {m = 4} (omega arith))
 
 -- what is none
 pub number-rest : (w : ℕ) → wordOf w ≡ number → w % 4 ≢ 0
-unfolding wordOf
-number-rest w e q = let t : inHeap (w / 4) ≡ number = rw q at e in false≢true cc
+number-rest w e m = let t : inHeap (w / 4) ≡ number = sym (heap-word w m) ∙ e in false≢true cc
 
 pub const-rest : (w a : ℕ) → wordOf w ≡ inConst a → w % 4 ≢ 0
-unfolding wordOf
-const-rest w a e q = let t : inHeap (w / 4) ≡ inConst a = rw q at e in false≢true cc
+const-rest w a e m = let t : inHeap (w / 4) ≡ inConst a = sym (heap-word w m) ∙ e in false≢true cc

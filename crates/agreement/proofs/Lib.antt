@@ -1,6 +1,7 @@
 pub mod Matching
 pub mod Frames
 pub mod Stuck
+pub mod Together
 pub mod Took
 pub mod Rooms
 pub mod Wakes

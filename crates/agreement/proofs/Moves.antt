@@ -7,7 +7,7 @@ use mathlib.Core.Path.{_≡_, refl, sym, ap, _∙_}
 use mathlib.Core.Logic.{_≢_, _⊎_, inl, inr}
 use mathlib.Core.Bool.{true, false, _||_}
 use mathlib.Core.Option.{none, some}
-use mathlib.Core.List.{List, [], _∷_, List·Memᴰ}
+use mathlib.Core.List.{List, [], List·Memᴰ}
 use lib.ListN.{length, take, drop, set, length-set}
 use lib.Seq.{getD-set-same}
 use lib.Dec.{leb}
@@ -19,15 +19,16 @@ use Rattle.laws.proofs.Lists.{apart as pages-apart, put-elsewhere, part-same, l
 use Rattle.rules.specs.Memory.{Store, pageCount, origin, endOf, topOf, statusOf, setTop}
 use Rattle.rules.specs.Pages.{Run, withHeap, store}
 use Rattle.rules.specs.Pages as Q
-use Rattle.rules.specs.Collection.{regionAt, evacuateAt, moveTo, wake}
+use Rattle.rules.specs.Collection.{regionAt, evacuateAt, wake}
 use Rattle.rules.proofs.Chains.{page-of}
 use Rattle.rules.proofs.Headers.{header-odd}
 use Rattle.rules.specs.Seen.{seen, Reached}
-use Rattle.facts.proofs.Steps.{steps-le}
+use Rattle.rules.proofs.Steps.{steps-le}
 use Rattle.facts.proofs.Laid.{old, old≢spare, old≢beyond, mine≢beyond, page-in, old-mine-apart}
 use Rattle.facts.proofs.Copied.{to, went}
 use Rattle.facts.proofs.Sound.{InHeap, Sound}
 use Rattle.working.proofs.Placed.{Roomed}
+use Rattle.working.proofs.Wanting.{Goes, wants-page, goes-on}
 use Rattle.working.proofs.Invariant.{Ghost, Inv, Became}
 use Rattle.working.proofs.Evacuating.{room-or}
 use Rattle.working.proofs.Evacuation as E
@@ -35,7 +36,7 @@ use Rattle.working.proofs.Evacuation.{value}
 use Rattle.working.proofs.Copying.{Uncopied, Made, fin₂, made, made-moves}
 use Rattle.working.proofs.Copying as C
 use Rattle.working.proofs.CopyPending as G
-use Rattle.working.proofs.Waking.{entry}
+use Rattle.working.proofs.Waking.{Stacked, slept, was-awake}
 use Rattle.working.proofs.Log.{in-log, in-pointers}
 use Rattle.motion.specs.Leaves as W
 use Rattle.motion.specs.Leaves.{Desk, desk, low, regionOn, apart, copied, forwarded}
@@ -43,7 +44,9 @@ use Rattle.motion.specs.Run as X
 use Rattle.motion.specs.Run.{room, move, moveOf, moveOn}
 use Rattle.agreement.proofs.Matching.{Matching}
 use Rattle.agreement.proofs.Frames.{owning, by-owners, heap-on, word-on, row-on, top-same, old-plain}
-use Rattle.agreement.proofs.Took.{low-is, start-is}
+use Rattle.agreement.proofs.Stuck.{stuck-moving}
+use Rattle.agreement.proofs.Together.{Together, both-lack, both-go}
+use Rattle.agreement.proofs.Took.{low-is, heap-small, start-is}
 use Rattle.agreement.proofs.Rooms.{no-room, Room, rooms}
 use Rattle.agreement.proofs.Wakes.{stack-few, wakes}
 
@@ -70,12 +73,18 @@ module _ (s : Store) (S : Sound s) (g : Ghost) (r : Run) (I : Inv s S g r) (d : 
   abbrev R : ℕ
   R = s .ctl .regions
 
+  -- the header of a moved value is its forward
+  pub forward-here : (a b : ℕ) → List·Memᴰ (to a b) (g .log) → at (d .heap) a ≡ 4 * b
+  forward-here a b m =
+      let C = I .logged .copies m in
+      let lo = steps-le (C .from-steps) in
+      let hi = C .from-stands .ends in
+      M .words a (old-plain s S g (C .from) a (C .from-old) (omega arith) (omega arith)) ∙ C .forward
+
   -- how a value's moving ends
   abbrev pub Moves : ℕ → Type 0
   Moves a =
-      ((evacuateAt n a r ≡ none) × (move n a d ≡ after false d) × (g .free ≡ []))
-      ⊎ ((v : ℕ) × (r′ : Run) × (evacuateAt n a r ≡ some (v, r′)) × (B : Became s S g r (4 * a) v r′) × (d′ : Desk) × (move n a d ≡ after true d′)
-      × Matching s S (B .ghost) r′ d′ × (at (d′ .heap) a ≡ v))
+      Together s S none some false true (λ x d′. (B : Became s S g r (4 * a) (x .0) (x .1)) × Matching s S (B .ghost) (x .1) d′ × (at (d′ .heap) a ≡ x .0)) (evacuateAt n a r) (move n a d)
 
   module _ (a : ℕ) (x : InHeap n R (s .heap) a) (reached : Reached (seen s) (s .roots) (4 * a)) where
     abbrev f : ℕ
@@ -113,18 +122,9 @@ module _ (s : Store) (S : Sound s) (g : Ghost) (r : Run) (I : Inv s S g r) (d : 
     again : (b : ℕ) → List·Memᴰ (to a b) (g .log) → Moves a
     unfolding moveOf E.stays
     again b m =
-        let e : at (d .heap) a ≡ 4 * b = head-here ∙ I .logged .copies m .forward in
+        let e = forward-here a b m in
         let even : (4 * b) % 2 ≡ 0 = omega arith in
-        inr (
-          4 * b,
-          r,
-          E.again s S g r I a x reached b m .0,
-          E.stays s S g r I (4 * a) (4 * b) (went (in-pointers (g .log) m)),
-          d,
-          rw (e, eq-eqb ((4 * b) % 2) 0 even),
-          M,
-          e,
-        )
+        both-go (4 * b, r) (E.again s S g r I a x reached b m .0) d (rw (e, eq-eqb ((4 * b) % 2) 0 even)) (E.stays s S g r I (4 * a) (4 * b) (went (in-pointers (g .log) m)), M, e)
 
     module _ (new : (b : ℕ) → List·Memᴰ (to a b) (g .log) → ⊥) where
       abbrev u : Uncopied s g
@@ -182,7 +182,7 @@ module _ (s : Store) (S : Sound s) (g : Ghost) (r : Run) (I : Inv s S g r) (d : 
             go (inr t) = let y = steps-le (x .steps) in let z = mk .moved .b-stands .ends in inr (omega arith)
 
         small : length (r .heap) ≤ 65536
-        small = let z = I .laid .size in let y = S .laid .size in let w = S .within .paged .size in omega arith
+        small = let z = I .laid .size in let y = heap-small s S in omega arith
 
         -- the value and its copy lie in the heap
         value-in : a + suc l ≤ length (d₁ .heap)
@@ -217,6 +217,9 @@ module _ (s : Store) (S : Sound s) (g : Ghost) (r : Run) (I : Inv s S g r) (d : 
         unfolding copied
         copied-is = rw (apart-is, part)
 
+        fits : b + length ws ≤ length (d₁ .heap)
+        fits = let z = M₁ .heap-length in let y = C.value-length s S g r I u in let c = copy-in in omega arith
+
         abbrev r₂ : Run
         r₂ = withHeap r₁ (put (r₁ .heap) b ws)
 
@@ -226,19 +229,15 @@ module _ (s : Store) (S : Sound s) (g : Ghost) (r : Run) (I : Inv s S g r) (d : 
         M₂ : Matching s S g₁ r₂ d₂
         M₂ =
             let z = M₁ .heap-length in
-            let y = C.value-length s S g r I u in
-            let c = copy-in in
+            let f = fits in
             heap-on s S g₁ r₁ d₁ M₁ (put (r₁ .heap) b ws) (put (d₁ .heap) b ws)
-            (length-put (d₁ .heap) b ws (omega arith) ∙ z ∙ sym (length-put (r₁ .heap) b ws (omega arith)))
-            (λ i pl. put-alike (d₁ .heap) (r₁ .heap) b ws i (omega arith) (omega arith) (M₁ .words i pl))
+            (length-put (d₁ .heap) b ws fits ∙ z ∙ sym (length-put (r₁ .heap) b ws (omega arith)))
+            (λ i pl. put-alike (d₁ .heap) (r₁ .heap) b ws i fits (omega arith) (M₁ .words i pl))
             (λ k m. kept k)
           where
             kept : (k : ℕ) → at (put (d₁ .heap) b ws) (k * 2 ^ n + 1) ≡ at (d₁ .heap) (k * 2 ^ n + 1)
             kept k = go (ℕ-discrete k p)
               where
-                fits : b + length ws ≤ length (d₁ .heap)
-                fits = let z = M₁ .heap-length in let y = C.value-length s S g r I u in let c = copy-in in omega arith
-
                 go : Dec (k ≡ p) → at (put (d₁ .heap) b ws) (k * 2 ^ n + 1) ≡ at (d₁ .heap) (k * 2 ^ n + 1)
                 go (yes e) =
                     let c = steps-le (mk .moved .b-steps) in
@@ -279,13 +278,13 @@ module _ (s : Store) (S : Sound s) (g : Ghost) (r : Run) (I : Inv s S g r) (d : 
         unfolding store B E.copied-became
         deep e = go (mk .how)
           where
-            go : ((statusOf (r .table) j ≡ 0) × (r′ .stack ≡ entry j b ∷ r .stack)) ⊎ ((statusOf (r .table) j ≢ 0) × (r′ .stack ≡ r .stack)) → length (r₁ .stack) < 64
-            go (inl t) =
+            go : Stacked j b r r′ → length (r₁ .stack) < 64
+            go (slept f t) =
                 let c = stack-few s S end r′ (B .inv) in
-                let z : length (r′ .stack) ≡ suc (length (r .stack)) = ap length (t .1) in
+                let z : length (r′ .stack) ≡ suc (length (r .stack)) = ap length t in
                 let y : length (r₁ .stack) ≡ length (r .stack) = ap length (K .stack-kept) in
                 omega arith
-            go (inr t) = absurd (t .0 (sym (C.same-status s S g r I u r₁ K) ∙ e))
+            go (was-awake f t) = absurd (f (sym (C.same-status s S g r I u r₁ K) ∙ e))
 
         abbrev d₄ : Desk
         d₄ = desk (d₂ .heap) (W.wake j b (d₃ .notes))
@@ -297,12 +296,7 @@ module _ (s : Store) (S : Sound s) (g : Ghost) (r : Run) (I : Inv s S g r) (d : 
         M₄ = wakes s S g₁ (store n j ws r₁) d₃ M₃ j b (x .known) stored-wide deep
 
         a-in : a < length (d₄ .heap)
-        a-in =
-            let z = M₁ .heap-length in
-            let v = value-in in
-            let w = copy-in in
-            let c = C.value-length s S g r I u in
-            rw (length-put (d₁ .heap) b ws (omega arith)) (omega arith)
+        a-in = let v = value-in in rw (length-put (d₁ .heap) b ws fits) (omega arith)
 
         abbrev d₅ : Desk
         d₅ = desk (set (d₄ .heap) a (4 * b)) (d₄ .notes)
@@ -327,7 +321,7 @@ module _ (s : Store) (S : Sound s) (g : Ghost) (r : Run) (I : Inv s S g r) (d : 
 
         copies : Moves a
         unfolding B E.copied-became
-        copies = inr (4 * b, r′, E.head s S g r I a x reached new ∙ made-moves s S g r I u r₁ K q, B, d₅, goes, M₅, getD-set-same (d₄ .heap) a (4 * b) 0 a-in)
+        copies = both-go (4 * b, r′) (E.head s S g r I a x reached new ∙ made-moves s S g r I u r₁ K q) d₅ goes (B, M₅, getD-set-same (d₄ .heap) a (4 * b) 0 a-in)
 
       stops : room n j (suc l) d ≡ after false d → moveOn a (suc l) j (room n j (suc l) d) ≡ after false d
       unfolding moveOn
@@ -336,15 +330,12 @@ module _ (s : Store) (S : Sound s) (g : Ghost) (r : Run) (I : Inv s S g r) (d : 
       now : Moves a
       now = go (room-or n N R (g .own) (g .fin) (g .pages) (g .free) r (I .laid) j (suc l) (x .known) (let lo = steps-le (x .steps) in let hi = x .stands .ends in omega arith))
         where
-          go : ((Q.room n j (suc l) r ≡ none) × (g .free ≡ []) × (endOf (r .table) j < topOf (r .table) j + suc l))
-              ⊎ ((r₁ : Run) × (Q.room n j (suc l) r ≡ some r₁) × Roomed n N R (g .own) (g .fin) (g .pages) (g .free) r j (suc l) r₁) → Moves a
-          go (inl t) =
-              inl (
-                E.head s S g r I a x reached new ∙ E.no-room s S g r I a x reached new (t .0),
-                moves-is ∙ stops (no-room s S g r d M (g .fin) (g .pages) (I .laid) j (suc l) (x .known) (t .1) (t .2)),
-                t .1,
-              )
-          go (inr t) = copies (t .0) (t .2) (t .1)
+          go : Goes none some (Q.room n j (suc l) r) ((g .free ≡ []) × (endOf (r .table) j < topOf (r .table) j + suc l)) (λ r₁. Roomed n N R (g .own) (g .fin) (g .pages) (g .free) r j (suc l) r₁)
+              → Moves a
+          go (wants-page e (f, w)) =
+              both-lack (E.head s S g r I a x reached new ∙ E.no-room s S g r I a x reached new e) d
+              (moves-is ∙ stops (no-room s S g r d M (g .fin) (g .pages) (I .laid) j (suc l) (x .known) f w)) (stuck-moving s S g r d I M f)
+          go (goes-on r₁ e K) = copies r₁ K e
 
     pub moves : Moves a
     moves = go (in-log a (g .log))

@@ -5,13 +5,12 @@ use native.Mathlib.Nat.{mul-le-mul-right, mul-mod-left}
 use native.Mathlib.Omega.{arith}
 use native.Mathlib.Decide.{ℕ-discrete}
 use mathlib.Core.Path.{_≡_, refl, sym, ap, _∙_, subst}
-use mathlib.Core.Logic.{_⊎_, inl, inr}
 use mathlib.Core.Bool.{Bool, true, false, _||_}
-use mathlib.Core.List.{List, [], _∷_, List·Memᴰ, List·Memᴰ·head, List·Memᴰ·tail, List·Memᴰ·cases-cons}
+use mathlib.Core.List.{List·Memᴰ}
 use lib.Dec.{eqb}
 use borrow.Author.Tests.{eqb-false}
 use Rattle.laws.specs.Lists.{at}
-use Rattle.laws.proofs.Once.{Linked, linked-first, linked-none}
+use Rattle.laws.proofs.Once.{linked-from, linked-fits}
 use Rattle.rules.specs.Memory.{Store, pageCount, link, topOf}
 use Rattle.rules.specs.Words.{headOf, wordsBy}
 use Rattle.rules.specs.Pages.{Run}
@@ -19,7 +18,7 @@ use Rattle.rules.specs.Collection.{nextFrom, nextScan}
 use Rattle.rules.proofs.Chains.{page-of}
 use Rattle.rules.proofs.Pointers.{words-of}
 use Rattle.rules.proofs.Headers.{header-odd}
-use Rattle.facts.proofs.Steps.{steps-le}
+use Rattle.rules.proofs.Steps.{steps-le}
 use Rattle.facts.proofs.Laid.{chain-known}
 use Rattle.facts.proofs.Sound.{Sound}
 use Rattle.working.proofs.Rows.{InRow}
@@ -28,26 +27,8 @@ use Rattle.motion.specs.Leaves.{Desk}
 use Rattle.motion.specs.Run as X
 use Rattle.motion.specs.Run.{nextOf, nextPage}
 use Rattle.agreement.proofs.Matching.{Matching}
-use Rattle.agreement.proofs.Frames.{top-same, body-plain, link-same}
-use Rattle.agreement.proofs.Took.{start-is}
-
--- a link of a chain names one of its pages, or ends it
-linked-next : {l : ℕ → ℕ} {x : ℕ} {k : ℕ} (ks : List ℕ) → Linked l x ks → List·Memᴰ k ks → (l k ≡ 0) ⊎ ((k′ : ℕ) × (l k ≡ suc k′) × List·Memᴰ k′ ks)
-linked-next [] p m = elim m [ ]
-linked-next {l} {k = k} (y ∷ ys) p m = go (List·Memᴰ·cases-cons m) (λ q. linked-next ys (linked-first p .1) q)
-  where
-    first : (zs : List ℕ) → Linked l (l y) zs → (l y ≡ 0) ⊎ ((k′ : ℕ) × (l y ≡ suc k′) × List·Memᴰ k′ zs)
-    first [] q = inl (linked-none q)
-    first (z ∷ zs) q = inr (z, linked-first q .0, List·Memᴰ·head refl)
-
-    up : {x : ℕ} → (l x ≡ 0) ⊎ ((k′ : ℕ) × (l x ≡ suc k′) × List·Memᴰ k′ ys) → (l x ≡ 0) ⊎ ((k′ : ℕ) × (l x ≡ suc k′) × List·Memᴰ k′ (y ∷ ys))
-    up (inl q) = inl q
-    up (inr q) = inr (q .0, q .1, List·Memᴰ·tail (q .2))
-
-    go : (k ≡ y) ⊎ List·Memᴰ k ys → (List·Memᴰ k ys → (l k ≡ 0) ⊎ ((k′ : ℕ) × (l k ≡ suc k′) × List·Memᴰ k′ ys))
-        → (l k ≡ 0) ⊎ ((k′ : ℕ) × (l k ≡ suc k′) × List·Memᴰ k′ (y ∷ ys))
-    go (inl e) rest = rw e (up {x = y} (first ys (linked-first p .1)))
-    go (inr q) rest = up {x = k} (rest q)
+use Rattle.agreement.proofs.Frames.{top-same, body-plain, value-plain, link-same}
+use Rattle.agreement.proofs.Took.{heap-small, start-is}
 
 module _ (s : Store) (S : Sound s) (g : Ghost) (r : Run) (I : Inv s S g r) (d : Desk) (M : Matching s S g r d) (j : ℕ) (jR : j < s .ctl .regions) (b : ℕ)
     (F : InRow (s .ctl .n) (r .heap) (g .fin) (g .pages j) b) where
@@ -72,28 +53,26 @@ module _ (s : Store) (S : Sound s) (g : Ghost) (r : Run) (I : Inv s S g r) (d : 
   hi : t ≤ k * P + P
   hi = F .stands .ends
 
-  small : N * P ≤ 65536
-  small = let a = S .laid .size in let c = S .within .paged .size in omega arith
-
   in-heap : (l : ℕ) → List·Memᴰ l (g .pages j) → l * P + P ≤ N * P
   in-heap l m = let q = mul-le-mul-right P (chain-known (I .laid) j jR l m) in omega arith
 
   here : at (d .heap) b ≡ at (r .heap) b
-  here = let p = lo in let q = hi in M .words b (body-plain s S g k b (omega arith) (omega arith))
+  here = M .words b (value-plain s S g k (F .steps) (F .stands))
+
+  page-is : b / P ≡ k
+  page-is = let p = lo in let q = hi in page-of n k b (omega arith) (omega arith)
 
   -- the page that the link names
   link-known : link n (r .heap) k - 1 < N
-  link-known = go (linked-next (g .pages j) (I .laid .mine-links j jR .2) (F .here))
-    where
-      go : (link n (r .heap) k ≡ 0) ⊎ ((k′ : ℕ) × (link n (r .heap) k ≡ suc k′) × List·Memᴰ k′ (g .pages j)) → link n (r .heap) k - 1 < N
-      go (inl e) = let p = chain-known (I .laid) j jR k (F .here) in omega arith
-      go (inr u) = let p = chain-known (I .laid) j jR (u .0) (u .2) in let q = u .1 in omega arith
+  link-known =
+      let on = linked-from (I .laid .mine-links j jR .2) (F .here) in
+      let p = linked-fits (on .1) (λ y m. chain-known (I .laid) j jR y (on .3 y m)) in
+      let q = chain-known (I .laid) j jR k (F .here) in
+      omega arith
 
   next-page : nextPage n b (d .heap) ≡ (link n (r .heap) k - 1) * P + 2
   next-page =
-      let p = lo in
-      let q = hi in
-      rw (page-of n k b (omega arith) (omega arith), start-is s S k (chain-known (I .laid) j jR k (F .here)), link-same s S g r d M k, start-is s S (link n (r .heap) k - 1) link-known)
+      rw (page-is, start-is s S k (chain-known (I .laid) j jR k (F .here)), link-same s S g r d M k, start-is s S (link n (r .heap) k - 1) link-known)
 
   end-is : b + ((at (d .heap) b) / 8 + 1) ≡ t
   end-is =
@@ -122,7 +101,7 @@ module _ (s : Store) (S : Sound s) (g : Ghost) (r : Run) (I : Inv s S g r) (d : 
       ∙ go (eqb t (topOf (r .table) j)) refl (eqb (t % P) 0) refl ∙ ap (λ x. nextFrom n j b x r) (sym end-plain)
     where
       page : (link n (r .heap) (b / P) - 1) * P + 2 ≡ (link n (r .heap) k - 1) * P + 2
-      page = let p = lo in let q = hi in ap (λ x. (link n (r .heap) x - 1) * P + 2) (page-of n k b (omega arith) (omega arith))
+      page = ap (λ x. (link n (r .heap) x - 1) * P + 2) page-is
 
       last : (c : Bool) → eqb (at (r .heap) t) 0 ≡ c → eqb t (topOf (r .table) j) ≡ false → eqb (t % P) 0 ≡ false → nextOf n b t (topOf (r .table) j) (d .heap) ≡ nextFrom n j b t r
       last true q e f = rw (e, f, nextFrom, behind f, q) (next-page ∙ sym page)
@@ -139,16 +118,14 @@ module _ (s : Store) (S : Sound s) (g : Ghost) (r : Run) (I : Inv s S g r) (d : 
   next-small = subst (λ x. nextFrom n j b x r < 4294967296) (sym end-plain) (go (eqb t (topOf (r .table) j)) refl (eqb (t % P) 0 || eqb (at (r .heap) t) 0) refl)
     where
       t-small : t < 4294967296
-      t-small = let p = hi in let q = in-heap k (F .here) in let c = small in omega arith
+      t-small = let p = hi in let q = in-heap k (F .here) in let c = heap-small s S in omega arith
 
       page-small : (link n (r .heap) (b / P) - 1) * P + 2 < 4294967296
       page-small =
-          let p = lo in
-          let q = hi in
-          let c = small in
+          let c = heap-small s S in
           let z = mul-le-mul-right P link-known in
           let y = S .laid .big in
-          rw (page-of n k b (omega arith) (omega arith)) (omega arith)
+          rw page-is (omega arith)
 
       go : (x : Bool) → eqb t (topOf (r .table) j) ≡ x → (y : Bool) → (eqb (t % P) 0 || eqb (at (r .heap) t) 0) ≡ y → nextFrom n j b t r < 4294967296
       go true e y f = rw (e, nextFrom) t-small

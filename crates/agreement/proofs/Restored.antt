@@ -8,33 +8,32 @@ use native.Mathlib.Numerals.{sub-one}
 use mathlib.Core.Path.{_≡_, refl, sym, ap, _∙_, subst}
 use mathlib.Core.Logic.{_≢_, _⊎_, inl, inr}
 use mathlib.Core.Bool.{true, false}
-use mathlib.Core.List.{List, [], _∷_, List·Memᴰ, List·Memᴰ·head, List·Memᴰ·tail, List·Memᴰ·cases-cons}
+use mathlib.Core.List.{List, [], _∷_, List·Memᴰ}
 use lib.ListN.{length, set, length-set}
 use lib.Seq.{getD-set-same, getD-set-other}
 use lib.Dec.{leb, eqb}
 use borrow.Author.Tests.{le-leb, lt-leb, eq-eqb, ne-eqb}
-use Rattle.laws.proofs.Lists.{one-part}
 use Rattle.laws.specs.Lists.{at}
 use Rattle.laws.specs.Each.{after}
 use Rattle.laws.specs.Loop.{more, over}
 use Rattle.laws.proofs.Loops.{loop-more, loop-over, loop-end}
-use Rattle.rules.specs.Memory.{Store, pageCount, link, firstLink}
-use Rattle.facts.proofs.Laid.{old≢mine, old≢beyond, old, Body, chain-body, chain-known, chain-few}
-use Rattle.facts.proofs.Steps.{Stands, Steps, here, over as passes, steps-le, steps-then, not-header}
+use Rattle.rules.specs.Memory.{Store, pageCount, link}
+use Rattle.facts.proofs.Laid.{old≢mine, old≢beyond, old, Body, chain-body}
+use Rattle.rules.proofs.Steps.{Stands, Steps, here, over as passes, steps-le, steps-then, not-header, no-zero}
 use Rattle.facts.proofs.Copied.{to}
 use Rattle.facts.proofs.Sound.{Sound}
 use Rattle.facts.proofs.Goods.{page-ends}
 use Rattle.rules.specs.Pages.{Run}
+use Rattle.rules.proofs.Chains.{page-of}
 use Rattle.rules.proofs.Headers.{header-odd}
 use Rattle.working.proofs.Invariant.{Ghost, Kept}
-use Rattle.working.proofs.Log.{in-log, Copy}
+use Rattle.working.proofs.Log.{in-log, Copy, copy-page}
 use Rattle.motion.specs.Leaves.{Desk}
-use Rattle.motion.specs.Whole.{undoOf, undoTurn, undoVals, undoPage, undoChain, undoHeaders}
+use Rattle.motion.specs.Whole.{undoOf, undoTurn, undoVals, undoPage, undoHeaders}
 use Rattle.agreement.proofs.Matching.{Matching}
-use Rattle.agreement.proofs.Frames.{body-plain, old-plain}
+use Rattle.agreement.proofs.Frames.{set-as, value-plain, old-plain}
 use Rattle.agreement.proofs.Stuck.{Stuck}
-use Rattle.facts.proofs.Cleared.{first-link}
-use Rattle.agreement.proofs.Walked.{steps-keep, along-all, From, Before, from-split, before-none, from-none}
+use Rattle.agreement.proofs.Walked.{regions-keep, Ahead, ahead-enter, ahead-tail, ahead-none}
 
 module _ (s : Store) (S : Sound s) (d : Desk) (A : Stuck s S d) where
   abbrev g : Ghost
@@ -83,21 +82,11 @@ module _ (s : Store) (S : Sound s) (d : Desk) (A : Stuck s S d) where
     abbrev C : Copy n s (Kept s) (g .own) (g .fin) (r .heap) (g .log) (g .count) x b
     C = A .logged .copies m
 
-    from-is : C .from ≡ k
-    from-is = go (ℕ-discrete (C .from) k)
-      where
-        go : Dec (C .from ≡ k) → C .from ≡ k
-        go (yes e) = e
-        go (no ne) =
-            let a = steps-le (C .from-steps) in
-            let c = C .from-stands .ends in
-            absurd (one-part (2 ^ n) (C .from) k x ne (omega arith) (omega arith) (p .0) (p .1))
-
     logged-steps : Steps (s .heap) (k * P + P) (k * P + 2) x
-    logged-steps = subst (λ y. Steps (s .heap) (y * P + P) (y * P + 2) x) from-is (C .from-steps)
+    logged-steps = subst (λ y. Steps (s .heap) (y * P + P) (y * P + 2) x) (copy-page C k (p .0) (p .1)) (C .from-steps)
 
     logged-stands : Stands (s .heap) (k * P + P) x (C .len)
-    logged-stands = subst (λ y. Stands (s .heap) (y * P + P) x (C .len)) from-is (C .from-stands)
+    logged-stands = subst (λ y. Stands (s .heap) (y * P + P) x (C .len)) (copy-page C k (p .0) (p .1)) (C .from-stands)
 
   -- where no value stands, the word is as before
   same-if : (left : ℕ → Type 0) (h : List ℕ) → Half left h → (k x : ℕ) → g .own k ≡ old → In k x
@@ -115,30 +104,19 @@ module _ (s : Store) (S : Sound s) (d : Desk) (A : Stuck s S d) where
         size = length-set h x v ∙ H .size;
         others = λ l y ne q. getD-set-other h x y v 0 (λ z. ne (other-page l y q z)) ∙ H .others l y ne q;
         either = λ l y w q. by l y q (H .either l y w q) (ℕ-discrete y x);
-        back = λ l y w ne q. kept l y q (H .back l y w ne q) (ℕ-discrete y x);
+        back = λ l y w ne q. set-back y (λ z. H .back l y w ne q);
       }
     where
-      set-here : (y : ℕ) → y ≡ x → at (set h x v) y ≡ at (s .heap) y
-      set-here y z =
-          let b = inside k x o p in
-          let c = H .size in
-          rw z (getD-set-same h x v 0 (omega arith) ∙ e)
+      set-back : (y : ℕ) → (y ≢ x → at h y ≡ at (s .heap) y) → at (set h x v) y ≡ at (s .heap) y
+      set-back y same = let b = inside k x o p in let c = H .size in set-as (s .heap) h x v y (omega arith) e same
 
       other-page : (l y : ℕ) → In l y → y ≡ x → g .own l ≡ old
-      other-page l y q z = go (ℕ-discrete l k)
-        where
-          go : Dec (l ≡ k) → g .own l ≡ old
-          go (yes w) = ap (g .own) w ∙ o
-          go (no ne) = absurd (one-part (2 ^ n) l k y ne (q .0) (q .1) (rw z (p .0)) (rw z (p .1)))
+      other-page l y q z = ap (g .own) (sym (page-of n l y (q .0) (q .1)) ∙ page-of n k y (rw z (p .0)) (rw z (p .1))) ∙ o
 
       by : (l y : ℕ) → In l y → Either h y → Dec (y ≡ x) → Either (set h x v) y
-      by l y q t (yes z) = inl (set-here y z)
-      by l y q (inl t) (no ne) = inl (getD-set-other h x y v 0 ne ∙ t)
+      by l y q t (yes z) = inl (set-back y (λ ne. absurd (ne z)))
+      by l y q (inl t) (no ne) = inl (set-back y (λ z. t))
       by l y q (inr t) (no ne) = inr (t .0, t .1, getD-set-other h x y v 0 ne ∙ t .2)
-
-      kept : (l y : ℕ) → In l y → at h y ≡ at (s .heap) y → Dec (y ≡ x) → at (set h x v) y ≡ at (s .heap) y
-      kept l y q t (yes z) = set-here y z
-      kept l y q t (no ne) = getD-set-other h x y v 0 ne ∙ t
 
   -- the copy still has the header
   copy-head : (left : ℕ → Type 0) (h : List ℕ) → Half left h → (x b : ℕ) → List·Memᴰ (to x b) (g .log) → at h b ≡ at (s .heap) x
@@ -148,7 +126,7 @@ module _ (s : Store) (S : Sound s) (d : Desk) (A : Stuck s S d) where
       let hi = D .into-stands .ends in
       let p : In (D .into) b = (omega arith, omega arith) in
       H .others (D .into) b (λ o. old≢mine o (D .into-mine)) p
-      ∙ M .words b (body-plain s S g (D .into) b lo (p .1))
+      ∙ M .words b (value-plain s S g (D .into) (D .into-steps) (D .into-stands))
       ∙ D .head
 
   -- ---- one page
@@ -166,11 +144,7 @@ module _ (s : Store) (S : Sound s) (d : Desk) (A : Stuck s S d) where
     past-end : (h : List ℕ) → Half left h → (y : ℕ) → S .fin k ≤ y → y < hi → at h y ≡ at (s .heap) y
     past-end h H y lo up =
         let q = steps-le (body .filled) in
-        same-if left h H k y own-k (omega arith, up)
-        (λ l t st.
-        let z = body .rest y lo up in
-        let u = header-odd (at (s .heap) y) l (st .head) .0 in
-        omega arith)
+        same-if left h H k y own-k (omega arith, up) (λ l t st. no-zero st (body .rest y lo up))
 
     -- inside a value no other stands
     between : (h : List ℕ) → Half left h → (x l : ℕ) → Steps (s .heap) hi (k * P + 2) x → Stands (s .heap) hi x l
@@ -218,7 +192,7 @@ module _ (s : Store) (S : Sound s) (d : Desk) (A : Stuck s S d) where
 
         go : Either h x → Stepped h x l
         go (inl e) =
-            let nz : eqb (at h x) 0 ≡ false = ne-eqb (at h x) 0 (λ (z : at h x ≡ 0). let w = odd in omega arith) in
+            let nz : eqb (at h x) 0 ≡ false = ne-eqb (at h x) 0 (λ z. no-zero st (sym e ∙ z)) in
             let o : eqb (at h x % 2) 1 ≡ true = eq-eqb (at h x % 2) 1 (ap (λ w. w % 2) e ∙ odd) in
             let n : x + (at h x / 8 + 1) ≡ x + suc l = (let a = len in let b : at h x / 8 ≡ at (s .heap) x / 8 = ap (λ w. w / 8) e in omega arith) in
             record {
@@ -297,61 +271,40 @@ module _ (s : Store) (S : Sound s) (d : Desk) (A : Stuck s S d) where
 
   -- ---- all pages
 
-  module _ (j : ℕ) (jR : j < R) where
-    pub record Chain (ks : List ℕ) (h : List ℕ) : Type 0 where
-      pub half : Half (Before R (S .pages) ks (suc j)) h
-      pub theirs : (k : ℕ) → List·Memᴰ k ks → List·Memᴰ k (S .pages j)
+  abbrev Good : List ℕ → ℕ → List ℕ → Type 0
+  Good ks j h = Half (Ahead R (S .pages) ks j) h
 
-    turn : (k : ℕ) (ks : List ℕ) (h : List ℕ) → Chain (k ∷ ks) h → (link n h k ≡ link n (s .heap) k) × Chain ks (undoPage n k h)
-    unfolding link
-    turn k ks h K =
-        let m : List·Memᴰ k (S .pages j) = K .theirs k (List·Memᴰ·head refl) in
-        let o : g .own k ≡ old = A .from-space k .1 (j, jR, m) in
-        let B = chain-body (S .laid) j k jR m in
-        let U = undo-page (Before R (S .pages) (k ∷ ks) (suc j)) k j o B h (K .half) in
-        let c = S .laid .big in (
-          descriptor (Before R (S .pages) (k ∷ ks) (suc j)) k j o B h (K .half) (k * P) (le-refl _) (omega arith),
-          record {
-            half =
-                record {
-                  size = U .half .size;
-                  others = U .half .others;
-                  either = U .half .either;
-                  back = λ l x w ne p. back-by U l x w ne p (ℕ-discrete l k);
-                };
-            theirs = λ l q. K .theirs l (List·Memᴰ·tail q);
-          },
-        )
-      where
-        back-by : PageBack (Before R (S .pages) (k ∷ ks) (suc j)) k j (A .from-space k .1 (j, jR, K .theirs k (List·Memᴰ·head refl))) (chain-body (S .laid) j k jR (K .theirs k (List·Memᴰ·head refl))) (undoPage n k h)
-            → (l x : ℕ) → g .own l ≡ old → (Before R (S .pages) ks (suc j) l → ⊥) → In l x → Dec (l ≡ k) → at (undoPage n k h) x ≡ at (s .heap) x
-        back-by U l x w ne p (yes e) = U .page x (subst (λ y. In y x) e p)
-        back-by U l x w ne p (no f) = U .half .back l x w (λ q. ne (tails q)) p
-          where
-            tails : Before R (S .pages) (k ∷ ks) (suc j) l → Before R (S .pages) ks (suc j) l
-            tails (inr q) = inr q
-            tails (inl q) = go (List·Memᴰ·cases-cons q)
-              where
-                go : (l ≡ k) ⊎ List·Memᴰ l ks → Before R (S .pages) ks (suc j) l
-                go (inl e) = absurd (f e)
-                go (inr m) = inl m
+  turn : (j k : ℕ) (ks : List ℕ) (h : List ℕ) → j < R → List·Memᴰ k (S .pages j) → Good (k ∷ ks) (suc j) h → (link n h k ≡ link n (s .heap) k) × Good ks (suc j) (undoPage n k h)
+  unfolding link
+  turn j k ks h jR m H = (
+    let c = S .laid .big in descriptor left k j o B h H (k * P) (le-refl _) (omega arith),
+    record { size = U .half .size; others = U .half .others; either = U .half .either; back = λ l x w ne p. back l x w ne p (ℕ-discrete l k) },
+  )
+    where
+      left : ℕ → Type 0
+      left = Ahead R (S .pages) (k ∷ ks) (suc j)
 
-    region : (h : List ℕ) → Half (From R (S .pages) j) h → Half (From R (S .pages) (suc j)) (undoChain n N (firstLink n (s .table) j) h)
-    region h H =
-        let start : Chain (S .pages j) h = record { half = half-more (from-split R (S .pages) j) H; theirs = λ k m. m } in
-        let end : Chain [] (undoChain n N (suc (S .laid .mine-links j jR .0)) h)
-        = along-all N (link n) (undoPage n) (link n (s .heap)) Chain turn N (S .pages j) (suc (S .laid .mine-links j jR .0)) h (S .laid .mine-links j jR .2) (chain-known (S .laid) j jR)
-        (chain-few (S .laid) j jR) start in
-        rw (first-link n (s .table) j (S .laid .mine-links j jR .0) (S .laid .big) (S .laid .mine-links j jR .1)) (half-more (before-none R (S .pages) (suc j)) (end .half))
+      o : g .own k ≡ old
+      o = A .from-space k .1 (j, jR, m)
+
+      B : Body n (s .heap) k j (S .fin k)
+      B = chain-body (S .laid) j k jR m
+
+      U : PageBack left k j o B (undoPage n k h)
+      U = undo-page left k j o B h H
+
+      back : (l x : ℕ) → g .own l ≡ old → (Ahead R (S .pages) ks (suc j) l → ⊥) → In l x → Dec (l ≡ k) → at (undoPage n k h) x ≡ at (s .heap) x
+      back l x w ne p (yes e) = U .page x (subst (λ y. In y x) e p)
+      back l x w ne p (no f) = U .half .back l x w (λ q. ne (ahead-tail R (S .pages) f q)) p
 
   -- at the start every old page is left
-  begin : Half (From R (S .pages) 0) (d .heap)
+  begin : Half (Ahead R (S .pages) [] 0) (d .heap)
   begin =
       record {
         size = M .heap-length ∙ A .size ∙ sym (S .laid .size);
         others = λ k x ne p. refl;
         either = λ k x o p. rw (M .words x (old-plain s S g k x o (p .0) (p .1))) (either k x o p);
-        back = λ k x o ne p. let t = A .from-space k .0 o in absurd (ne (t .0, zero-le, t .1, t .2));
+        back = λ k x o ne p. let t = A .from-space k .0 o in absurd (ne (inr (t .0, zero-le, t .1, t .2)));
       }
     where
       either : (k x : ℕ) → g .own k ≡ old → In k x → Either (r .heap) x
@@ -361,9 +314,9 @@ module _ (s : Store) (S : Sound s) (d : Desk) (A : Stuck s S d) where
           go (inl t) = inr (t .0, t .1, A .logged .copies (t .1) .forward)
           go (inr new) = inl (A .logged .unmoved k x o (p .0) (p .1) new)
 
-  pub headers-back : Half (From R (S .pages) R) (undoHeaders n N R (s .table) (d .heap))
-  headers-back = steps-keep (λ j. undoChain n N (firstLink n (s .table) j)) R (λ j h. Half (From R (S .pages) j) h) (λ j h jR H. region j jR h H) R 0 (d .heap) (omega arith) begin
+  pub headers-back : Half (Ahead R (S .pages) [] R) (undoHeaders n N R (s .table) (d .heap))
+  headers-back = regions-keep (S .laid) (s .table) (λ j jR. refl) (link n) (λ j. undoPage n) Good (λ j h jR H. half-more (ahead-enter R (S .pages) j) H) turn (d .heap) begin
 
   -- the old pages are as before
   pub old-back : (k x : ℕ) → g .own k ≡ old → In k x → at (undoHeaders n N R (s .table) (d .heap)) x ≡ at (s .heap) x
-  old-back k x o p = headers-back .back k x o (from-none R (S .pages) k) p
+  old-back k x o p = headers-back .back k x o (ahead-none R (S .pages) k) p

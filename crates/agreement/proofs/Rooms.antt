@@ -10,10 +10,9 @@ use lib.ListN.{length, set, length-set}
 use lib.Dec.{leb}
 use borrow.Author.Tests.{ne-eqb, lt-leb}
 use Rattle.laws.specs.Each.{after}
-use Rattle.laws.proofs.Once.{linked-none, Linked}
-use Rattle.rules.specs.Memory.{Store, pageCount, link, endOf, topOf}
+use Rattle.rules.specs.Memory.{Store, pageCount, endOf, topOf}
 use Rattle.rules.specs.Pages.{Run, withHeap, withTable, join}
-use Rattle.facts.proofs.Laid.{mine, Layout, upd, last-in-heap, free-known, last-start}
+use Rattle.facts.proofs.Laid.{mine, Layout, upd, last-in-heap, free-known, last-start, first-none}
 use Rattle.facts.proofs.Sound.{Sound}
 use Rattle.working.proofs.Taken.{taken, taken-table, taken-long}
 use Rattle.working.proofs.Placed.{Roomed}
@@ -46,9 +45,8 @@ module _ (s : Store) (S : Sound s) (g : Ghost) (r : Run) (d : Desk) (M : Matchin
   pub no-room : g .free ≡ [] → endOf (r .table) j < topOf (r .table) j + m → room n j m d ≡ after false d
   unfolding room joinOn
   no-room e wants =
-      let links : Linked (link n (r .heap)) (r .first) [] = rw e at (L .free-links) in
       let q : leb (topOf (d .notes) j + m) (endOf (d .notes) j) ≡ false = test ∙ lt-leb (topOf (r .table) j + m) (endOf (r .table) j) wants in
-      rw (q, T.takes-none s S g r d M (linked-none links))
+      rw (q, T.takes-none s S g r d M (first-none L e))
 
   -- ---- a page is taken
   module _ (k : ℕ) (ks : List ℕ) (free : g .free ≡ k ∷ ks) where

@@ -1,7 +1,7 @@
 -- A page taken at work and in the plain run: the same page, with link 0 in both. At work its origin word keeps its free link, which is the one that
 -- it had at the start, since the free list is what is left of that list.
 use Prim.Native.Nat.{ℕ, suc, _+_, _-_, _*_, _^_, _≤_, _<_}
-use native.Mathlib.Nat.{mul-le-mul-left, mod-eq-of-lt}
+use native.Mathlib.Nat.{mod-eq-of-lt}
 use native.Mathlib.Numerals.{sub-one}
 use native.Mathlib.Omega.{arith}
 use native.Mathlib.Decide.{ℕ-discrete}
@@ -17,7 +17,8 @@ use Rattle.laws.proofs.Lists.{starts-differ, second-none}
 use Rattle.laws.proofs.Once.{Linked, linked-first, linked-none, in-snoc}
 use Rattle.rules.specs.Memory.{Store, pageCount, link}
 use Rattle.rules.specs.Pages.{Run}
-use Rattle.facts.proofs.Laid.{Owner, spare, mine, Layout, upd, upd-same, upd-other, spare≢mine, spare≢beyond, page-in, free-few, free-known}
+use Rattle.rules.proofs.Limits.{pages-few}
+use Rattle.facts.proofs.Laid.{Owner, spare, mine, Layout, upd, upd-same, upd-other, spare≢mine, spare≢beyond, page-in, free-few, free-known, first-spare, first-is}
 use Rattle.facts.proofs.Sound.{Sound}
 use Rattle.working.proofs.Taken as T
 use Rattle.working.proofs.Invariant.{Ghost}
@@ -49,12 +50,11 @@ module _ (s : Store) (S : Sound s) where
   abbrev P : ℕ
   P = 2 ^ n
 
-  pub few-pages : N ≤ 4096
-  few-pages =
-      let a = S .laid .size in
-      let b = S .within .paged .size in
-      let c = mul-le-mul-left N (S .laid .big) in
-      omega arith
+  pub few-pages : N ≤ 65536
+  few-pages = pages-few n (length (s .heap)) N (S .within .paged) refl
+
+  pub heap-small : N * P ≤ 65536
+  heap-small = let a = S .laid .size in let b = S .within .paged .size in omega arith
 
   -- a page of the heap
   pub start-is : (k : ℕ) → k < N → pageStart n k ≡ k * P
@@ -65,16 +65,13 @@ module _ (s : Store) (S : Sound s) where
   module _ (g : Ghost) (r : Run) (d : Desk) (M : Matching s S g r d) (R : ℕ) (fin : ℕ → ℕ) (pages : ℕ → List ℕ) (k : ℕ) (ks : List ℕ) (free : g .free ≡ k ∷ ks)
       (L : Layout n N R (g .own) fin pages (k ∷ ks) r) (j : ℕ) where
     own-k : g .own k ≡ spare
-    own-k = L .free-own k (List·Memᴰ·head refl)
+    own-k = first-spare L
 
     k-known : k < N
     k-known = free-known L k (List·Memᴰ·head refl)
 
     k-in : k * P + P ≤ length (r .heap)
     k-in = page-in L k (spare≢beyond own-k)
-
-    first-is : r .first ≡ suc k
-    first-is = linked-first (L .free-links) .0
 
     front : S .free ≡ M .took ++ k ∷ ks
     front = M .front ∙ ap (λ xs. M .took ++ xs) free
@@ -93,7 +90,7 @@ module _ (s : Store) (S : Sound s) where
     pub takes : takeFree n d ≡ after (suc k) d′
     unfolding takeOn takeAt
     takes =
-        let e : at (d .notes) freeFirst ≡ suc k = M .free-first ∙ first-is in
+        let e : at (d .notes) freeFirst ≡ suc k = M .free-first ∙ first-is L refl in
         let b = start-is k k-known in
         rw (e, takeOn, ne-eqb (suc k) 0 (omega arith), sub-one (suc k), b)
 

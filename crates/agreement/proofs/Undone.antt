@@ -1,21 +1,22 @@
 -- A collection that lacks a page is undone: the headers are put back, and each taken page, in the order of taking, is cleared and gets its
 -- link of before, which its origin has kept. No page is still free. So the heap is as it was.
 use Prim.Native.Nat.{ℕ, _+_, _*_, _/_, _^_, _≤_, _<_}
-use native.Mathlib.Nat.{div-add-mod', mod-lt, div-lt-iff-lt-mul}
+use native.Mathlib.Nat.{le-refl, div-add-mod', mod-lt}
 use native.Mathlib.Omega.{arith}
 use native.Mathlib.Decide.{ℕ-discrete}
 use mathlib.Core.Path.{_≡_, refl, sym, ap, _∙_, subst}
-use mathlib.Core.Logic.{_≢_, _⊎_, inl, inr}
-use mathlib.Core.List.{List, [], _∷_, _++_, List·Memᴰ, List·Memᴰ·head, List·Memᴰ·tail, List·Memᴰ·cases-cons, List·Memᴰ·not-nil, Memᴰ·append-left}
+use mathlib.Core.Logic.{_≢_}
+use mathlib.Core.List.{List, [], _∷_, _++_, List·Memᴰ, List·Memᴰ·head, List·Memᴰ·tail, List·Memᴰ·not-nil, Memᴰ·append-left}
 use lib.ListN.{length, set, length-set}
-use lib.Seq.{getD-set-same, getD-set-other, ext-getD}
-use Rattle.laws.proofs.Lists.{one-part}
+use lib.Seq.{ext-getD}
+use Rattle.laws.proofs.Lists.{set-elsewhere}
 use Rattle.laws.specs.Lists.{at}
-use Rattle.laws.proofs.Once.{Once, once-none, once-more, once-tail, once-head, Linked}
+use Rattle.laws.proofs.Once.{Once, once-none, once-more, once-tail, once-head, in-tail, Linked}
 use Rattle.rules.specs.declared.Refusal.{Refusal}
 use Rattle.rules.specs.Memory.{Store, pageCount, link, origin}
 use Rattle.rules.specs.Refusals.{refused}
 use Rattle.rules.specs.Pages.{clearPage}
+use Rattle.rules.proofs.Limits.{page-known}
 use Rattle.facts.proofs.Laid.{old≢mine, spare≢beyond, Owner, old, spare, beyond, mine}
 use Rattle.facts.proofs.Sound.{Sound}
 use Rattle.facts.proofs.Goods.{page-ends}
@@ -23,9 +24,10 @@ use Rattle.working.proofs.Invariant.{Ghost}
 use Rattle.motion.specs.Leaves.{Desk, taken}
 use Rattle.motion.specs.Whole.{undoHeaders, relink, relinkAll, undo, lacking}
 use Rattle.agreement.proofs.Matching.{Matching}
+use Rattle.agreement.proofs.Frames.{set-as}
 use Rattle.agreement.proofs.Stuck.{Stuck}
 use Rattle.facts.proofs.Cleared.{clear-length, clear-else, clear-in}
-use Rattle.agreement.proofs.Walked.{along-front}
+use Rattle.agreement.proofs.Walked.{along-keep}
 use Rattle.agreement.proofs.Restored.{headers-back, old-back}
 
 once-front : (ks ms : List ℕ) → Once (ks ++ ms) → Once ks
@@ -98,24 +100,19 @@ module _ (s : Store) (S : Sound s) (d : Desk) (A : Stuck s S d) where
       else-same : (l x : ℕ) → l ≢ k → l * P ≤ x → x < l * P + P → at (set h₂ (k * P) w) x ≡ at h x
       else-same l x ne p q =
           let c = S .laid .big in
-          getD-set-other h₂ (k * P) x w 0 (λ e. one-part (2 ^ n) l k x ne p q (omega arith) (omega arith)) ∙ clear-else n h k k-in l x ne p q
+          set-elsewhere (2 ^ n) h₂ k (k * P) w l x (le-refl _) (omega arith) ne p q ∙ clear-else n h k k-in l x ne p q
 
-      in-page : (x : ℕ) → k * P ≤ x → x < k * P + P → Dec (x ≡ k * P) → at (set h₂ (k * P) w) x ≡ at (s .heap) x
-      in-page x p q (yes e) =
+      in-page : (x : ℕ) → k * P ≤ x → x < k * P + P → at (set h₂ (k * P) w) x ≡ at (s .heap) x
+      in-page x p q =
           let c = clear-length n h k k-in in
           let a = k-in in
           let b = S .laid .big in
-          rw e (getD-set-same h₂ (k * P) w 0 (omega arith) ∙ L .kept k (List·Memᴰ·head refl))
-      in-page x p q (no ne) =
-          getD-set-other h₂ (k * P) x w 0 ne ∙ clear-in n h k k-in x p q ∙ sym (S .laid .free-clean k own-k .rest x (omega arith) q)
+          set-as (s .heap) h₂ (k * P) w x (omega arith) (L .kept k (List·Memᴰ·head refl))
+          (λ ne. clear-in n h k k-in x p q ∙ sym (S .laid .free-clean k own-k .rest x (omega arith) q))
 
       back : (l x : ℕ) → l < N → (List·Memᴰ l ks → ⊥) → l * P ≤ x → x < l * P + P → Dec (l ≡ k) → at (set h₂ (k * P) w) x ≡ at (s .heap) x
-      back l x b ne p q (yes e) = let v : l * P ≡ k * P = ap (λ y. y * P) e in in-page x (omega arith) (omega arith) (ℕ-discrete x (k * P))
-      back l x b ne p q (no f) = else-same l x f p q ∙ L .back l x b (λ m. go (List·Memᴰ·cases-cons m)) p q
-        where
-          go : (l ≡ k) ⊎ List·Memᴰ l ks → ⊥
-          go (inl e) = f e
-          go (inr m) = ne m
+      back l x b ne p q (yes e) = let v : l * P ≡ k * P = ap (λ y. y * P) e in in-page x (omega arith) (omega arith)
+      back l x b ne p q (no f) = else-same l x f p q ∙ L .back l x b (λ m. ne (in-tail f m)) p q
 
       kept : (l : ℕ) → List·Memᴰ l ks → at (set h₂ (k * P) w) (l * P + 1) ≡ at (s .heap) (l * P)
       kept l m =
@@ -146,9 +143,9 @@ module _ (s : Store) (S : Sound s) (d : Desk) (A : Stuck s S d) where
 
   end : Linking [] (relinkAll n (length (M .took)) N (s .ctl .first) h₁)
   end =
-      along-front N (origin n) (relink n) (link n (s .heap)) Linking turn (M .took) (g .free) (s .ctl .first) h₁
+      along-keep N (origin n) (relink n) (link n (s .heap)) Linking turn (length (M .took)) (M .took) (g .free) (s .ctl .first) h₁
       (subst (λ ks. Linked (link n (s .heap)) (s .ctl .first) ks) (M .front) (S .laid .free-links))
-      (λ k m. S .laid .known k (spare≢beyond (was-free k m))) begin
+      (λ k m. S .laid .known k (spare≢beyond (was-free k m))) (le-refl _) (λ q. absurd (omega arith)) begin
 
   pub undo-back : undo n (at (d .notes) taken) N R (s .ctl .first) (s .table) (d .heap) ≡ s .heap
   undo-back =
@@ -156,14 +153,10 @@ module _ (s : Store) (S : Sound s) (d : Desk) (A : Stuck s S d) where
       (ext-getD 0 _ _ (end .size)
       (λ x b.
       let c = S .laid .big in
-      let e = S .laid .size in
       let f = end .size in
-      let b′ : x < length (s .heap) = omega arith in
-      let pos : 0 < P = omega arith in
-      let k-in : x / P < N = div-lt-iff-lt-mul {k = P} pos .1 (omega arith) in
       let u = div-add-mod' x P in
-      let v = mod-lt x {m = P} pos in
-      end .back (x / P) x k-in (λ m. List·Memᴰ·not-nil m) (omega arith) (omega arith)))
+      let v = mod-lt x {m = P} (omega arith) in
+      end .back (x / P) x (page-known n (length (s .heap)) x (S .within .paged) (omega arith)) (λ m. List·Memᴰ·not-nil m) (omega arith) (omega arith)))
 
 pub lacking-is : (s : Store) (S : Sound s) (d : Desk) → Stuck s S d → lacking s (pageCount (s .ctl .n) (s .heap)) d ≡ refused s Refusal.NoPage
 unfolding lacking

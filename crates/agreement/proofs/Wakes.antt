@@ -2,10 +2,10 @@
 -- there twice, so there is room for it.
 use Prim.Native.Nat.{ℕ, zero, suc, _+_, _*_, _≤_, _<_}
 use native.Mathlib.Omega.{arith}
-use mathlib.Core.Path.{_≡_, refl, ap, _∙_}
+use mathlib.Core.Path.{_≡_, refl, _∙_}
 use mathlib.Core.Logic.{_≢_}
 use mathlib.Core.List.{List, [], _∷_, List·Memᴰ}
-use lib.ListN.{length, set, length-set}
+use lib.ListN.{length, set, length-set, length-map}
 use lib.Seq.{getD-set-same, getD-set-other}
 use borrow.Author.Tests.{eq-eqb, ne-eqb}
 use Rattle.laws.specs.Lists.{at}
@@ -19,15 +19,11 @@ use Rattle.working.proofs.Waking.{of-regions}
 use Rattle.motion.specs.Leaves as W
 use Rattle.motion.specs.Leaves.{Desk, desk, low, entry, depth, wakeOn}
 use Rattle.agreement.proofs.Matching.{Matching, above}
-use Rattle.agreement.proofs.Frames.{noted-below, row-on, status-same}
+use Rattle.agreement.proofs.Frames.{noted-below, notes-on, row-on, status-same}
 use Rattle.agreement.proofs.Took.{low-is}
 
-regions-length : (ts : List Scan) → length (regionsOf ts) ≡ length ts
-regions-length [] = refl
-regions-length (t ∷ ts) = ap suc (regions-length ts)
-
 pub stack-few : (s : Store) (S : Sound s) (g : Ghost) (r : Run) → Inv s S g r → length (r .stack) ≤ 64
-stack-few s S g r I = let a = once-most (s .ctl .regions) inside (I .pending .once) in let b = S .regions in omega (arith, regions-length (r .stack))
+stack-few s S g r I = let a = once-most (s .ctl .regions) inside (I .pending .once) in let b = S .regions in omega (arith, length-map (r .stack) (λ (t : Scan). t .region))
   where
     inside : (j : ℕ) → List·Memᴰ j (regionsOf (r .stack)) → j < s .ctl .regions
     inside j m = let t = of-regions (r .stack) m in rw (t .2) (I .pending .stacked (t .0) (t .1) .known)
@@ -73,28 +69,13 @@ module _ (s : Store) (S : Sound s) (g : Ghost) (r : Run) (d : Desk) (M : Matchin
       let b′ = len₂ in
       let c′ = len₃ in
       let regions = S .regions in
-      record {
-        heap-length = M₁ .heap-length;
-        notes-length = length-set t₃ depth (suc i) ∙ len₃;
-        words = M₁ .words;
-        took = M₁ .took;
-        front = M₁ .front;
-        owned = M₁ .owned;
-        kept-link = M₁ .kept-link;
-        rows = λ k c kR c4. else (4 * k + c) (omega arith) (omega arith) (omega arith) ∙ M₁ .rows k c kR c4;
-        free-first = else _ (omega arith) (omega arith) (omega arith) ∙ M₁ .free-first;
-        taken-count = else _ (omega arith) (omega arith) (omega arith) ∙ M₁ .taken-count;
-        free-last = else _ (omega arith) (omega arith) (omega arith) ∙ M₁ .free-last;
-        given-none = else _ (omega arith) (omega arith) (omega arith) ∙ M₁ .given-none;
-        shallow = omega arith;
-        deep = getD-set-same t₃ depth (suc i) 0 (omega arith);
-        noted =
-            above
-            (getD-set-other t₃ depth (entry i) (suc i) 0 (omega arith) ∙ getD-set-other t₂ (entry i + 1) (entry i) j 0 (omega arith)
-            ∙ getD-set-same t₁ (entry i) b 0 (omega arith))
-            (getD-set-other t₃ depth (entry i + 1) (suc i) 0 (omega arith) ∙ getD-set-same t₂ (entry i + 1) j 0 (omega arith))
-            (noted-below (M₁ .noted) (λ x p q. else x (omega arith) (omega arith) (omega arith)));
-      }
+      notes-on s S g (withTable r (setStatus (r .table) j 1)) (desk (d .heap) t₁) M₁ (setStatus (r .table) j 1) (record { region = j; address = b } ∷ r .stack) t₄ (length-set t₃ depth (suc i) ∙ len₃)
+      (λ k c kR c4. else (4 * k + c) (omega arith) (omega arith) (omega arith) ∙ M₁ .rows k c kR c4) (omega arith) (getD-set-same t₃ depth (suc i) 0 (omega arith))
+      (above
+      (getD-set-other t₃ depth (entry i) (suc i) 0 (omega arith) ∙ getD-set-other t₂ (entry i + 1) (entry i) j 0 (omega arith) ∙ getD-set-same t₁ (entry i) b 0 (omega arith))
+      (getD-set-other t₃ depth (entry i + 1) (suc i) 0 (omega arith) ∙ getD-set-same t₂ (entry i + 1) j 0 (omega arith))
+      (noted-below (M₁ .noted) (λ x p q. else x (omega arith) (omega arith) (omega arith))))
+      (λ x p. else x (omega arith) (omega arith) (omega arith))
 
   is-pushed : i < 64 → statusOf (d .notes) j ≡ 0 → W.wake j b (d .notes) ≡ t₄
   unfolding wakeOn

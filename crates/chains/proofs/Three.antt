@@ -1,13 +1,13 @@
 -- Rule 3 from what the two walks answer: its walked form tests the regions first, then the free list, and the sums last.
 use Prim.Native.Nat.{ℕ, _+_, _/_, _^_, _≤_}
-use mathlib.Core.Path.{_≡_, refl, sym, _∙_}
+use mathlib.Core.Path.{_≡_, sym, _∙_}
 use mathlib.Core.Bool.{Bool, true, false, _&&_, false≢true}
 use mathlib.Core.List.{List}
 use native.Mathlib.Omega.{arith}
 use lib.Dec.{eqb}
 use lib.ListN.{length}
-use Rattle.laws.specs.Choice.{_⇒_∣_}
 use Rattle.laws.specs.Lists.{allBelow}
+use Rattle.laws.proofs.Choices.{first-chosen, second-chosen}
 use Rattle.rules.specs.declared.Control.{Control}
 use Rattle.rules.specs.Memory.{lent, freePages, pagesFrom}
 use Rattle.rules.specs.Audit.{endsWell, lastLink, rule3}
@@ -17,23 +17,6 @@ use Rattle.chains.specs.declared.Chained.{Chained}
 use Rattle.chains.specs.declared.Listed.{Listed}
 use Rattle.chains.proofs.Turns.{pages-short, free-short}
 use Rattle.chains.specs.Walked.{bear, regionChained, regionsChained, freeListed}
-
--- what an answer says of the test behind it
-chained-yes : (b : Bool) (x y : ℕ) → Chained.Pages x ≡ (b ⇒ Chained.Pages y ∣ Chained.Broken) → (b ≡ true) × (x ≡ y)
-chained-yes true x y e = (refl, cc)
-chained-yes false x y e = absurd (false≢true cc)
-
-chained-no : (b : Bool) (y : ℕ) → Chained.Broken ≡ (b ⇒ Chained.Pages y ∣ Chained.Broken) → b ≡ false
-chained-no true y e = absurd (false≢true cc)
-chained-no false y e = refl
-
-listed-yes : (b : Bool) (x l y m : ℕ) → Listed.Pages x l ≡ (b ⇒ Listed.Pages y m ∣ Listed.Broken) → (b ≡ true) × (x ≡ y) × (l ≡ m)
-listed-yes true x l y m e = (refl, cc, cc)
-listed-yes false x l y m e = absurd (false≢true cc)
-
-listed-no : (b : Bool) (y m : ℕ) → Listed.Broken ≡ (b ⇒ Listed.Pages y m ∣ Listed.Broken) → b ≡ false
-listed-no true y m e = absurd (false≢true cc)
-listed-no false y m e = refl
 
 module _ (h t r k : List ℕ) (c : Control) where
   abbrev n : ℕ
@@ -56,30 +39,32 @@ module _ (h t r k : List ℕ) (c : Control) where
   -- the regions are broken
   pub three-chained : (a : Chained) → a ≡ regionsChained n h t (c .regions) → a ≡ Chained.Broken → rule3 (lent h t r k c) ≡ false
   unfolding regionsChained
-  three-chained a e q = walked ∙ rw (chained-no regions (length (pagesFrom n h t (c .regions) 0)) (sym q ∙ e))
+  three-chained a e q = walked ∙ rw (second-chosen regions (sym q ∙ e) (λ z. false≢true cc) .0)
 
   module _ (a : Chained) (x : ℕ) (e : a ≡ regionsChained n h t (c .regions)) (q : a ≡ Chained.Pages x) (b : Listed) (f : b ≡ freeListed n h (c .first)) where
     fine : (regions ≡ true) × (x ≡ length (pagesFrom n h t (c .regions) 0))
     unfolding regionsChained
-    fine = chained-yes regions x (length (pagesFrom n h t (c .regions) 0)) (sym q ∙ e)
+    fine = let (t, same) = first-chosen regions (sym q ∙ e) (λ z. false≢true cc) in (t, cc)
 
     -- the free list is broken
     pub three-listed : b ≡ Listed.Broken → rule3 (lent h t r k c) ≡ false
     unfolding freeListed
-    three-listed p = walked ∙ rw (fine .0, listed-no listed (length free) (lastLink free) (sym p ∙ f))
+    three-listed p = walked ∙ rw (fine .0, second-chosen listed (sym p ∙ f) (λ z. false≢true cc) .0)
 
     -- neither is: the sums decide
     module _ (y l : ℕ) (p : b ≡ Listed.Pages y l) where
-      pub three-sums : rule3 (lent h t r k c) ≡ (eqb (c .last) l && (eqb (c .count) y && eqb (x + y) (length h / 2 ^ n)))
+      told : (listed ≡ true) × (y ≡ length free) × (l ≡ lastLink free)
       unfolding freeListed
-      three-sums = let g = listed-yes listed y l (length free) (lastLink free) (sym p ∙ f) in walked ∙ rw (fine .0, g .0, ← fine .1, ← g .1, ← g .2)
+      told = let (t, same) = first-chosen listed (sym p ∙ f) (λ z. false≢true cc) in (t, cc, cc)
+
+      pub three-sums : rule3 (lent h t r k c) ≡ (eqb (c .last) l && (eqb (c .count) y && eqb (x + y) (length h / 2 ^ n)))
+      three-sums = walked ∙ rw (fine .0, told .0, ← fine .1, ← told .1, ← told .2)
 
       -- they are small
       pub sums-fit : Paged n (length h) → c .regions ≤ 64 → x + y ≤ 4259840
-      unfolding freeListed
       sums-fit g m =
           let held = fine .1 in
-          let left = listed-yes listed y l (length free) (lastLink free) (sym p ∙ f) .1 in
+          let left = told .1 in
           let a = pages-short n h t (c .regions) 0 g in
           let b = free-short n h (c .first) g in
           omega arith

@@ -2,7 +2,7 @@
 -- the pages that are left are one fewer. Each follows the definition's own turn.
 use Prim.Native.Nat.{ℕ, zero, suc, _+_, _-_, _*_, _/_, _%_, _^_, _≤_, _<_}
 use mathlib.Core.Path.{_≡_, refl, ap, _∙_}
-use mathlib.Core.Bool.{Bool, true, false, _&&_}
+use mathlib.Core.Bool.{Bool, true, false, _&&_, and-true, and-assoc}
 use mathlib.Core.List.{List, [], _∷_}
 use native.Mathlib.Omega.{arith}
 use native.Mathlib.Numerals.{sub-one, add-one}
@@ -10,7 +10,7 @@ use borrow.Author.Tests.{eq-eqb, ne-eqb}
 use lib.Dec.{ltb, eqb}
 use lib.ListN.{length, getD, length-append}
 use Rattle.laws.specs.Lists.{allFrom, allBelow, lastOr}
-use Rattle.laws.proofs.Tests.{and-yes, and-assoc, from-go, from-stop}
+use Rattle.laws.proofs.Tests.{from-go, from-stop}
 use Rattle.rules.specs.Memory.{addressPage, link, origin, firstOf, firstLink, chain, chainEnd, regionPages, freePages, pagesFrom}
 use Rattle.rules.specs.Audit.{opens, endsWell, lastLink}
 use Rattle.rules.specs.Refusals.{Paged}
@@ -92,19 +92,18 @@ chain-short (suc f) n h (suc k) = go (ltb k (length h / 2 ^ n)) refl (chain-shor
     go true e r = rw (chain, e) (omega arith)
     go false e r = rw (chain, e) (omega arith)
 
-pub pages-short : (n : ℕ) (h t : List ℕ) (m j : ℕ) → Paged n (length h) → length (pagesFrom n h t m j) ≤ 65536 * m
-unfolding pagesFrom regionPages
-pages-short n h t zero j g = omega arith
-pages-short n h t (suc m) j g =
-    let r = pages-short n h t m (suc j) g in
-    let s = chain-short (length h / 2 ^ n) n h (firstLink n t j) in
-    let q = length-append (regionPages n h t j) (pagesFrom n h t m (suc j)) in
-    let b = pages-few n (length h) (length h / 2 ^ n) g refl in
-    omega arith
-
 pub free-short : (n : ℕ) (h : List ℕ) (first : ℕ) → Paged n (length h) → length (freePages n h first) ≤ 65536
 unfolding freePages
 free-short n h first g = let s = chain-short (length h / 2 ^ n) n h first in let b = pages-few n (length h) (length h / 2 ^ n) g refl in omega arith
+
+pub pages-short : (n : ℕ) (h t : List ℕ) (m j : ℕ) → Paged n (length h) → length (pagesFrom n h t m j) ≤ 65536 * m
+unfolding pagesFrom regionPages freePages
+pages-short n h t zero j g = omega arith
+pages-short n h t (suc m) j g =
+    let r = pages-short n h t m (suc j) g in
+    let s = free-short n h (firstLink n t j) g in
+    let q = length-append (regionPages n h t j) (pagesFrom n h t m (suc j)) in
+    omega arith
 
 pub length-none : (n : ℕ) (h t : List ℕ) (m j : ℕ) → m ≤ 0 → length (pagesFrom n h t m j) ≡ 0
 unfolding pagesFrom
@@ -163,7 +162,7 @@ module _ (n N : ℕ) (h : List ℕ) (e : N ≡ length h / 2 ^ n) (f k l : ℕ) w
 module _ (n N : ℕ) (h : List ℕ) (e : N ≡ length h / 2 ^ n) (first : ℕ) where
   pub list-open : (bear n h 0 (chain N n h first) && (eqb (chainEnd N n h first) 0 && true)) ≡ (bear n h 0 (freePages n h first) && endsWell n h first)
   unfolding freePages endsWell
-  list-open = rw e (ap (λ x. bear n h 0 (chain (length h / 2 ^ n) n h first) && x) (and-yes _))
+  list-open = rw e (ap (λ x. bear n h 0 (chain (length h / 2 ^ n) n h first) && x) (and-true _))
 
   pub list-length : 0 + (length (chain N n h first) + 0) ≡ length (freePages n h first)
   unfolding freePages

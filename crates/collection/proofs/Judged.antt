@@ -9,9 +9,8 @@ use Rattle.rules.specs.Refusals.{refused}
 use Rattle.rules.specs.Calls.{audit}
 use Rattle.rules.specs.Collection.{collected, collect}
 use Rattle.rules.proofs.Judged.{judged-refuse}
-use Rattle.facts.proofs.Sound.{Sound}
-use Rattle.facts.proofs.Passing.{meaning}
-use Rattle.facts.proofs.Judged.{judged-passes, passed}
+use Rattle.facts.proofs.Passing.{judged-sound}
+use Rattle.facts.proofs.Judged.{judged-collects}
 use Rattle.motion.specs.Whole.{workingCollect}
 use Rattle.agreement.proofs.Agrees.{agrees}
 
@@ -19,10 +18,6 @@ pub judged-broken : (s : Store) (why : Refusal) (c : Control) → Plain.Refused 
 unfolding collect
 judged-broken s why c e = judged-refuse (refused s) (collected s) s e
 
-pub judged-sound : (s : Store) (c : Control) → Plain.Done c ≡ audit s → Sound s
-judged-sound s c e = meaning s .0 (judged-passes s c e)
-
 -- what the collection at work leaves is what the call leaves
 pub judged-passing : (s : Store) (c : Control) → Plain.Done c ≡ audit s → workingCollect s ≡ collect s
-unfolding collect
-judged-passing s c e = agrees s (judged-sound s c e) ∙ sym (passed s (judged-passes s c e) (refused s) (collected s))
+judged-passing s c e = agrees s (judged-sound s c e) ∙ sym (judged-collects s c e)

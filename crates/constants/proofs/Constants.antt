@@ -1,17 +1,16 @@
 -- Rule 8 by its parts: the constants from their first word to their last, a field by its remainder, and the two tests.
 use Prim.Native.Nat.{ℕ, _/_, _%_}
 use mathlib.Core.Path.{_≡_}
-use mathlib.Core.Bool.{Bool, true, false, _&&_}
+use mathlib.Core.Bool.{Bool, true, false, _&&_, and-true}
 use mathlib.Core.List.{List}
 use lib.ListN.{length}
 use lib.Seq.{take-length}
 use Rattle.laws.specs.Lists.{all}
-use Rattle.laws.proofs.Tests.{and-yes}
 use Rattle.rules.specs.declared.Control.{Control}
 use Rattle.rules.specs.Memory.{lent}
-use Rattle.rules.specs.Words.{wordOf, valsIn, constVals, fieldsPass, goodConst}
+use Rattle.rules.specs.Words.{valsIn, constVals, fieldsPass, goodConst}
 use Rattle.rules.specs.Audit.{filled, constField, rule8}
-use Rattle.rules.proofs.Pointers.{number-word}
+use Rattle.rules.proofs.Pointers.{heap-word, const-word, number-word}
 use Rattle.contents.proofs.Turns.{Zeros}
 
 -- the constants, over code that has their first address as a and the one just past them as e
@@ -22,16 +21,16 @@ module _ (h : List ℕ) (a e : ℕ) (qa : a ≡ 0) (qe : e ≡ length h) where
 
   pub consts-all : (p : ℕ → Bool) → (all (fieldsPass p) (valsIn h a e) && true) ≡ all (fieldsPass p) (constVals h)
   unfolding valsIn
-  consts-all p = rw (qa, qe, take-length h) (and-yes _)
+  consts-all p = rw (qa, qe, take-length h) (and-true _)
 
 module _ (k : List ℕ) (w : ℕ) where
   pub field-heap : w % 4 ≡ 0 → constField k w ≡ false
-  unfolding constField wordOf
-  field-heap e = rw (constField, e)
+  unfolding constField
+  field-heap m = rw (heap-word w m, constField)
 
   pub field-const : w % 4 ≡ 2 → constField k w ≡ goodConst k (w / 4)
-  unfolding constField wordOf
-  field-const e = rw (constField, e)
+  unfolding constField
+  field-const m = rw (const-word w m, constField)
 
   pub field-number : (w % 4 ≡ 0 → ⊥) → (w % 4 ≡ 2 → ⊥) → constField k w ≡ true
   unfolding constField

@@ -1,7 +1,7 @@
 -- The turn laws of rule 5, and of values and then zeros anywhere: at each region, page and value, what is left to test is what was left before.
 use Prim.Native.Nat.{ℕ, suc, _+_, _-_, _*_, _/_, _^_, _≤_, _<_}
 use mathlib.Core.Path.{_≡_, sym, ap, _∙_}
-use mathlib.Core.Bool.{Bool, true, false, _&&_}
+use mathlib.Core.Bool.{Bool, true, false, _&&_, and-assoc}
 use mathlib.Core.List.{List, []}
 use native.Mathlib.Omega.{arith}
 use native.Mathlib.Nat.{add-zero}
@@ -10,12 +10,11 @@ use lib.Dec.{eqb}
 use lib.ListN.{length, drop, take, getD}
 use lib.Seq.{slice, length-slice, drop-drop}
 use Rattle.laws.specs.Lists.{all, zeros}
-use Rattle.laws.proofs.Tests.{and-assoc}
 use Rattle.rules.specs.Memory.{link, pageWords, topOf, chain}
 use Rattle.rules.specs.Words.{fits, valsIn, pageVals, usedOf}
 use Rattle.rules.specs.Audit.{ifLast, filled, pageFilled}
 use Rattle.rules.proofs.Headers.{fit-of}
-use Rattle.rules.proofs.Stepping.{vals-none, vals-stop, vals-step}
+use Rattle.rules.proofs.Stepping.{vals-step}
 use Rattle.rules.proofs.Chains.{page-part}
 use Rattle.rules.proofs.Nests.{pages-go, last-not, last-is}
 
@@ -30,15 +29,9 @@ abbrev pub Rest : List ℕ → ℕ → ℕ → ℕ → ℕ → Bool → Bool
 Rest h a e x t r = Zeros h a e && (ifLast x (eqb (a + usedOf (valsIn h a e)) t) && r)
 
 module _ (h : List ℕ) (a e : ℕ) where
-  zeros-over : valsIn h a e ≡ [] → Zeros h a e ≡ zeros (slice a e h)
+  pub zeros-over : valsIn h a e ≡ [] → Zeros h a e ≡ zeros (slice a e h)
   unfolding usedOf
   zeros-over q = rw q
-
-  pub zeros-at-end : e ≤ a → Zeros h a e ≡ zeros (slice a e h)
-  zeros-at-end b = zeros-over (vals-none h a e b)
-
-  pub zeros-at-stop : a < e → e ≤ length h → fits (getD h a 0) (e - (a + 1)) ≡ false → Zeros h a e ≡ zeros (slice a e h)
-  zeros-at-stop b c f = zeros-over (vals-stop h a e b c f)
 
   module _ (b : a < e) (c : e ≤ length h) (f : fits (getD h a 0) (e - (a + 1)) ≡ true) where
     abbrev l : ℕ
@@ -66,23 +59,16 @@ module _ (h : List ℕ) (a e : ℕ) where
     end-step = let q = used-turn in omega arith
 
 module _ (h : List ℕ) (a e x t : ℕ) (r : Bool) where
-  rest-over : valsIn h a e ≡ [] → Rest h a e x t r ≡ (zeros (slice a e h) && (ifLast x (eqb a t) && r))
+  pub rest-over : valsIn h a e ≡ [] → Rest h a e x t r ≡ (zeros (slice a e h) && (ifLast x (eqb a t) && r))
   unfolding usedOf
   rest-over q = rw (q, add-zero)
 
-  pub rest-end : e ≤ a → Rest h a e x t r ≡ (zeros (slice a e h) && (ifLast x (eqb a t) && r))
-  rest-end b = rest-over (vals-none h a e b)
-
-  module _ (b : a < e) (c : e ≤ length h) where
-    -- over code that has m for the words behind the header, and the next value's address as d
-    pub rest-stop : (m : ℕ) → fits (getD h a 0) m ≡ false → m ≡ e - (a + 1) → Rest h a e x t r ≡ (zeros (slice a e h) && (ifLast x (eqb a t) && r))
-    rest-stop m f q = rest-over (vals-stop h a e b c (rw q at f))
-
-    pub rest-go : (m : ℕ) → fits (getD h a 0) m ≡ true → m ≡ e - (a + 1) → (d : ℕ) → d ≡ a + (1 + getD h a 0 / 8) → Rest h a e x t r ≡ Rest h d e x t r
-    rest-go m f q d p =
-        let g : fits (getD h a 0) (e - (a + 1)) ≡ true = rw q at f in
-        let s : d ≡ a + 1 + getD h a 0 / 8 = omega arith in
-        rw (zeros-step h a e b c g d p, end-step h a e b c g, ← s)
+  -- over code that has m for the words behind the header, and the next value's address as d
+  pub rest-go : a < e → e ≤ length h → (m : ℕ) → fits (getD h a 0) m ≡ true → m ≡ e - (a + 1) → (d : ℕ) → d ≡ a + (1 + getD h a 0 / 8) → Rest h a e x t r ≡ Rest h d e x t r
+  rest-go b c m f q d p =
+      let g : fits (getD h a 0) (e - (a + 1)) ≡ true = rw q at f in
+      let s : d ≡ a + 1 + getD h a 0 / 8 = omega arith in
+      rw (zeros-step h a e b c g d p, end-step h a e b c g, ← s)
 
 -- the values are passed and end at address a; what is left of the page, and of the rest r, is the whole w
 pub record Passed (h : List ℕ) (a e x t : ℕ) (r w : Bool) : Type 0 where

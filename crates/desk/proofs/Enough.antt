@@ -7,12 +7,13 @@ use mathlib.Core.Option.{Option, none, some}
 use mathlib.Core.List.{List, [], _∷_, _++_, append-assoc}
 use native.Mathlib.Nat.{zero-mul, suc-mul}
 use native.Mathlib.Omega.{arith}
-use borrow.Author.Tests.{leb-true, eqb-true}
+use borrow.Author.Tests.{leb-true}
 use lib.ListN.{length, take, drop, replicate, take-append-drop}
 use lib.Seq.{take-append-add}
 use Rattle.laws.specs.Lists.{at}
 use Rattle.laws.proofs.Tests.{both}
 use Rattle.rules.specs.Image.{frame, headFits, programFits, partFits, Expected, expected, layout, withFrame, readFrame, readFrames, readText, programOn, collectProgram}
+use Rattle.rules.proofs.FirstFrame.{Limited, limited, program-limited}
 use Rattle.rules.proofs.Frames.{length-frame}
 use Rattle.promises.proofs.ImageDigits.{frame-read, read-framed}
 use Rattle.printing.specs.Printed.{longest}
@@ -79,38 +80,15 @@ unfolding room
 room-pages zero most = let z = zero-mul most in omega arith
 room-pages (suc m) most = let a = room-pages m most in let b = suc-mul m most in omega arith
 
-record Few (head : List ℕ) : Type 0 where
-  eight : length head ≡ 8
-  low : 4 ≤ at head 0
-  regions : at head 2 ≤ 64
-  roots : at head 6 ≤ 1024
-  heap : at head 1 * 2 ^ at head 0 ≤ 4096
-  consts : at head 7 ≤ 1024
-
-few : (head : List ℕ) → programFits head ≡ true → (headFits head ≡ true) × Few head
-unfolding programFits headFits
-few head e =
-    let (e9, k) = both e in
-    let (f, p) = both e9 in
-    let (e7, x) = both f in
-    let (e6, r) = both e7 in
-    let (e5, g) = both e6 in
-    let (e4, s) = both e5 in
-    let (e3, t) = both e4 in
-    let (e2, n8) = both e3 in
-    let (e1, n4) = both e2 in
-    (f, record { eight = eqb-true _ _ e1; low = leb-true _ _ n4; regions = leb-true _ _ g; roots = leb-true _ _ r; heap = leb-true _ _ p; consts = leb-true _ _ k })
-
-room-layout : (head : List ℕ) → Few head → 71 + room (layout head) ≤ longest
+room-layout : (head : List ℕ) → Limited head → at head 1 * 2 ^ at head 0 ≤ 4096 → at head 7 ≤ 1024 → 71 + room (layout head) ≤ longest
 unfolding room layout
-room-layout head f =
+room-layout head l heap consts =
     let m : ℕ = at head 1 in
     let n : ℕ = at head 0 in
     let a = room-pages m (2 ^ n) in
-    let b = pages-room n m (f .low) (f .heap) in
-    let k = f .consts in
-    let r = f .roots in
-    let g = f .regions in
+    let b = pages-room n m (l .low) heap in
+    let r = l .roots in
+    let g = l .regions in
     omega arith
 
 -- ---- the whole text
@@ -126,9 +104,10 @@ enough text = go (readFrame 1 programFits text) refl
     go none q = rw (collectProgram, cut-none 1 programFits (suc longest) text q, q)
     go (some t) q =
         let g = read-framed 1 programFits text (t .0) (t .1) q in
-        let (f, w) = few (t .0) (g .passes) in
+        let (f, p, k) = program-limited (t .0) (g .passes) in
+        let w = limited (t .0) f in
         let e = w .eight in
-        let l = room-layout (t .0) w in
+        let l = room-layout (t .0) w p k in
         let h : readFrame 1 headFits text ≡ some (t .0, t .1) = ap (readFrame 1 headFits) (g .text) ∙ frame-read 1 headFits (t .0) (t .1) (g .kinds) (g .words) f in
         let hc = cut-some 1 headFits (suc longest) text (t .0) (t .1) h (omega arith) in
         let pc = cut-some 1 programFits (suc longest) text (t .0) (t .1) q (omega arith) in

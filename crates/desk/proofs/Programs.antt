@@ -7,7 +7,6 @@ use mathlib.Core.List.{List, [], _∷_}
 use native.Mathlib.Nat.{sub-zero}
 use native.Mathlib.Omega.{arith}
 use borrow.Author.Tests.{leb-true, le-leb, eq-eqb}
-use lib.Dec.{leb}
 use lib.ListN.{length, take, getD}
 use lib.Seq.{length-take-le}
 use Rattle.laws.specs.Lists.{at}
@@ -22,8 +21,9 @@ use Rattle.scanning.specs.Places.{wordsAt, wordsOf, frameShape, frameFits}
 use Rattle.scanning.proofs.Frames.{read-frame}
 use Rattle.reading.specs.declared.Head.{Head}
 use Rattle.reading.specs.Parts.{framesAt, headList, headFrom, judgedAs, lengthsFit}
-use Rattle.reading.proofs.Heads.{headed, head-words, head-fits}
-use Rattle.reading.proofs.Wells.{judged-well, same-lengths}
+use Rattle.rules.proofs.FirstFrame.{limited, program-limited}
+use Rattle.reading.proofs.Heads.{head-words, head-fits}
+use Rattle.reading.proofs.Wells.{judged-well, same-lengths, read-malformed}
 use Rattle.printing.specs.Printed.{collectedFrom}
 use Rattle.desk.specs.Taking.{takesHead}
 
@@ -44,10 +44,6 @@ taken h e =
     let (n, p) = both e1 in
     record { n = leb-true _ _ n; heap = leb-true _ _ p; roots = leb-true _ _ r; consts = leb-true _ _ k }
 
-program-parts : (ws : List ℕ) → programFits ws ≡ true → (headFits ws ≡ true) × (leb (at ws 1 * 2 ^ at ws 0) 4096 ≡ true) × (leb (at ws 7) 1024 ≡ true)
-unfolding programFits
-program-parts ws e = let (e1, k) = both e in let (h, p) = both e1 in (h, p, k)
-
 module _ (text : List ℕ) where
   abbrev first : Head
   first = headFrom (wordsAt 8 text 6)
@@ -57,13 +53,13 @@ module _ (text : List ℕ) where
   unfolding frameFits takesHead
   takes-both f =
       let (shape, fits) = both {a = frameShape 1 text 0} {b = programFits (wordsOf text 0)} f in
-      let (hf, p, k) = program-parts (wordsOf text 0) fits in
+      let (hf, p, k) = program-limited (wordsOf text 0) fits in
       let g : frameFits 1 headFits text 0 ≡ true = rw (frameFits, shape, hf) in
       let w = head-words text first refl g in
-      let l = headed first (head-fits text first refl g) in
-      let hp : leb (first .pages * 2 ^ first .n) 4096 ≡ true = rw w at p in
-      let hk : leb (first .consts) 1024 ≡ true = rw w at k in
-      (g, rw (le-leb (first .n) 8 (l .high), hp, le-leb (first .roots) 1024 (l .roots), hk))
+      let l = limited (headList first) (head-fits text first refl g) in
+      let hp : first .pages * 2 ^ first .n ≤ 4096 = rw w at p in
+      let hk : first .consts ≤ 1024 = rw w at k in
+      (g, rw (le-leb (first .n) 8 (l .high), le-leb (first .pages * 2 ^ first .n) 4096 hp, le-leb (first .roots) 1024 (l .roots), le-leb (first .consts) 1024 hk))
 
   -- and the other way round
   both-takes : frameFits 1 headFits text 0 ≡ true → takesHead first ≡ true → frameFits 1 programFits text 0 ≡ true
@@ -133,20 +129,22 @@ module _ (text heap table roots consts : List ℕ) (fits : lengthsFit (headFrom 
   unfolding readImage readStore
   read-frames fs q = rw (q, read-fits fs q)
 
-  read-fault : (line : ℕ) → readText text ≡ malformed line → readImage text heap table roots consts ≡ outcome (Opened.Refused (Refusal.Malformed line)) heap table roots consts
-  unfolding readImage
-  read-fault line q = rw q
-
   module _ (o : Outcome Opened) (e : o ≡ readImage text heap table roots consts) where
+    answers-done : (fs : List (List ℕ)) → readText text ≡ frames fs → o .answer ≡ Opened.Done (storeOf fs .ctl)
+    answers-done fs q = ap (λ (x : Outcome Opened). x .answer) (e ∙ read-frames fs q)
+
+    answers-refused : (line : ℕ) → readText text ≡ malformed line → o .answer ≡ Opened.Refused (Refusal.Malformed line)
+    answers-refused line q = ap (λ (x : Outcome Opened). x .answer) (e ∙ sym (read-malformed text heap table roots consts line (ap judgedAs q)))
+
     pub read-refused : (why : Refusal) → o .answer ≡ Opened.Refused why → refusalText why ≡ programOn (readText text)
     read-refused why r = go (readText text) refl
       where
         go : (f : Frames) → readText text ≡ f → refusalText why ≡ programOn (readText text)
         go (frames fs) q =
-            let d : Opened.Refused why ≡ Opened.Done (storeOf fs .ctl) = sym r ∙ ap (λ (x : Outcome Opened). x .answer) (e ∙ read-frames fs q) in
+            let d : Opened.Refused why ≡ Opened.Done (storeOf fs .ctl) = sym r ∙ answers-done fs q in
             absurd (false≢true cc)
         go (malformed line) q =
-            let d : Opened.Refused why ≡ Opened.Refused (Refusal.Malformed line) = sym r ∙ ap (λ (x : Outcome Opened). x .answer) (e ∙ read-fault line q) in
+            let d : Opened.Refused why ≡ Opened.Refused (Refusal.Malformed line) = sym r ∙ answers-refused line q in
             let w : why ≡ Refusal.Malformed line = cc in
             rw (q, w)
 
@@ -155,9 +153,9 @@ module _ (text heap table roots consts : List ℕ) (fits : lengthsFit (headFrom 
       where
         go : (f : Frames) → readText text ≡ f → collectedFrom (lent (o .heap) (o .table) (o .roots) (o .consts) c) ≡ programOn (readText text)
         go (frames fs) q =
-            let d : Opened.Done c ≡ Opened.Done (storeOf fs .ctl) = sym r ∙ ap (λ (x : Outcome Opened). x .answer) (e ∙ read-frames fs q) in
+            let d : Opened.Done c ≡ Opened.Done (storeOf fs .ctl) = sym r ∙ answers-done fs q in
             let k : c ≡ storeOf fs .ctl = cc in
             rw (q, k, e ∙ read-frames fs q)
         go (malformed line) q =
-            let d : Opened.Done c ≡ Opened.Refused (Refusal.Malformed line) = sym r ∙ ap (λ (x : Outcome Opened). x .answer) (e ∙ read-fault line q) in
+            let d : Opened.Done c ≡ Opened.Refused (Refusal.Malformed line) = sym r ∙ answers-refused line q in
             absurd (false≢true cc)

@@ -1,15 +1,15 @@
 -- The turn laws of rules 4 and 9: at each region and at each page, what is left to test is what was left before.
 use Prim.Native.Nat.{ℕ, _+_, _-_, _*_, _/_, _^_, _≤_, _<_}
-use mathlib.Core.Path.{_≡_, sym, _∙_}
-use mathlib.Core.Bool.{Bool, true, false, _&&_}
+use mathlib.Core.Path.{_≡_, _∙_}
+use mathlib.Core.Bool.{Bool, true, false, _&&_, and-true, and-comm}
 use mathlib.Core.List.{List}
 use borrow.Author.Tests.{le-leb, lt-leb, eq-eqb, ne-eqb}
 use lib.Dec.{leb, eqb}
 use lib.ListN.{length, getD}
 use lib.Seq.{slice}
 use Rattle.laws.specs.Lists.{all, allFrom, allBelow, zeros}
-use Rattle.laws.proofs.Tests.{and-left, and-right, and-yes, below-in, from-go, from-stop}
-use Rattle.laws.proofs.Facts.{and-of, same-test, below-of}
+use Rattle.laws.proofs.Tests.{from-go, from-stop}
+use Rattle.laws.proofs.Facts.{below-and}
 use Rattle.rules.specs.declared.Control.{Control}
 use Rattle.rules.specs.Memory.{lent, link, endOf, topOf, firstLink, chain, regionPages, freePages}
 use Rattle.rules.specs.Audit.{ifLast, endsAt, topFits, clean, rule4, rule9}
@@ -32,17 +32,11 @@ module _ (n : ℕ) (t : List ℕ) (j e a p : ℕ) (qe : e ≡ endOf t j) (qa : a
 unfoldable pub regionEnds : ℕ → List ℕ → List ℕ → ℕ → Bool
 regionEnds n h t j = topFits n t j && all (endsAt n h t j) (regionPages n h t j)
 
-both-below : (a b : ℕ → Bool) (m : ℕ) → (allBelow a m && allBelow b m) ≡ allBelow (λ j. b j && a j) m
-both-below a b m =
-    same-test (allBelow a m && allBelow b m) (allBelow (λ j. b j && a j) m)
-    (λ t. below-of (λ j. b j && a j) m (λ j l. and-of (below-in b m (and-right (allBelow a m) (allBelow b m) t) j l) (below-in a m (and-left (allBelow a m) (allBelow b m) t) j l)))
-    (λ t.
-    let each = below-in (λ j. b j && a j) m t in
-    and-of (below-of a m (λ j l. and-right (b j) (a j) (each j l))) (below-of b m (λ j l. and-left (b j) (a j) (each j l))))
-
 pub four-each : (h t r k : List ℕ) (c : Control) → allFrom (regionEnds (c .n) h t) (c .regions) 0 ≡ rule4 (lent h t r k c)
 unfolding rule4 regionEnds
-four-each h t r k c = sym (both-below (λ j. all (endsAt (c .n) h t j) (regionPages (c .n) h t j)) (topFits (c .n) t) (c .regions))
+four-each h t r k c =
+    below-and (topFits (c .n) t) (λ j. all (endsAt (c .n) h t j) (regionPages (c .n) h t j)) (c .regions)
+    ∙ and-comm (allBelow (topFits (c .n) t) (c .regions)) _
 
 module _ (n N : ℕ) (h t : List ℕ) (e : N ≡ length h / 2 ^ n) (m j : ℕ) (b : 0 < m) where
   pub four-shut : topFits n t j ≡ false → allFrom (regionEnds n h t) m j ≡ false
@@ -79,7 +73,7 @@ module _ (n N : ℕ) (h t : List ℕ) (e : N ≡ length h / 2 ^ n) (f k j d p : 
 
 pub nine-open : (h t r k : List ℕ) (c : Control) (N : ℕ) → N ≡ length h / 2 ^ c .n → (all (clean (c .n) h) (chain N (c .n) h (c .first)) && true) ≡ rule9 (lent h t r k c)
 unfolding rule9 freePages
-nine-open h t r k c N e = rw e (and-yes _)
+nine-open h t r k c N e = rw e (and-true _)
 
 -- a page whose words from s up to d, all but its link, are tested; p is its size
 module _ (n N : ℕ) (h : List ℕ) (e : N ≡ length h / 2 ^ n) (f k p : ℕ) (qp : p ≡ 2 ^ n) (r : Bool) (b : ℕ) (q : b ≡ (k - 1) * 2 ^ n) (l : 0 < f) (z : k ≡ 0 → ⊥) (c : k ≤ N)

@@ -8,7 +8,7 @@ use mathlib.Core.List.{List}
 use lib.ListN.{length, replicate, length-replicate, getD-replicate}
 use Rattle.laws.specs.Lists.{at}
 use Rattle.laws.proofs.Lists.{put-elsewhere, length-put, at-put-in}
-use Rattle.rules.specs.Memory.{firstOf, firstLink}
+use Rattle.rules.specs.Memory.{link, firstOf, firstLink}
 use Rattle.rules.specs.Pages.{clearPage}
 
 module _ (n : ℕ) (h : List ℕ) (k : ℕ) (inside : k * 2 ^ n + 2 ^ n ≤ length h) where
@@ -28,6 +28,11 @@ module _ (n : ℕ) (h : List ℕ) (k : ℕ) (inside : k * 2 ^ n + 2 ^ n ≤ leng
   pub clear-else : (l x : ℕ) → l ≢ k → l * 2 ^ n ≤ x → x < l * 2 ^ n + 2 ^ n → at (clearPage n h k) x ≡ at h x
   unfolding clearPage
   clear-else l x ne p q = put-elsewhere (2 ^ n) h k (k * 2 ^ n) Z l x fits (le-refl _) (let e = len-Z in omega arith) ne p q
+
+  -- so is its link
+  pub clear-link : 0 < 2 ^ n → (l : ℕ) → l ≢ k → link n (clearPage n h k) l ≡ link n h l
+  unfolding link
+  clear-link p l ne = clear-else l (l * 2 ^ n) ne (le-refl _) (omega arith)
 
   pub clear-in : (x : ℕ) → k * 2 ^ n ≤ x → x < k * 2 ^ n + 2 ^ n → at (clearPage n h k) x ≡ 0
   unfolding clearPage

@@ -2,28 +2,16 @@
 -- behind the old end. A 0 is no header, so no value reaches over the end.
 use Prim.Native.Nat.{ℕ, suc, _+_, _*_, _^_, _≤_, _<_}
 use native.Mathlib.Omega.{arith}
-use mathlib.Core.Path.{_≡_, refl, sym, ap, _∙_}
-use mathlib.Core.Logic.{_≢_, _⊎_, inl, inr}
-use mathlib.Core.Option.{none, some}
-use mathlib.Core.List.{List}
-use mathlib.Core.Bool.{false≢true}
+use mathlib.Core.Path.{_≡_, sym, _∙_}
+use mathlib.Core.Logic.{_⊎_, inl, inr}
+use mathlib.Core.List.{List, List·Memᴰ}
 use lib.ListN.{length}
 use Rattle.laws.specs.Lists.{at}
-use Rattle.rules.specs.Words.{headOf, lengthBy}
+use Rattle.rules.specs.Memory.{Store}
 use Rattle.rules.specs.Pages.{Run}
-use Rattle.facts.proofs.Steps.{Stands, Steps, steps-le, steps-same, stands-same, apart}
+use Rattle.rules.proofs.Steps.{Stands, Steps, steps-le, no-zero, steps-same, stands-same, apart}
 use Rattle.facts.proofs.Laid.{Owner, mine, Layout}
-use Rattle.facts.proofs.Sound.{InHeap}
-
-zero-head : lengthBy (headOf 0) ≡ none
-unfolding headOf
-zero-head = refl
-
--- a header is not 0
-pub no-zero : {h : List ℕ} {hi a l : ℕ} → Stands h hi a l → at h a ≢ 0
-no-zero {h} {l = l} st e =
-    let q : some l ≡ none = sym (st .head) ∙ ap (λ w. lengthBy (headOf w)) e ∙ zero-head in
-    false≢true cc
+use Rattle.facts.proofs.Sound.{InHeap, Sound, good-page}
 
 -- values from s to f, and zeros behind them
 module _ (g : List ℕ) (hi s f : ℕ) (filled : Steps g hi s f) (rest : (x : ℕ) → f ≤ x → x < hi → at g x ≡ 0) where
@@ -55,8 +43,15 @@ pub below-fin : {n N R : ℕ} {own : ℕ → Owner} {fin : ℕ → ℕ} {pages :
     → Steps (r .heap) (k * 2 ^ n + 2 ^ n) (k * 2 ^ n + 2) a → Stands (r .heap) (k * 2 ^ n + 2 ^ n) a l → a + suc l ≤ fin k
 below-fin {fin = fin} {r = r} L j k o t st = let B = L .mine-body j k o in below-end (r .heap) _ _ (fin k) (B .filled) (B .rest) t st
 
+pub chain-below : {n N R : ℕ} {own : ℕ → Owner} {fin : ℕ → ℕ} {pages : ℕ → List ℕ} {free : List ℕ} {r : Run} (L : Layout n N R own fin pages free r) (j k : ℕ) {a l : ℕ} → j < R
+    → List·Memᴰ k (pages j) → Steps (r .heap) (k * 2 ^ n + 2 ^ n) (k * 2 ^ n + 2) a → Stands (r .heap) (k * 2 ^ n + 2 ^ n) a l → a + suc l ≤ fin k
+chain-below L j k b m = below-fin L j k (L .mine-own j k b m)
+
+pub good-below : (s : Store) (S : Sound s) (a : ℕ) (p : InHeap (s .ctl .n) (s .ctl .regions) (s .heap) a) → a + suc (p .len) ≤ S .fin (p .page)
+good-below s S a p = chain-below (S .laid) (p .region) (p .page) (p .known) (good-page s S a p) (p .steps) (p .stands)
+
 -- a good pointer's value in another heap of the same length
-pub good-in : (n R R′ : ℕ) (g h : List ℕ) (a : ℕ) (p : InHeap n R g a) → length h ≡ length g → p .region < R′
+abbrev pub good-in : (n R R′ : ℕ) (g h : List ℕ) (a : ℕ) (p : InHeap n R g a) → length h ≡ length g → p .region < R′
     → at g (p .page * 2 ^ n + 1) ≡ at h (p .page * 2 ^ n + 1)
     → Steps h (p .page * 2 ^ n + 2 ^ n) (p .page * 2 ^ n + 2) a × Stands h (p .page * 2 ^ n + 2 ^ n) a (p .len)
     → InHeap n R′ h a

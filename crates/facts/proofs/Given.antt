@@ -1,21 +1,22 @@
 -- Pages given back: each is cleared and follows the last free page, so the heap stays laid out, and no other page changes but for the link
 -- of the page that was last.
-use Prim.Native.Nat.{ℕ, suc, _+_, _-_, _*_, _^_, _≤_, _<_}
+use Prim.Native.Nat.{ℕ, zero, suc, _+_, _-_, _*_, _^_, _≤_, _<_}
 use native.Mathlib.Nat.{le-refl}
 use native.Mathlib.Omega.{arith}
 use native.Mathlib.Decide.{ℕ-discrete}
 use mathlib.Core.Path.{_≡_, refl, sym, ap, _∙_}
 use mathlib.Core.Logic.{_≢_, _⊎_, inl, inr}
-use mathlib.Core.List.{List, [], _∷_, _++_, append-nil, List·Memᴰ, List·Memᴰ·head, List·Memᴰ·tail, List·Memᴰ·not-nil}
+use mathlib.Core.List.{List, [], _∷_, _++_, append-nil, List·Memᴰ, List·Memᴰ·head, List·Memᴰ·tail, List·Memᴰ·not-nil, Memᴰ·append-left, Memᴰ·append-right}
 use lib.ListN.{length, set, length-set, length-append}
 use lib.Seq.{append-snoc, getD-set-same}
 use Rattle.laws.specs.Lists.{at, lastOr}
-use Rattle.laws.proofs.Once.{Once, once-more, in-tail, Last, only, later, last-in, Linked, stop, goes, linked-same, linked-snoc, last-snoc, in-snoc, once-snoc}
+use Rattle.laws.proofs.Once.{Once, once-more, in-tail, Last, only, later, last-in, Linked, linked-single, linked-same, linked-snoc, last-snoc, in-snoc, once-snoc, member?}
 use Rattle.rules.specs.Memory.{link}
 use Rattle.rules.specs.Audit.{lastLink}
-use Rattle.rules.specs.Pages.{Run, clearPage, giveBack, giveBackAll}
-use Rattle.facts.proofs.Laid.{upd, upd-same, upd-other, old≢spare, old≢mine, old≢beyond, spare≢mine, spare≢beyond, Owner, old, spare, mine, Body, Clean, Like, body-like, clean-like, like-relinked, link-relinked, Layout, page-in, like-kept, link-kept, chain-apart, upd-back, upd-known}
-use Rattle.facts.proofs.Cleared.{clear-length, clear-else, clear-in}
+use Rattle.rules.specs.Pages.{Run, withFree, clearPage, giveBack, giveBackAll}
+use Rattle.facts.proofs.Laid.{upd, upd-same, upd-other, old≢spare, old≢mine, old≢beyond, spare≢mine, spare≢beyond, old-mine-apart, Owner, old, spare, mine, Body, Clean, Like, like-itself, like-then, body-like, clean-like, like-relinked, link-relinked, Layout, page-in, like-kept, chain-apart, upd-back, upd-known}
+use Rattle.facts.proofs.Sound.{Chained, in-free, in-region}
+use Rattle.facts.proofs.Cleared.{clear-length, clear-else, clear-link, clear-in}
 
 -- ---- the last of a list of pages, as a link
 
@@ -33,7 +34,32 @@ link-last (later {k} u) = go u (link-last u)
     go only e = refl
     go (later u) e = e
 
+-- the other way round: the page that the last link names is the last
+last-linked : (ks : List ℕ) (k : ℕ) → lastLink ks ≡ suc k → Last ks k
+unfolding lastLink
+last-linked [] k e = absurd (omega arith)
+last-linked (y ∷ ys) k e = let w : lastOr y ys ≡ k = omega arith in rw w at (last-link y ys)
+
+none-linked : (ks : List ℕ) → lastLink ks ≡ 0 → ks ≡ []
+unfolding lastLink
+none-linked [] e = refl
+none-linked (y ∷ ys) e = absurd (omega arith)
+
+pub last-one-of : (ks : List ℕ) (k : ℕ) → lastLink ks ≡ suc k → List·Memᴰ k ks
+last-one-of ks k e = last-in (last-linked ks k e)
+
 -- ---- one page
+
+module _ (n : ℕ) (r : Run) (k : ℕ) where
+  -- page k is the only free page, or it follows page z
+  given-by : (P : Run → Type 0) → (r .last ≡ 0 → P (withFree r (clearPage n (r .heap) k) (suc k) (suc k) (suc (r .count))))
+      → ((z : ℕ) → r .last ≡ suc z → P (withFree r (set (clearPage n (r .heap) k) (z * 2 ^ n) (suc k)) (r .first) (suc k) (suc (r .count)))) → P (giveBack n k r)
+  unfolding giveBack
+  given-by P f g = go (r .last) refl
+    where
+      go : (x : ℕ) → r .last ≡ x → P (giveBack n k r)
+      go zero e = rw (giveBack, e) (f e)
+      go (suc z) e = rw (giveBack, e) (g z e)
 
 module _ (n N R : ℕ) (own : ℕ → Owner) (fin : ℕ → ℕ) (pages : ℕ → List ℕ) (free : List ℕ) (r : Run) (L : Layout n N R own fin pages free r)
     (k : ℕ) (own-k : own k ≡ old) where
@@ -59,32 +85,17 @@ module _ (n N R : ℕ) (own : ℕ → Owner) (fin : ℕ → ℕ) (pages : ℕ �
   like₁ : (l : ℕ) → l ≢ k → Like n (r .heap) h₁ l
   like₁ l ne = like-kept n (r .heap) h₁ l (λ x. others₁ l x ne)
 
-  -- and the link of the last free page set: no other word
-  module _ (z v : ℕ) (z-in : z * P + P ≤ length (r .heap)) where
-    h₂ : List ℕ
-    h₂ = set h₁ (z * P) v
-
-    like₂ : (l : ℕ) → Like n h₁ h₂ l
-    unfolding h₂
-    like₂ = like-relinked n h₁ z v
-
-    links₂ : (l : ℕ) → l ≢ z → link n h₁ l ≡ link n h₂ l
-    unfolding h₂
-    links₂ l = let b = L .big in link-relinked n h₁ z v l (omega arith)
-
-    link₂ : link n h₂ z ≡ v
-    unfolding link h₂
-    link₂ = getD-set-same h₁ (z * P) v 0 (let b = L .big in let e = length₁ in omega arith)
+  -- and the link of the last free page set
+  link₂ : (z v : ℕ) → own z ≡ spare → link n (set h₁ (z * P) v) z ≡ v
+  unfolding link
+  link₂ z v o = getD-set-same h₁ (z * P) v 0 (let b = L .big in let e = length₁ in let i = page-in L z (spare≢beyond o) in omega arith)
 
   links₁ : (l : ℕ) → l ≢ k → link n (r .heap) l ≡ link n h₁ l
-  links₁ l ne = link-kept n (r .heap) h₁ l (λ x. others₁ l x ne) (L .big)
+  links₁ l ne = sym (clear-link n (r .heap) k k-in (let b = L .big in omega arith) l ne)
 
   link-k : link n h₁ k ≡ 0
   unfolding link
   link-k = let b = L .big in cleared (k * P) (le-refl _) (omega arith)
-
-  own-not-k : (i l : ℕ) → own l ≡ mine i → l ≢ k
-  own-not-k i l o q = old≢mine (ap own q ∙ own-k) o
 
   free-not-k : (l : ℕ) → List·Memᴰ l free → l ≢ k
   free-not-k l m q = old≢spare (ap own q ∙ own-k) (L .free-own l m)
@@ -109,14 +120,14 @@ module _ (n N R : ℕ) (own : ℕ → Owner) (fin : ℕ → ℕ) (pages : ℕ �
     bodies : (i l : ℕ) → own l ≡ mine i → Body n h′ l i (fin l)
     bodies i l o =
         let b = L .big in
-        body-like (omega arith) (like l) (body-like (omega arith) (like₁ l (own-not-k i l o)) (L .mine-body i l o))
+        body-like (omega arith) (like-then (like₁ l (λ q. old-mine-apart own own-k o (sym q))) (like l)) (L .mine-body i l o)
 
     cleans : (l : ℕ) → upd own k spare l ≡ spare → Clean n h′ l
     cleans l o = go (ℕ-discrete l k)
       where
         go : Dec (l ≡ k) → Clean n h′ l
         go (yes e) = clean-like (like l) (record { rest = λ x p q. let w : l * P ≡ k * P = ap (λ t. t * P) e in cleared x (omega arith) (omega arith) })
-        go (no ne) = clean-like (like l) (clean-like (like₁ l ne) (L .free-clean l (sym (upd-other own k spare l ne) ∙ o)))
+        go (no ne) = clean-like (like-then (like₁ l ne) (like l)) (L .free-clean l (sym (upd-other own k spare l ne) ∙ o))
 
     mine-links′ : (i l : ℕ) → i < R → List·Memᴰ l (pages i) → link n (r .heap) l ≡ link n h′ l
     mine-links′ i l b m = links₁ l (chain-apart L (λ j. old≢mine own-k) i l b m) ∙ links i l (L .mine-own i l b m)
@@ -141,27 +152,23 @@ module _ (n N R : ℕ) (own : ℕ → Owner) (fin : ℕ → ℕ) (pages : ℕ �
           mine-top = L .mine-top;
         }
 
-  z-in : (z : ℕ) → own z ≡ spare → z * P + P ≤ length (r .heap)
-  z-in z o = page-in L z (spare≢beyond o)
-
   alone : (fs : List ℕ) → fs ≡ [] → Linked (link n h₁) (suc k) (fs ++ k ∷ [])
-  alone fs e =
-      let t : Linked (link n h₁) (link n h₁ k) [] = rw link-k stop in
-      rw e (goes t)
+  alone fs e = rw e (linked-single link-k)
 
   -- the two ways: no page was free, or page z was the last
   given-first : free ≡ [] → Layout n N R (upd own k spare) fin pages (free ++ k ∷ []) (record { heap = h₁; table = r .table; first = suc k; last = suc k; count = suc (r .count); stack = r .stack })
-  given-first e = laid-by h₁ (suc k) refl (λ l. record { word = λ x p q. refl }) (λ i l o. refl) (alone free e)
+  given-first e = laid-by h₁ (suc k) refl (λ l. like-itself) (λ i l o. refl) (alone free e)
 
   given-later : (z : ℕ) → Last free z
       → Layout n N R (upd own k spare) fin pages (free ++ k ∷ []) (record { heap = set h₁ (z * P) (suc k); table = r .table; first = r .first; last = suc k; count = suc (r .count); stack = r .stack })
-  unfolding h₂
   given-later z last =
       let own-z : own z ≡ spare = L .free-own z (last-in last) in
-      laid-by (set h₁ (z * P) (suc k)) (r .first) (length-set h₁ (z * P) (suc k)) (like₂ z (suc k) (z-in z own-z))
-      (λ i l o. links₂ z (suc k) (z-in z own-z) l (λ q. spare≢mine (ap own q ∙ own-z) o))
-      (linked-snoc (L .free-links) last (L .free-once) (link₂ z (suc k) (z-in z own-z)) (sym (links₂ z (suc k) (z-in z own-z) k (λ q. free-not-k z (last-in last) (sym q))) ∙ link-k)
-      (λ y m ne. links₁ y (free-not-k y m) ∙ links₂ z (suc k) (z-in z own-z) y ne))
+      let b = L .big in
+      let links₂ : (l : ℕ) → l ≢ z → link n h₁ l ≡ link n (set h₁ (z * P) (suc k)) l = λ l. link-relinked n h₁ z (suc k) l (omega arith) in
+      laid-by (set h₁ (z * P) (suc k)) (r .first) (length-set h₁ (z * P) (suc k)) (like-relinked n h₁ z (suc k))
+      (λ i l o. links₂ l (λ q. spare≢mine (ap own q ∙ own-z) o))
+      (linked-snoc (L .free-links) last (L .free-once) (link₂ z (suc k) own-z) (sym (links₂ k (λ q. free-not-k z (last-in last) (sym q))) ∙ link-k)
+      (λ y m ne. links₁ y (free-not-k y m) ∙ links₂ y ne))
 
   pub record Given : Type 0 where
     pub laid : Layout n N R (upd own k spare) fin pages (free ++ k ∷ []) (giveBack n k r)
@@ -169,27 +176,13 @@ module _ (n N R : ℕ) (own : ℕ → Owner) (fin : ℕ → ℕ) (pages : ℕ �
     pub table : giveBack n k r .table ≡ r .table
 
   pub given : Given
-  unfolding giveBack h₂ lastLink
-  given = go free refl
-    where
-      is-last : (f : ℕ) (fs : List ℕ) → free ≡ f ∷ fs → r .last ≡ suc (lastOr f fs)
-      is-last f fs e = L .free-last ∙ ap lastLink e
-
-      go : (fs : List ℕ) → free ≡ fs → Given
-      go [] e =
-          let q : r .last ≡ 0 = L .free-last ∙ ap lastLink e in
-          record { laid = rw (giveBack, q) (given-first e); like = rw (giveBack, q) like₁; table = rw (giveBack, q) }
-      go (f ∷ fs) e =
-          let q = is-last f fs e in
-          let last : Last free (lastOr f fs) = rw e (last-link f fs) in
-          record {
-            laid = rw (giveBack, q) (given-later (lastOr f fs) last);
-            like = rw (giveBack, q) (λ l ne. both-like (like₁ l ne) (like₂ (lastOr f fs) (suc k) (z-in (lastOr f fs) (L .free-own _ (last-in last))) l));
-            table = rw (giveBack, q);
-          }
-        where
-          both-like : {a b c : List ℕ} {l : ℕ} → Like n a b l → Like n b c l → Like n a c l
-          both-like p q = record { word = λ x a b. p .word x a b ∙ q .word x a b }
+  given =
+      let g =
+      given-by n r k
+      (λ x. Layout n N R (upd own k spare) fin pages (free ++ k ∷ []) x × ((l : ℕ) → l ≢ k → Like n (r .heap) (x .heap) l) × (x .table ≡ r .table))
+      (λ e. (given-first (none-linked free (sym (L .free-last) ∙ e)), like₁, refl))
+      (λ z e. (given-later z (last-linked free z (sym (L .free-last) ∙ e)), λ l ne. like-then (like₁ l ne) (like-relinked n h₁ z (suc k) l), refl)) in
+      record { laid = g .0; like = g .1; table = g .2 }
 
 -- ---- all pages of a list
 
@@ -227,7 +220,7 @@ pub given-all : (n N R : ℕ) (fin : ℕ → ℕ) (pages : ℕ → List ℕ) (ks
     → ((k : ℕ) → List·Memᴰ k ks → own k ≡ old) → GivenAll n N R own fin pages free ks r (giveBackAll n ks r)
 unfolding giveBackAll spared
 given-all n N R fin pages [] o own free r L f =
-    record { laid = rw (append-nil free) L; like = λ l ne. record { word = λ x p q. refl }; table = refl }
+    record { laid = rw (append-nil free) L; like = λ l ne. like-itself; table = refl }
 given-all n N R fin pages (k ∷ ks) (once-more new o) own free r L f =
     let g = given n N R own fin pages free r L k (f k (List·Memᴰ·head refl)) in
     let rest =
@@ -235,7 +228,41 @@ given-all n N R fin pages (k ∷ ks) (once-more new o) own free r L f =
     (λ l m. upd-other own k spare l (λ e. new (rw e at m)) ∙ f l (List·Memᴰ·tail m)) in
     record {
       laid = rw (append-snoc free k ks) at (rest .laid);
-      like = λ l ne.
-          record { word = λ x p q. g .like l (λ e. ne (List·Memᴰ·head e)) .word x p q ∙ rest .like l (λ m. ne (List·Memᴰ·tail m)) .word x p q };
+      like = λ l ne. like-then (g .like l (λ e. ne (List·Memᴰ·head e))) (rest .like l (λ m. ne (List·Memᴰ·tail m)));
       table = rest .table ∙ g .table;
     }
+
+-- ---- one page of any run
+
+module _ (n : ℕ) (r : Run) (k : ℕ) where
+  pub given-last : giveBack n k r .last ≡ suc k
+  given-last = given-by n r k (λ x. x .last ≡ suc k) (λ e. refl) (λ z e. refl)
+
+  pub given-count : giveBack n k r .count ≡ suc (r .count)
+  given-count = given-by n r k (λ x. x .count ≡ suc (r .count)) (λ e. refl) (λ z e. refl)
+
+  module _ (inside : k * 2 ^ n + 2 ^ n ≤ length (r .heap)) where
+    pub given-length : length (giveBack n k r .heap) ≡ length (r .heap)
+    given-length =
+        let cleared = clear-length n (r .heap) k inside in
+        given-by n r k (λ x. length (x .heap) ≡ length (r .heap)) (λ e. cleared) (λ z e. length-set (clearPage n (r .heap) k) (z * 2 ^ n) (suc k) ∙ cleared)
+
+    -- a page that is neither this one nor the last free one keeps its link
+    pub given-link : 0 < 2 ^ n → (l : ℕ) → l ≢ k → r .last ≢ suc l → link n (giveBack n k r .heap) l ≡ link n (r .heap) l
+    given-link p l ne nl =
+        let cleared = clear-link n (r .heap) k inside p l ne in
+        given-by n r k (λ x. link n (x .heap) l ≡ link n (r .heap) l) (λ e. cleared)
+        (λ z e. sym (link-relinked n (clearPage n (r .heap) k) z (suc k) l p (λ q. nl (e ∙ ap suc (sym q)))) ∙ cleared)
+
+-- a page given back is in the free list, and another is in the chain where it was
+pub given-chained : {R : ℕ} {own : ℕ → Owner} {pages : ℕ → List ℕ} {free : List ℕ} (ks : List ℕ) (k : ℕ) → ((List·Memᴰ k ks → ⊥) → Chained R own pages free k)
+    → Chained R (spared own ks) pages (free ++ ks) k
+given-chained {R} {own} {pages} {free} ks k was = go (member? k ks)
+  where
+    by : (List·Memᴰ k ks → ⊥) → Chained R own pages free k → Chained R (spared own ks) pages (free ++ ks) k
+    by f (in-free o m) = in-free (spared-out own ks k f ∙ o) (Memᴰ·append-left ks m)
+    by f (in-region j b o m) = in-region j b (spared-out own ks k f ∙ o) m
+
+    go : Dec (List·Memᴰ k ks) → Chained R (spared own ks) pages (free ++ ks) k
+    go (yes m) = in-free (spared-in own ks k m) (Memᴰ·append-right free m)
+    go (no f) = by f (was f)

@@ -1,26 +1,25 @@
 -- Good pointers as tests and as facts: the list of values has an address exactly when stepping comes to it.
 use Prim.Native.Nat.{ℕ, suc, _+_, _-_, _*_, _/_, _^_, _≤_, _<_}
-use native.Mathlib.Nat.{mul-le-mul-right}
 use native.Mathlib.Omega.{arith}
 use native.Mathlib.Decide.{decLe}
 use mathlib.Core.Path.{_≡_, refl}
 use mathlib.Core.Logic.{_≢_}
 use mathlib.Core.Bool.{true, false, false≢true}
 use mathlib.Core.List.{List}
-use lib.ListN.{length, List·getD-eq-default, take, drop}
-use borrow.Author.Tests.{leb-true}
+use lib.ListN.{length}
+use lib.Seq.{length-slice}
+use lib.Dec.{leb}
+use borrow.Author.Tests.{leb-true, le-leb}
 use Rattle.laws.specs.Lists.{at}
-use Rattle.rules.specs.Memory.{pageCount, bodyWords, origin, Store}
-use Rattle.rules.specs.Words.{Word, number, inHeap, inConst, wordOf, pageVals, goodHeap, goodConst, goodIn, headOf, valueAt, look}
-use Rattle.rules.specs.Seen.{homeIn}
-use Rattle.rules.specs.Calls.{lookIn}
+use Rattle.rules.specs.Memory.{pageCount, bodyWords, origin}
+use Rattle.rules.specs.Words.{Word, number, inHeap, inConst, wordOf, pageVals, goodOn, goodHeap, goodConst, goodIn}
 use Rattle.rules.specs.Audit.{constField}
 use Rattle.rules.specs.Refusals.{Paged}
-use Rattle.rules.proofs.Limits.{page-size, whole-pages, page-inside}
-use Rattle.rules.proofs.Pointers.{words-of}
+use Rattle.rules.proofs.Limits.{paged-size, page-inside}
+use Rattle.rules.proofs.Chains.{page-part, page-of}
+use Rattle.rules.proofs.Good.{past-pages}
 use Rattle.rules.proofs.Looks.{good-parts}
-use Rattle.facts.proofs.Steps.{Holds, stands-from, stands-to, holds-all}
-use Rattle.facts.proofs.Looked.{page-holds, page-ends as words-end, good-at}
+use Rattle.rules.proofs.Steps.{steps-le, Holds, slice-holds, Listed, vals-listed, stands-from, stands-to, all-listed}
 use Rattle.facts.proofs.Sound.{InHeap, InConst, Good, a-number, to-heap, to-const, GoodConst, number-there, const-there}
 
 -- ---- the words of a page
@@ -34,32 +33,36 @@ module _ (n : ℕ) (heap : List ℕ) (p : Paged n (length heap)) where
   page-there k i b ne = go (decLe (pageCount n heap) k)
     where
       go : Dec (pageCount n heap ≤ k) → k < pageCount n heap
-      go (yes q) =
-          let w = whole-pages n (length heap) p in
-          let m = mul-le-mul-right (2 ^ n) q in
-          absurd (ne (List·getD-eq-default heap 0 {n = k * 2 ^ n + i} (omega arith)))
+      go (yes q) = absurd (ne (past-pages n heap k i p q))
       go (no f) = omega arith
 
+  -- the words behind its descriptor, which end with the page
   pub body-holds : (k : ℕ) → k < pageCount n heap → Holds heap (k * 2 ^ n + 2) (bodyWords n heap k)
-  body-holds k b = let z = page-size n (p .low) (p .high) in page-holds n heap k (page-ends k b) (omega arith)
+  body-holds k b = rw (page-part n heap k) (slice-holds heap (k * 2 ^ n + 2) (k * 2 ^ n + 2 ^ n) (page-ends k b))
 
   pub body-ends : (k : ℕ) → k < pageCount n heap → k * 2 ^ n + 2 + length (bodyWords n heap k) ≡ k * 2 ^ n + 2 ^ n
-  body-ends k b = let z = page-size n (p .low) (p .high) in words-end n heap k (page-ends k b) (omega arith)
+  body-ends k b =
+      let z = paged-size n (length heap) p in
+      rw (page-part n heap k) (omega (arith, length-slice (k * 2 ^ n + 2) (k * 2 ^ n + 2 ^ n) heap (page-ends k b)))
+
+  -- the list of the values among them
+  pub body-listed : (k : ℕ) → k < pageCount n heap → Listed heap (k * 2 ^ n + 2 ^ n) (k * 2 ^ n + 2) (pageVals n heap k)
+  unfolding pageVals
+  body-listed k b = vals-listed heap (k * 2 ^ n + 2 ^ n) (k * 2 ^ n + 2) (bodyWords n heap k) (body-holds k b) (body-ends k b)
 
 -- ---- the heap
 
 module _ (n R : ℕ) (heap : List ℕ) (p : Paged n (length heap)) where
   pub in-heap : (a : ℕ) → goodHeap n R heap a ≡ true → InHeap n R heap a
-  unfolding origin pageVals
+  unfolding origin
   in-heap a t =
       let k : ℕ = a / 2 ^ n in
       let g = good-parts n R heap a t in
       let lo : 1 ≤ at heap (k * 2 ^ n + 1) = leb-true _ _ (g .0) in
       let hi : at heap (k * 2 ^ n + 1) ≤ R = leb-true _ _ (g .1) in
-      let z = page-size n (p .low) (p .high) in
+      let z = paged-size n (length heap) p in
       let there : k < pageCount n heap = page-there n heap p k 1 (omega arith) (λ (q : at heap (k * 2 ^ n + 1) ≡ 0). omega arith) in
-      let f = stands-from heap (k * 2 ^ n + 2 ^ n) a (bodyWords n heap k) (k * 2 ^ n + 2) 0 (body-holds n heap p k there) (body-ends n heap p k there) (g .2) in
-      let q : k * 2 ^ n + 2 + 0 ≡ k * 2 ^ n + 2 = omega arith in
+      let f = stands-from heap (k * 2 ^ n + 2 ^ n) a (body-listed n heap p k there) (g .2) in
       record {
         page = k;
         region = at heap (k * 2 ^ n + 1) - 1;
@@ -67,36 +70,36 @@ module _ (n R : ℕ) (heap : List ℕ) (p : Paged n (length heap)) where
         there = there;
         known = omega arith;
         whose = omega arith;
-        steps = rw q at (f .1);
+        steps = f .1;
         stands = f .2;
       }
 
+  -- the page of the address
+  pub page-at : (a : ℕ) (g : InHeap n R heap a) → a / 2 ^ n ≡ g .page
+  page-at a g = let lo = steps-le (g .steps) in let hi = g .stands .ends in page-of n (g .page) a (omega arith) (omega arith)
+
+  on-page : (a : ℕ) (g : InHeap n R heap a) → goodOn n R heap (g .page) a ≡ true
+  unfolding goodOn origin
+  on-page a g =
+      let e₁ : leb 1 (suc (g .region)) ≡ true = le-leb 1 (suc (g .region)) (omega arith) in
+      let e₂ : leb (suc (g .region)) R ≡ true = le-leb (suc (g .region)) R (g .known) in
+      rw (g .whose, goodOn, e₁, e₂) (stands-to heap (g .page * 2 ^ n + 2 ^ n) (g .steps) (body-listed n heap p (g .page) (g .there)) (g .stands))
+
   pub heap-in : (a : ℕ) → InHeap n R heap a → goodHeap n R heap a ≡ true
-  heap-in a g =
-      let z = page-size n (p .low) (p .high) in
-      good-at n R heap (g .page) a (g .len) (omega arith) (page-ends n heap p (g .page) (g .there)) (g .steps) (g .stands) (g .region) (g .known) (g .whose)
+  unfolding goodHeap
+  heap-in a g = rw (page-at a g) (on-page a g)
 
 -- ---- the constants
 
 pub in-const : (consts : List ℕ) (a : ℕ) → goodConst consts a ≡ true → InConst consts a
 unfolding goodConst
 in-const consts a t =
-    let f = stands-from consts (length consts) a consts 0 0 (holds-all consts) (omega arith) t in
+    let f = stands-from consts (length consts) a (all-listed consts) t in
     record { len = f .0; steps = f .1; stands = f .2 }
 
 pub const-in : (consts : List ℕ) (a : ℕ) → InConst consts a → goodConst consts a ≡ true
 unfolding goodConst
-const-in consts a g = stands-to consts (length consts) a (g .steps) consts (g .len) (holds-all consts) (omega arith) (g .stands)
-
--- it is seen, and has no home
-module _ (s : Store) (v a : ℕ) (e : wordOf v ≡ inConst a) where
-  pub const-seen : (p : InConst (s .consts) a) → lookIn s v ≡ take (suc (p .len)) (drop a (s .consts))
-  unfolding look valueAt
-  const-seen p = rw (e, look, const-in (s .consts) a p, words-of (headOf (at (s .consts) a)) (p .len) (p .stands .head))
-
-  pub const-home : homeIn s v ≡ 0
-  unfolding homeIn
-  const-home = rw (e, homeIn)
+const-in consts a g = stands-to consts (length consts) (g .steps) (all-listed consts) (g .stands)
 
 -- ---- words
 

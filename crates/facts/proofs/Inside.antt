@@ -8,7 +8,7 @@ use mathlib.Core.Logic.{_≢_}
 use mathlib.Core.List.{List}
 use Rattle.laws.specs.Lists.{at}
 use Rattle.laws.proofs.Lists.{one-part}
-use Rattle.facts.proofs.Steps.{Stands, Steps, here, steps-le, steps-same, stands-same, not-header, steps-inside}
+use Rattle.rules.proofs.Steps.{Stands, Steps, here, steps-le, steps-same, stands-same, not-header, steps-inside}
 
 -- word i of the value of l words at address d, in page k
 module _ (n : ℕ) (g : List ℕ) (k d l i : ℕ) (at-d : Steps g (k * 2 ^ n + 2 ^ n) (k * 2 ^ n + 2) d) (st : Stands g (k * 2 ^ n + 2 ^ n) d l) (i-in : i < l) where

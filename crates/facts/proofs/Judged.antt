@@ -6,8 +6,9 @@ use Rattle.rules.specs.declared.Control.{Control}
 use Rattle.rules.specs.declared.Refusal.{Refusal}
 use Rattle.rules.specs.declared.Plain.{Plain}
 use Rattle.rules.specs.Memory.{Store}
-use Rattle.rules.specs.Refusals.{Admitted, audited}
+use Rattle.rules.specs.Refusals.{Admitted, refused, audited}
 use Rattle.rules.specs.Calls.{audit}
+use Rattle.rules.specs.Collection.{collected, collect}
 use Rattle.rules.proofs.Limits.{admits}
 use Rattle.rules.proofs.Judged.{judged-yes}
 use Rattle.facts.proofs.Sound.{Passes}
@@ -21,3 +22,8 @@ module _ (s : Store) (p : Passes s) where
 
   pub passed-admitted : Admitted (length (s .heap)) (length (s .table)) (length (s .roots)) (length (s .consts)) (s .ctl)
   passed-admitted = admits _ _ _ _ _ (p .limits) (p .common)
+
+-- after a yes a collection is its four steps
+pub judged-collects : (s : Store) (c : Control) → Plain.Done c ≡ audit s → collect s ≡ collected s
+unfolding collect
+judged-collects s c e = passed s (judged-passes s c e) (refused s) (collected s)

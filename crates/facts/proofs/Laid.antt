@@ -3,11 +3,11 @@ use Prim.Native.Nat.{ℕ, suc, _+_, _-_, _*_, _^_, _≤_, _<_}
 use native.Mathlib.Nat.{le-refl, mul-le-mul-right}
 use native.Mathlib.Omega.{arith}
 use native.Mathlib.Decide.{ℕ-discrete}
-use mathlib.Core.Path.{_≡_, refl, sym, ap, _∙_}
+use mathlib.Core.Path.{_≡_, refl, sym, ap, _∙_, subst}
 use mathlib.Core.Logic.{_≢_, _⊎_, inl, inr, ⊎-elim}
 use mathlib.Core.Bool.{Bool, true, false, false≢true}
 use mathlib.Core.Option.{some}
-use mathlib.Core.List.{List, List·Memᴰ}
+use mathlib.Core.List.{List, [], _∷_, List·Memᴰ, List·Memᴰ·head}
 use lib.ListN.{length, set, take, drop}
 use lib.Seq.{getD-set-other}
 use lib.Dec.{eqb}
@@ -19,8 +19,8 @@ use Rattle.rules.specs.Audit.{lastLink}
 use Rattle.rules.specs.Pages.{Scan, Run, withHeap, withTable, withStack}
 use Rattle.laws.proofs.Lists.{part-length, one-part, starts-differ, begins-none}
 pub use Rattle.laws.proofs.Once.{Once, once-none, once-more, Last, only, later, last-in, Linked, stop, goes, linked-same}
-use Rattle.laws.proofs.Once.{once-most}
-use Rattle.facts.proofs.Steps.{Stands, Steps, steps-le, steps-same}
+use Rattle.laws.proofs.Once.{once-most, linked-none, linked-first}
+use Rattle.rules.proofs.Steps.{Stands, Steps, steps-le, steps-same}
 
 -- ---- a function changed at one place
 module _ {A : Type 0} where
@@ -100,6 +100,12 @@ pub record Clean (n : ℕ) (h : List ℕ) (k : ℕ) : Type 0 where
 pub record Like (n : ℕ) (g h : List ℕ) (k : ℕ) : Type 0 where
   pub word : (x : ℕ) → k * 2 ^ n < x → x < k * 2 ^ n + 2 ^ n → at g x ≡ at h x
 
+pub like-itself : {n : ℕ} {g : List ℕ} {k : ℕ} → Like n g g k
+like-itself = record { word = λ x p q. refl }
+
+pub like-then : {n : ℕ} {f g h : List ℕ} {k : ℕ} → Like n f g k → Like n g h k → Like n f h k
+like-then a b = record { word = λ x p q. a .word x p q ∙ b .word x p q }
+
 -- a page that keeps its words keeps them behind its link, and its link
 module _ (n : ℕ) (g h : List ℕ) (k : ℕ) (same : (x : ℕ) → k * 2 ^ n ≤ x → x < k * 2 ^ n + 2 ^ n → at h x ≡ at g x) where
   pub like-kept : Like n g h k
@@ -153,7 +159,18 @@ pub record Layout (n N R : ℕ) (own : ℕ → Owner) (fin : ℕ → ℕ) (pages
   pub mine-top : (j : ℕ) → j < R
       → (k : ℕ) × Last (pages j) k × (endOf (r .table) j ≡ k * 2 ^ n + 2 ^ n) × (topOf (r .table) j ≡ fin k)
 
+-- the first page of the free list is nobody's
+pub first-spare : {n N R : ℕ} {own : ℕ → Owner} {fin : ℕ → ℕ} {pages : ℕ → List ℕ} {k : ℕ} {ks : List ℕ} {r : Run} → Layout n N R own fin pages (k ∷ ks) r → own k ≡ spare
+first-spare {k = k} L = L .free-own k (List·Memᴰ·head refl)
+
 module _ {n N R : ℕ} {own : ℕ → Owner} {fin : ℕ → ℕ} {pages : ℕ → List ℕ} {free : List ℕ} {r : Run} (L : Layout n N R own fin pages free r) where
+  -- where the free list begins
+  pub first-none : free ≡ [] → r .first ≡ 0
+  first-none e = linked-none (subst (λ ks. Linked (link n (r .heap)) (r .first) ks) e (L .free-links))
+
+  pub first-is : {k : ℕ} {ks : List ℕ} → free ≡ k ∷ ks → r .first ≡ suc k
+  first-is e = linked-first (subst (λ ks. Linked (link n (r .heap)) (r .first) ks) e (L .free-links)) .0
+
   -- a page that is somebody's lies in the heap
   pub page-in : (k : ℕ) → own k ≢ beyond → k * 2 ^ n + 2 ^ n ≤ length (r .heap)
   page-in k ne = let s = L .size in let p = mul-le-mul-right (2 ^ n) (L .known k ne) in omega arith
@@ -175,6 +192,10 @@ module _ {n N R : ℕ} {own : ℕ → Owner} {fin : ℕ → ℕ} {pages : ℕ �
   pub free-few : length free ≤ N
   free-few = once-most N free-known (L .free-once)
 
+  -- a free page has no origin
+  pub spare-origin : (k : ℕ) → own k ≡ spare → at (r .heap) (k * 2 ^ n + 1) ≡ 0
+  spare-origin k o = let b = L .big in L .free-clean k o .rest (k * 2 ^ n + 1) (omega arith) (omega arith)
+
   -- a page given to another is one of the heap's still
   pub upd-known : (k : ℕ) (o : Owner) → own k ≢ beyond → (l : ℕ) → upd own k o l ≢ beyond → l < N
   upd-known k o ne l f = go (ℕ-discrete l k)
@@ -191,7 +212,7 @@ module _ {n N R : ℕ} {own : ℕ → Owner} {fin : ℕ → ℕ} {pages : ℕ �
   pub chain-body : (j k : ℕ) → j < R → List·Memᴰ k (pages j) → Body n (r .heap) k j (fin k)
   chain-body j k b m = L .mine-body j k (L .mine-own j k b m)
 
-  -- the last page of region j's chain: a lies behind its descriptor, and what ends by e ends in the heap
+  -- the last page of region j's chain: a lies behind its descriptor and not behind e, and what ends by e ends in the heap
   module _ (j : ℕ) (jR : j < R) where
     pub last-own : own (L .mine-top j jR .0) ≡ mine j
     last-own = L .mine-own j (L .mine-top j jR .0) jR (last-in (L .mine-top j jR .1))
@@ -205,13 +226,27 @@ module _ {n N R : ℕ} {own : ℕ → Owner} {fin : ℕ → ℕ} {pages : ℕ �
     pub last-low : L .mine-top j jR .0 * 2 ^ n + 2 ≤ topOf (r .table) j
     last-low = let b = steps-le (L .mine-body j (L .mine-top j jR .0) last-own .filled) in let a = L .mine-top j jR .3 in omega arith
 
+    pub last-high : topOf (r .table) j ≤ L .mine-top j jR .0 * 2 ^ n + 2 ^ n
+    last-high = let b = L .mine-body j (L .mine-top j jR .0) last-own .inside in let a = L .mine-top j jR .3 in omega arith
+
+    -- no other page ends at e
+    pub one-last : (k : ℕ) → endOf (r .table) j ≡ k * 2 ^ n + 2 ^ n → k ≢ L .mine-top j jR .0 → ⊥
+    one-last k e ne = let q = L .mine-top j jR .2 in let b = L .big in starts-differ (2 ^ n) k (L .mine-top j jR .0) (omega arith) ne (omega arith)
+
     -- no other page has a value that begins or ends at a
     pub not-top : (k t : ℕ) → k * 2 ^ n + 2 ≤ t → t ≤ k * 2 ^ n + 2 ^ n → k ≢ L .mine-top j jR .0 → t ≢ topOf (r .table) j
     not-top k t p q ne e =
-        let x = L .mine-top j jR .3 in
-        let y = last-low in
-        let w = L .mine-body j (L .mine-top j jR .0) last-own .inside in
+        let lo = last-low in
+        let hi = last-high in
         one-part (2 ^ n) k (L .mine-top j jR .0) (t - 1) ne (omega arith) (omega arith) (omega arith) (omega arith)
+
+    -- nor does a value that ends later in its page begin there
+    pub below-top : (k t : ℕ) → k * 2 ^ n + 2 ≤ t → t ≤ k * 2 ^ n + 2 ^ n → t < fin k → t ≢ topOf (r .table) j
+    below-top k t p q b = go (ℕ-discrete k (L .mine-top j jR .0))
+      where
+        go : Dec (k ≡ L .mine-top j jR .0) → t ≢ topOf (r .table) j
+        go (yes e) = let a = L .mine-top j jR .3 in let f : fin k ≡ fin (L .mine-top j jR .0) = ap fin e in omega arith
+        go (no ne) = not-top k t p q ne
 
     pub top-in-heap : (m : ℕ) → topOf (r .table) j + m ≤ endOf (r .table) j → topOf (r .table) j + m ≤ length (r .heap)
     top-in-heap m b = let a = last-in-heap in let e = L .mine-top j jR .2 in omega arith

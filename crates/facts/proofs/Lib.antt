@@ -1,13 +1,12 @@
-pub mod Steps
 pub mod Laid
+pub mod Aged
 pub mod Cleared
-pub mod Looked
 pub mod Alike
 pub mod Copied
-pub mod Audited
 pub mod Sound
 pub mod Filled
 pub mod Goods
+pub mod Looked
 pub mod Means
 pub mod Passing
 pub mod Given

@@ -7,26 +7,25 @@ use mathlib.Core.Path.{_≡_, refl, sym, ap, _∙_}
 use mathlib.Core.Logic.{_≢_, _⊎_, inl, inr}
 use mathlib.Core.Bool.{Bool, true, false, _&&_}
 use mathlib.Core.List.{List, _∷_, List·Memᴰ, List·Memᴰ·append-cases}
-use lib.ListN.{length, drop, length-drop}
-use lib.Seq.{getD-drop}
+use lib.ListN.{length, drop}
 use lib.Dec.{leb, ltb, eqb}
 use borrow.Author.Tests.{ltb-true, lt-ltb, eqb-true}
 use Rattle.laws.specs.Lists.{at, all, allBelow, zeros, times}
 use Rattle.laws.proofs.Tests.{both, all-in, below-in}
-use Rattle.laws.proofs.Facts.{all-at, zeros-in}
+use Rattle.laws.proofs.Facts.{all-at, zeros-behind}
 use Rattle.laws.proofs.Once.{has-last, Last, last-in, Linked, linked-once, linked-last, each-once}
 use Rattle.rules.specs.Memory.{Store, pageCount, addressPage, regionOrigin, pageWords, bodyWords, bodyAddress, pageEnd, link, origin, row, endOf, firstOf, topOf, statusOf, firstLink, regionPages, freePages, pagesFrom}
 use Rattle.rules.specs.Words.{isRecord, vals, pageVals, usedOf, fieldsPass}
 use Rattle.rules.specs.Audit.{eachPage, ifLast, rule2, opens, endsWell, lastLink, allChains, rule3, endsAt, rule4, filled, pageFilled, rule5, goodWord, rule6, rule7, constField, rule8, clean, rule9, firstFailing, brokenRule}
 use Rattle.rules.specs.Pages.{begun}
 use Rattle.rules.specs.Refusals.{Admitted, withinLimits, commonTest}
-use Rattle.rules.proofs.Limits.{admits, page-size, whole-pages}
+use Rattle.rules.proofs.Limits.{admits, paged-size, whole-pages}
 use Rattle.rules.proofs.Chains.{length-page, at-page}
 use Rattle.rules.proofs.Whole as W
-use Rattle.facts.proofs.Steps.{Stands, Steps, holds-all}
+use Rattle.rules.proofs.Steps.{Stands, Steps, steps-end, holds-all, listed-steps, all-listed}
 use Rattle.facts.proofs.Laid.{spare≢beyond, mine≢beyond, Owner, spare, beyond, mine, Body, Clean, Layout}
-use Rattle.facts.proofs.Filled.{steps-end, filled-steps, filled-rest, fields-in}
-use Rattle.facts.proofs.Goods.{page-ends, body-holds, body-ends, good-of, const-of}
+use Rattle.facts.proofs.Filled.{filled-rest, fields-in}
+use Rattle.facts.proofs.Goods.{page-ends, body-holds, body-ends, body-listed, good-of, const-of}
 use Rattle.rules.proofs.Limits as Limits
 use Rattle.facts.proofs.Sound.{Within, Good, Constants, Chained, in-free, in-region, Sound, chained-mine, chained-spare}
 
@@ -98,14 +97,13 @@ pub constants-of : (s : Store) → rule8 s ≡ true → Constants (s .consts)
 unfolding rule8
 constants-of s t =
     let (f, g) = both {a = filled 0 (s .consts)} t in
-    let whole = holds-all (s .consts) in
     record {
       fin = 0 + usedOf (vals 0 0 (s .consts));
-      filled = filled-steps (s .consts) (length (s .consts)) 0 (s .consts) whole (omega arith);
-      rest = filled-rest (s .consts) (length (s .consts)) 0 (s .consts) whole (omega arith) f;
+      filled = listed-steps (s .consts) (length (s .consts)) (all-listed (s .consts));
+      rest = filled-rest (s .consts) (length (s .consts)) 0 (s .consts) (holds-all (s .consts)) (omega arith) f;
       fields = λ a l i steps st r q.
           const-of (s .consts) (at (s .consts) (a + suc i))
-          (fields-in (constField (s .consts)) (s .consts) (length (s .consts)) steps l st r (s .consts) whole (omega arith) g i q);
+          (fields-in (constField (s .consts)) (s .consts) (length (s .consts)) steps (all-listed (s .consts)) st r g i q);
     }
 
 -- ---- the facts, rule by rule
@@ -124,7 +122,7 @@ module _ (s : Store) (lim : withinLimits s ≡ true) (comm : commonTest s ≡ tr
   adm = admits (length (s .heap)) (length (s .table)) (length (s .roots)) (length (s .consts)) (s .ctl) lim comm
 
   big : 16 ≤ 2 ^ n
-  big = page-size n (adm .paged .low) (adm .paged .high) .0
+  big = paged-size n (length (s .heap)) (adm .paged) .0
 
   -- 2
   past : (x : ℕ) → 4 * R ≤ x → x < 256 → at (s .table) x ≡ 0
@@ -132,10 +130,8 @@ module _ (s : Store) (lim : withinLimits s ≡ true) (comm : commonTest s ≡ tr
   past x p q =
       let (t, _) = both {a = leb R 64 && zeros (drop (row R) (s .table))} (rules .two) in
       let (_, z) = both {a = leb R 64} t in
-      let e : 4 * R + (x - 4 * R) ≡ x = omega arith in
       let len = adm .table in
-      ap (at (s .table)) (sym e) ∙ sym (getD-drop (4 * R) (s .table) (x - 4 * R) 0)
-      ∙ zeros-in (drop (4 * R) (s .table)) z (x - 4 * R) (omega (arith, length-drop (4 * R) (s .table)))
+      zeros-behind (4 * R) (s .table) z x p (omega arith)
 
   idle : (j : ℕ) → j < R → statusOf (s .table) j ≡ 0
   unfolding rule2
@@ -192,12 +188,10 @@ module _ (s : Store) (lim : withinLimits s ≡ true) (comm : commonTest s ≡ tr
   nobodys = W.free-origin n (s .heap) (s .table) R (s .ctl .first) (three .ends) (three .free-ends) (three .origins) (three .free-origins)
 
   region-there : (j k : ℕ) → List·Memᴰ k (pages j) → k < N
-  unfolding regionPages
-  region-there j k m = W.chain-there n (s .heap) N _ k m
+  region-there = W.region-there n (s .heap) (s .table)
 
   free-there : (k : ℕ) → List·Memᴰ k free → k < N
-  unfolding freePages
-  free-there k m = W.chain-there n (s .heap) N _ k m
+  free-there = W.free-there n (s .heap) (s .table) (s .ctl .first)
 
   region-own : (j k : ℕ) → j < R → List·Memᴰ k (pages j) → ownerIn n (s .heap) k ≡ mine j
   region-own j k b m = owner-is n (s .heap) k (region-there j k m) ∙ ap ownerBy (whose j k b m)
@@ -227,7 +221,7 @@ module _ (s : Store) (lim : withinLimits s ≡ true) (comm : commonTest s ≡ tr
 
   -- a test of each page of each region, at one of them
   at-page-of : (q : ℕ → ℕ → Bool) → eachPage q n (s .heap) (s .table) R ≡ true → (j k : ℕ) → j < R → List·Memᴰ k (pages j) → q j k ≡ true
-  at-page-of q t j k b m = all-in (q j) (pages j) (below-in (λ j. all (q j) (pages j)) R t j b) k m
+  at-page-of = W.each-page-in n (s .heap) (s .table) R
 
   opened : (j : ℕ) → j < R → firstOf (s .table) j ≡ addressPage n (firstOf (s .table) j) * 2 ^ n
   unfolding opens
@@ -243,15 +237,13 @@ module _ (s : Store) (lim : withinLimits s ≡ true) (comm : commonTest s ≡ tr
   body j k b m =
       let there = region-there j k m in
       let (t, _) = both {a = filled (bodyAddress n k) (bodyWords n (s .heap) k)} (at-page-of (pageFilled n (s .heap) (s .table)) (rules .five) j k b m) in
-      let holds = body-holds n (s .heap) (adm .paged) k there in
-      let ends = body-ends n (s .heap) (adm .paged) k there in
-      let steps = filled-steps (s .heap) (k * 2 ^ n + 2 ^ n) (k * 2 ^ n + 2) (bodyWords n (s .heap) k) holds ends in
+      let steps = listed-steps (s .heap) (k * 2 ^ n + 2 ^ n) (body-listed n (s .heap) (adm .paged) k there) in
       let g = big in
       record {
         whose = whose j k b m;
         filled = steps;
         inside = steps-end steps (omega arith);
-        rest = filled-rest (s .heap) (k * 2 ^ n + 2 ^ n) (k * 2 ^ n + 2) (bodyWords n (s .heap) k) holds ends t;
+        rest = filled-rest (s .heap) (k * 2 ^ n + 2 ^ n) (k * 2 ^ n + 2) (bodyWords n (s .heap) k) (body-holds n (s .heap) (adm .paged) k there) (body-ends n (s .heap) (adm .paged) k there) t;
       }
 
   -- 4 and 5: the last page
@@ -276,13 +268,10 @@ module _ (s : Store) (lim : withinLimits s ≡ true) (comm : commonTest s ≡ tr
   cleans k m =
       let t : zeros (drop 1 (pageWords n (s .heap) k)) ≡ true = all-in (clean n (s .heap)) free (rules .nine) k m in
       let len = length-page n (s .heap) k (page-ends n (s .heap) (adm .paged) k (free-there k m)) in
-      let d = length-drop 1 (pageWords n (s .heap) k) in
       record {
         rest = λ x p q.
-            let e : x ≡ k * 2 ^ n + (1 + (x - k * 2 ^ n - 1)) = omega arith in
-            ap (at (s .heap)) e ∙ sym (at-page n (s .heap) k (1 + (x - k * 2 ^ n - 1)) (omega arith))
-            ∙ sym (getD-drop 1 (pageWords n (s .heap) k) (x - k * 2 ^ n - 1) 0)
-            ∙ zeros-in (drop 1 (pageWords n (s .heap) k)) t (x - k * 2 ^ n - 1) (omega arith);
+            let e : x ≡ k * 2 ^ n + (x - k * 2 ^ n) = omega arith in
+            ap (at (s .heap)) e ∙ sym (at-page n (s .heap) k (x - k * 2 ^ n) (omega arith)) ∙ zeros-behind 1 (pageWords n (s .heap) k) t (x - k * 2 ^ n) (omega arith) (omega arith);
       }
 
   laid : Layout n N R (ownerIn n (s .heap)) (endIn n (s .heap)) pages free (begun s)
@@ -308,13 +297,12 @@ module _ (s : Store) (lim : withinLimits s ≡ true) (comm : commonTest s ≡ tr
   -- 6
   fields : (j k a l i : ℕ) → j < R → List·Memᴰ k (pages j) → Steps (s .heap) (k * 2 ^ n + 2 ^ n) (k * 2 ^ n + 2) a → Stands (s .heap) (k * 2 ^ n + 2 ^ n) a l
       → isRecord (at (s .heap) a) ≡ true → i < l → Good n R (s .heap) (s .consts) (at (s .heap) (a + suc i))
-  unfolding rule6 pageVals
+  unfolding rule6
   fields j k a l i b m steps st r q =
       let there = region-there j k m in
       let t = at-page-of (λ j k. all (fieldsPass (goodWord s)) (pageVals n (s .heap) k)) (rules .six) j k b m in
       good-of n R (s .heap) (s .consts) (adm .paged) (at (s .heap) (a + suc i))
-      (fields-in (goodWord s) (s .heap) (k * 2 ^ n + 2 ^ n) steps l st r (bodyWords n (s .heap) k)
-      (body-holds n (s .heap) (adm .paged) k there) (body-ends n (s .heap) (adm .paged) k there) t i q)
+      (fields-in (goodWord s) (s .heap) (k * 2 ^ n + 2 ^ n) steps (body-listed n (s .heap) (adm .paged) k there) st r t i q)
 
   -- 7
   roots : (i : ℕ) → i < length (s .roots) → Good n R (s .heap) (s .consts) (at (s .roots) i)

@@ -2,31 +2,27 @@
 use Prim.Native.Nat.{ℕ, _<_}
 use mathlib.Core.Path.{_≡_, refl, sym, ap, _∙_}
 use mathlib.Core.Logic.{_↔_}
-use mathlib.Core.Bool.{Bool, true, false, false≢true}
+use mathlib.Core.Bool.{false≢true}
 use mathlib.Core.List.{List}
 use lib.ListN.{length}
 use lib.Dec.{leb}
 use native.Mathlib.Omega.{arith}
 use borrow.Author.Tests.{lt-leb, leb-false}
-use Rattle.laws.specs.Choice.{_⇒_∣_}
 use Rattle.laws.specs.Lists.{at}
+use Rattle.laws.proofs.Choices.{choices-agree, second-chosen}
 use Rattle.rules.specs.declared.Refusal.{Refusal}
 use Rattle.rules.specs.declared.Valued.{Valued}
 use Rattle.rules.specs.Memory.{Store}
 use Rattle.rules.specs.Audit.{usedBy}
-use Rattle.rules.specs.Calls.{lookIn, Walked, ends, stops, walkFrom, walkSays, walk, fetch, usedWords}
+use Rattle.rules.specs.Calls.{lookIn, Walked, ends, stops, walkSays, walk, fetch, usedWords}
 use Rattle.rules.specs.Seen.{seen, readBy, path, reading, readAt, Meet}
 use Rattle.facts.proofs.Alike.{MeetIn, Same, readings}
 use Rattle.facts.proofs.Sound.{Passes}
 
 module _ (s : Store) (p : Passes s) where
-  says-choice : (b : Bool) (x y : Walked) → walkSays (s .ctl) (b ⇒ x ∣ y) ≡ (b ⇒ walkSays (s .ctl) x ∣ walkSays (s .ctl) y)
-  says-choice true x y = refl
-  says-choice false x y = refl
-
   pub walk-is : (i : ℕ) (fs : List ℕ) → walk s i fs ≡ walkSays (s .ctl) (path (seen s) (s .roots) i fs)
   unfolding walk path
-  walk-is i fs = rw (p .limits, p .common) (sym (says-choice (leb (length (s .roots)) i) (stops Refusal.NoSuch) (walkFrom (lookIn s) (at (s .roots) i) fs)))
+  walk-is i fs = rw (p .limits, p .common) (choices-agree (λ x y. x ≡ walkSays (s .ctl) y) (leb (length (s .roots)) i) refl refl)
 
   pub fetch-is : (w : ℕ) → fetch s w ≡ lookIn s w
   unfolding fetch
@@ -39,16 +35,12 @@ module _ (s : Store) (p : Passes s) where
   -- no region, no answer
   pub used-known : (j u : ℕ) → usedWords s j ≡ Valued.Done u (s .ctl) → (j < s .ctl .regions) × (usedBy (s .ctl .n) (s .heap) (s .table) j ≡ u)
   unfolding usedWords
-  used-known j u e = go (leb (s .ctl .regions) j) refl
-    where
-      go : (b : Bool) → leb (s .ctl .regions) j ≡ b → (j < s .ctl .regions) × (usedBy (s .ctl .n) (s .heap) (s .table) j ≡ u)
-      go true q =
-          let z : Valued.Refused Refusal.NoRegion (s .ctl) ≡ Valued.Done u (s .ctl) = sym (rw (p .limits, p .common, p .unbroken, q)) ∙ e in
-          absurd (false≢true cc)
-      go false q =
-          let b = leb-false (s .ctl .regions) j q in
-          let z : Valued.Done (usedBy (s .ctl .n) (s .heap) (s .table) j) (s .ctl) ≡ Valued.Done u (s .ctl) = sym (used-is j (omega arith)) ∙ e in
-          (omega arith, cc)
+  used-known j u e =
+      let (known, is) =
+      second-chosen (leb (s .ctl .regions) j) {y = Valued.Refused Refusal.NoRegion (s .ctl)} {z = Valued.Done (usedBy (s .ctl .n) (s .heap) (s .table) j) (s .ctl)}
+      (sym e ∙ rw (p .limits, p .common, p .unbroken)) (λ z. false≢true cc) in
+      let b = leb-false (s .ctl .regions) j known in
+      (omega arith, cc)
 
   reads-says : (x : Walked) → readAt s (walkSays (s .ctl) x) ≡ readBy (seen s) x
   reads-says (stops r) = refl

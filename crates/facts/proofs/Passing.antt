@@ -1,33 +1,33 @@
 -- From facts to the audit's tests: a `Sound` heap passes, so that `Sound` is exactly what the audit's yes means. The chains are the lists
 -- that `Sound` names, since linked pages of which each stands once are at most N.
-use Prim.Native.Nat.{ℕ, zero, suc, _+_, _*_, _/_, _%_, _^_, _≤_, _<_, zero-le}
-use native.Mathlib.Nat.{mul-div-left, mul-mod-left}
+use Prim.Native.Nat.{ℕ, zero, suc, _+_, _*_, _%_, _^_, _≤_, _<_, zero-le}
+use native.Mathlib.Nat.{mul-mod-left}
 use native.Mathlib.Omega.{arith}
 use mathlib.Core.Path.{_≡_, refl, sym, ap, _∙_}
 use mathlib.Core.Logic.{_↔_}
 use mathlib.Core.Bool.{Bool, true, Bool·beq}
-use mathlib.Core.List.{List, List·Memᴰ, List·Memᴰ·head, Memᴰ·append-left, Memᴰ·append-right}
-use lib.ListN.{length, drop, length-drop}
-use lib.Seq.{getD-drop}
+use mathlib.Core.List.{List, List·Memᴰ, Memᴰ·append-left, Memᴰ·append-right}
+use lib.ListN.{length}
 use lib.Dec.{eqb}
 use borrow.Author.Tests.{lt-ltb, le-leb, eq-eqb, ne-eqb}
 use Rattle.laws.specs.Lists.{at, all}
-use Rattle.laws.proofs.Facts.{and-of, all-of, at-all, below-of, zeros-of}
-use Rattle.laws.proofs.Once.{Once, last-one, Linked, stop, goes, linked-ends, once-each}
+use Rattle.laws.proofs.Facts.{and-of, all-of, at-all, below-of, behind-zeros}
+use Rattle.laws.proofs.Once.{Once, last-one, Linked, stop, goes, linked-fits, linked-ends, once-each}
+use Rattle.rules.specs.declared.Control.{Control}
 use Rattle.rules.specs.declared.Plain.{Plain}
-use Rattle.rules.specs.Memory.{Store, limits, pageCount, regionOrigin, pageWords, bodyWords, link, origin, endOf, firstOf, topOf, statusOf, chain, chainEnd, firstLink, regionPages, freePages, pagesFrom}
+use Rattle.rules.specs.Memory.{Store, limits, pageCount, regionOrigin, pageWords, bodyWords, link, origin, endOf, topOf, statusOf, chain, chainEnd, firstLink, regionPages, freePages, pagesFrom}
 use Rattle.rules.specs.Words.{pageVals, usedOf, fieldsPass}
-use Rattle.rules.specs.Audit.{eachPage, ifLast, rule2, opens, endsWell, lastLink, allChains, rule3, endsAt, topFits, rule4, filled, pageFilled, rule5, goodWord, rule6, rule7, constField, rule8, clean, rule9, firstFailing, brokenRule}
+use Rattle.rules.specs.Audit.{eachPage, ifLast, rule2, opens, endsWell, lastLink, allChains, rule3, endsAt, topFits, rule4, pageFilled, rule5, goodWord, rule6, rule7, constField, rule8, clean, rule9, firstFailing, brokenRule}
 use Rattle.rules.specs.Refusals.{Paged, common, withinLimits, commonTest}
 use Rattle.rules.specs.Calls.{audit}
 use Rattle.rules.specs.Collection.{fromSpace}
 use Rattle.rules.proofs.Chains.{length-page, at-page}
 use Rattle.rules.proofs.Whole.{linked-chain, chains-once, of-pages, pages-of, pages-once}
-use Rattle.facts.proofs.Steps.{holds-all}
+use Rattle.rules.proofs.Steps.{holds-all, listed-used, all-listed}
 use Rattle.facts.proofs.Judged.{judged-passes}
-use Rattle.facts.proofs.Laid.{chain-body, chain-known, chain-few, free-known, free-few}
-use Rattle.facts.proofs.Filled.{vals-used, filled-of, fields-of}
-use Rattle.facts.proofs.Goods.{page-ends, body-holds, body-ends, of-good, of-const}
+use Rattle.facts.proofs.Laid.{spare-origin, chain-body, chain-known, chain-few, free-known, free-few}
+use Rattle.facts.proofs.Filled.{filled-of, fields-of}
+use Rattle.facts.proofs.Goods.{page-ends, body-holds, body-ends, body-listed, of-good, of-const}
 use Rattle.facts.proofs.Cleared.{first-link}
 use Rattle.facts.proofs.Sound.{top-lies, Within, Chained, in-free, in-region, Sound, Passes}
 use Rattle.facts.proofs.Means.{Rules, sound-of}
@@ -86,13 +86,18 @@ module _ (s : Store) (S : Sound s) where
 
   nobodys : (k : ℕ) → List·Memᴰ k (S .free) → origin n (s .heap) k ≡ 0
   unfolding origin
-  nobodys k m = let g = S .laid .big in S .laid .free-clean k (S .laid .free-own k m) .rest (k * 2 ^ n + 1) (omega arith) (omega arith)
+  nobodys k m = spare-origin (S .laid) k (S .laid .free-own k m)
 
   -- ---- the regions' pages together
 
+  walked-once : (j : ℕ) → j < R → Once (regionPages n (s .heap) (s .table) j)
+  walked-once j b = rw (pages-are j b) (S .laid .mine-once j b)
+
+  walked-whose : (j k : ℕ) → j < R → List·Memᴰ k (regionPages n (s .heap) (s .table) j) → origin n (s .heap) k ≡ suc j
+  walked-whose j k b m = whose j k b (rw (pages-are j b) at m)
+
   pub from-once : Once (fromSpace s)
-  from-once =
-      pages-once n (s .heap) (s .table) R (λ j b. rw (pages-are j b) (S .laid .mine-once j b)) (λ j k b m. whose j k b (rw (pages-are j b) at m)) R 0 (omega arith)
+  from-once = pages-once n (s .heap) (s .table) R walked-once walked-whose R 0 (omega arith)
 
   pub in-from : (k : ℕ) → List·Memᴰ k (fromSpace s) → (j : ℕ) × (j < R) × List·Memᴰ k (S .pages j)
   in-from k m =
@@ -105,10 +110,6 @@ module _ (s : Store) (S : Sound s) where
 
   -- ---- the common test
 
-  first-fits : (ks : List ℕ) {x : ℕ} → Linked (link n (s .heap)) x ks → ((k : ℕ) → List·Memᴰ k ks → k < N) → x ≤ N
-  first-fits ks stop f = zero-le
-  first-fits ks (goes {k} t) f = f k (List·Memᴰ·head refl)
-
   both-or-none : (ks : List ℕ) {x c : ℕ} → Linked (link n (s .heap)) x ks → c ≡ length ks → Bool·beq (eqb x 0) (eqb c 0) ≡ true
   both-or-none ks stop e = rw e
   both-or-none ks (goes {k} {ks = ms} t) e = rw (e, ne-eqb (suc k) 0 (λ (q : suc k ≡ 0). omega arith), ne-eqb (suc (length ms)) 0 (λ (q : suc (length ms) ≡ 0). omega arith))
@@ -119,7 +120,7 @@ module _ (s : Store) (S : Sound s) where
       let c = S .laid .free-count in
       let m = free-few (S .laid) in
       and-of (and-of (and-of
-      (le-leb _ _ (S .regions)) (le-leb _ _ (first-fits (S .free) (S .laid .free-links) (free-known (S .laid))))) (le-leb (s .ctl .count) N (omega arith)))
+      (le-leb _ _ (S .regions)) (le-leb _ _ (linked-fits (S .laid .free-links) (free-known (S .laid))))) (le-leb (s .ctl .count) N (omega arith)))
       (both-or-none (S .free) (S .laid .free-links) c)
 
   -- ---- the rules
@@ -137,21 +138,12 @@ module _ (s : Store) (S : Sound s) where
   unfolding rule2
   two =
       and-of (and-of (le-leb _ _ (S .regions))
-      (zeros-of (drop (4 * R) (s .table))
-      (λ i b.
-      let len = S .within .table in
-      let d = length-drop (4 * R) (s .table) in
-      getD-drop (4 * R) (s .table) i 0 ∙ S .past (4 * R + i) (omega arith) (omega arith))))
+      (behind-zeros (4 * R) (s .table) (λ x p q. let len = S .within .table in S .past x p (omega arith))))
       (below-of (λ j. eqb (statusOf (s .table) j) 0) R (λ j b. eq-eqb _ _ (S .idle j b)))
 
   chains-all-once : Once (allChains n (s .heap) (s .table) R (s .ctl .first))
   chains-all-once =
-      chains-once n (s .heap) (s .table) R
-      (λ j b. rw (pages-are j b) (S .laid .mine-once j b))
-      (λ j k b m. whose j k b (rw (pages-are j b) at m))
-      (s .ctl .first)
-      (rw free-are (S .laid .free-once))
-      (λ k m. nobodys k (rw free-are at m))
+      chains-once n (s .heap) (s .table) R walked-once walked-whose (s .ctl .first) (rw free-are (S .laid .free-once)) (λ k m. nobodys k (rw free-are at m))
 
   in-chains : (k : ℕ) → Chained R (S .own) (S .pages) (S .free) k → List·Memᴰ k (allChains n (s .heap) (s .table) R (s .ctl .first))
   in-chains k (in-free o m) = Memᴰ·append-right (pagesFrom n (s .heap) (s .table) R 0) (rw free-are m)
@@ -162,10 +154,8 @@ module _ (s : Store) (S : Sound s) where
   unfolding opens
   opened j b =
       let t = S .laid .mine-links j b in
-      let g = S .laid .big in
-      and-of
-      (eq-eqb _ _ (ap (λ x. x % 2 ^ n) (t .1) ∙ mul-mod-left (t .0) (2 ^ n)))
-      (lt-ltb (firstOf (s .table) j / 2 ^ n) N (rw (ap (λ x. x / 2 ^ n) (t .1) ∙ mul-div-left (t .0) {n = 2 ^ n} (omega arith)) (first-fits (S .pages j) (t .2) (chain-known (S .laid) j b))))
+      let there : firstLink n (s .table) j ≤ N = rw (first-page j b) (linked-fits (t .2) (chain-known (S .laid) j b)) in
+      and-of (eq-eqb _ _ (ap (λ x. x % 2 ^ n) (t .1) ∙ mul-mod-left (t .0) (2 ^ n))) (lt-ltb _ N there)
 
   three : rule3 s ≡ true
   unfolding rule3 endsWell
@@ -202,11 +192,9 @@ module _ (s : Store) (S : Sound s) where
 
   -- what stands in a page ends where the list of its values does
   pub ends-at : (j k : ℕ) → j < R → List·Memᴰ k (S .pages j) → k * 2 ^ n + 2 + usedOf (pageVals n (s .heap) k) ≡ S .fin k
-  unfolding pageVals
   ends-at j k b m =
       let x = chain-body (S .laid) j k b m in
-      let there = chain-known (S .laid) j b k m in
-      vals-used (s .heap) (k * 2 ^ n + 2 ^ n) (x .filled) (bodyWords n (s .heap) k) (body-holds n (s .heap) paged k there) (body-ends n (s .heap) paged k there) (x .rest)
+      listed-used (s .heap) (k * 2 ^ n + 2 ^ n) (x .filled) (body-listed n (s .heap) paged k (chain-known (S .laid) j b k m)) (x .rest)
 
   five : rule5 s ≡ true
   unfolding rule5 pageFilled
@@ -220,15 +208,12 @@ module _ (s : Store) (S : Sound s) where
       (if-last j k b m _ (λ e. eq-eqb _ _ (ends-at j k b m ∙ ap (S .fin) e ∙ sym (S .laid .mine-top j b .3)))))
 
   six : rule6 s ≡ true
-  unfolding rule6 pageVals
+  unfolding rule6
   six =
       each-page (λ j k. all (fieldsPass (goodWord s)) (pageVals n (s .heap) k))
       (λ j k b m.
-      let there = chain-known (S .laid) j b k m in
-      fields-of (goodWord s) (s .heap) (k * 2 ^ n + 2 ^ n) (bodyWords n (s .heap) k) (k * 2 ^ n + 2) 0 (body-holds n (s .heap) paged k there) (body-ends n (s .heap) paged k there)
-      (λ a l i st x r q.
-      let e : k * 2 ^ n + 2 + 0 ≡ k * 2 ^ n + 2 = omega arith in
-      of-good n R (s .heap) (s .consts) paged (at (s .heap) (a + suc i)) (S .fields j k a l i b m (rw e at st) x r q)))
+      fields-of (goodWord s) (s .heap) (k * 2 ^ n + 2 ^ n) (body-listed n (s .heap) paged k (chain-known (S .laid) j b k m))
+      (λ a l i st x r q. of-good n R (s .heap) (s .consts) paged (at (s .heap) (a + suc i)) (S .fields j k a l i b m st x r q)))
 
   seven : rule7 s ≡ true
   unfolding rule7
@@ -237,10 +222,9 @@ module _ (s : Store) (S : Sound s) where
   eight : rule8 s ≡ true
   unfolding rule8
   eight =
-      let whole = holds-all (s .consts) in
       and-of
-      (filled-of (s .consts) (length (s .consts)) 0 (s .consts) whole (omega arith) (S .consts .fin) (S .consts .filled) (S .consts .rest))
-      (fields-of (constField (s .consts)) (s .consts) (length (s .consts)) (s .consts) 0 0 whole (omega arith)
+      (filled-of (s .consts) (length (s .consts)) 0 (s .consts) (holds-all (s .consts)) (omega arith) (S .consts .fin) (S .consts .filled) (S .consts .rest))
+      (fields-of (constField (s .consts)) (s .consts) (length (s .consts)) (all-listed (s .consts))
       (λ a l i st x r q. of-const (s .consts) (at (s .consts) (a + suc i)) (S .consts .fields a l i st x r q)))
 
   nine : rule9 s ≡ true
@@ -249,11 +233,8 @@ module _ (s : Store) (S : Sound s) where
       each-free (clean n (s .heap))
       (λ k m.
       let len = length-page n (s .heap) k (page-ends n (s .heap) paged k (free-known (S .laid) k m)) in
-      let d = length-drop 1 (pageWords n (s .heap) k) in
-      zeros-of (drop 1 (pageWords n (s .heap) k))
-      (λ i b.
-      getD-drop 1 (pageWords n (s .heap) k) i 0 ∙ at-page n (s .heap) k (1 + i) (omega arith)
-      ∙ S .laid .free-clean k (S .laid .free-own k m) .rest (k * 2 ^ n + (1 + i)) (omega arith) (omega arith)))
+      behind-zeros 1 (pageWords n (s .heap) k)
+      (λ i p q. at-page n (s .heap) k i (omega arith) ∙ S .laid .free-clean k (S .laid .free-own k m) .rest (k * 2 ^ n + i) (omega arith) (omega arith)))
 
   pub passes-of : Passes s
   passes-of =
@@ -267,6 +248,10 @@ module _ (s : Store) (S : Sound s) where
 
 pub meaning : (s : Store) → Passes s ↔ Sound s
 meaning s = (λ p. sound-of s (p .limits) (p .common) (p .unbroken), λ S. passes-of s S)
+
+-- after a yes the heap is sound
+pub judged-sound : (s : Store) (c : Control) → Plain.Done c ≡ audit s → Sound s
+judged-sound s c e = meaning s .0 (judged-passes s c e)
 
 -- the audit as a call says yes exactly when the heap passes
 pub audit-yes : (s : Store) → (audit s ≡ Plain.Done (s .ctl)) ↔ Passes s

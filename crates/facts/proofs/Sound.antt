@@ -13,8 +13,8 @@ use Rattle.rules.specs.Pages.{begun}
 use Rattle.rules.specs.Audit.{brokenRule}
 use Rattle.rules.specs.Refusals.{withinLimits, commonTest}
 use Rattle.rules.proofs.Limits as Limits
-use Rattle.facts.proofs.Steps.{Stands, Steps, steps-le}
-use Rattle.facts.proofs.Laid.{mine-inj, spare≢mine, Owner, spare, mine, last-in, Layout, chain-body}
+use Rattle.rules.proofs.Steps.{Stands, Steps}
+use Rattle.facts.proofs.Laid.{mine-inj, spare≢mine, Owner, spare, mine, Layout, spare-origin, last-low, last-high}
 
 -- ---- Lengths and n within their limits.
 
@@ -134,8 +134,7 @@ module _ (s : Store) (S : Sound s) where
     where
       go : Chained (s .ctl .regions) (S .own) (S .pages) (S .free) (p .page) → List·Memᴰ (p .page) (S .pages (p .region))
       go (in-free o m) =
-          let b = descriptor-fits in
-          let e = S .laid .free-clean (p .page) o .rest (p .page * 2 ^ s .ctl .n + 1) (omega arith) (omega arith) in
+          let e = spare-origin (S .laid) (p .page) o in
           let w = p .whose in
           absurd (omega arith)
       go (in-region j b o m) =
@@ -150,10 +149,7 @@ module _ (s : Store) (S : Sound s) where
   -- "a lies from e-P+2 to e"
   pub top-lies : (j : ℕ) → j < s .ctl .regions → (endOf (s .table) j + 2 ≤ topOf (s .table) j + 2 ^ s .ctl .n) × (topOf (s .table) j ≤ endOf (s .table) j)
   top-lies j b =
-      let t = S .laid .mine-top j b in
-      let x = chain-body (S .laid) j (t .0) b (last-in (t .1)) in
-      let lo = steps-le (x .filled) in
-      let hi = x .inside in
-      let e = t .2 in
-      let a = t .3 in
+      let lo = last-low (S .laid) j b in
+      let hi = last-high (S .laid) j b in
+      let e = S .laid .mine-top j b .2 in
       omega arith

@@ -10,13 +10,14 @@ use lib.ListN.{length, getD}
 use Rattle.laws.specs.Lists.{all, allFrom}
 use Rattle.rules.specs.declared.Region.{Region}
 use Rattle.rules.specs.Memory.{origin, originRegion, addressPage, chain, regionPages}
-use Rattle.rules.specs.Words.{wordOf, pointerAddress, valsIn, fieldsPass, goodIn}
+use Rattle.rules.specs.Words.{pointerAddress, valsIn, fieldsPass, goodIn}
 use Rattle.rules.specs.Refusals.{Paged}
 use Rattle.rules.specs.Audit.{pagePass, recordsPass}
 use Rattle.rules.specs.Calls.{pointsInto, letGo}
 use Rattle.rules.proofs.Chains.{page-vals}
 use Rattle.rules.proofs.Good.{origin-out}
 use Rattle.rules.proofs.Nests.{pages-go}
+use Rattle.rules.proofs.Pointers.{Is, heap-pointer, const-pointer, whole-number, word-is, heap-word}
 use Rattle.fields.specs.declared.Wanted.{Wanted}
 use Rattle.fields.specs.Passing.{passes}
 
@@ -33,20 +34,19 @@ page-records g n N h e f k p qp r b q l z c s d qs qd = pages-go n N h e f k (pa
 
 -- ---- pointing into region j
 
-into-by : (r n : ℕ) (h : List ℕ) (j w : ℕ) → w % 4 ≡ r → (r ≡ 0 → ⊥) → pointsInto n h j w ≡ false
-unfolding pointsInto wordOf
-into-by zero n h j w e ne = absurd (ne refl)
-into-by (suc zero) n h j w e ne = rw (pointsInto, e)
-into-by (suc (suc zero)) n h j w e ne = rw (pointsInto, e)
-into-by (suc (suc (suc r))) n h j w e ne = rw (pointsInto, e)
-
 pub into-not : (n : ℕ) (h : List ℕ) (j w : ℕ) → (w % 4 ≡ 0 → ⊥) → pointsInto n h j w ≡ false
-into-not n h j w ne = into-by (w % 4) n h j w refl ne
+unfolding pointsInto
+into-not n h j w ne = go (word-is w)
+  where
+    go : Is w → pointsInto n h j w ≡ false
+    go (heap-pointer m q) = absurd (ne m)
+    go (const-pointer m q) = rw (q, pointsInto)
+    go (whole-number m q) = rw (q, pointsInto)
 
 module _ (n : ℕ) (h : List ℕ) (j w a : ℕ) (m : w % 4 ≡ 0) (qa : a ≡ pointerAddress w) where
   into-is : pointsInto n h j w ≡ eqb (origin n h (addressPage n a)) (suc j)
-  unfolding pointsInto wordOf
-  into-is = rw (pointsInto, m, qa)
+  unfolding pointsInto
+  into-is = rw (heap-word w m, pointsInto, qa)
 
   pub into-out : Paged n (length h) → length h ≤ a → pointsInto n h j w ≡ false
   into-out g b = into-is ∙ rw (origin-out n h a g b) (eqb·zero-suc j)

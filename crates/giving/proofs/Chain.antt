@@ -8,18 +8,15 @@ use mathlib.Core.Logic.{_≢_}
 use mathlib.Core.List.{List, [], _∷_, List·Memᴰ, List·Memᴰ·head, List·Memᴰ·tail}
 use lib.ListN.{length}
 use borrow.Author.Tests.{lt-ltb}
-use Rattle.laws.specs.Lists.{lastOr}
 use Rattle.laws.specs.Each.{along}
-use Rattle.laws.proofs.Once.{Once, once-head, once-tail, once-most, last-in, Linked, linked-none, linked-first, linked-same}
+use Rattle.laws.proofs.Once.{Once, once-head, once-tail, Linked, linked-none, linked-first, linked-same}
 use Rattle.rules.specs.Memory.{Store, pageCount, link, firstLink, regionPages}
-use Rattle.rules.specs.Audit.{lastLink}
 use Rattle.rules.specs.Pages.{Run, begun, giveBack, giveBackAll}
-use Rattle.facts.proofs.Given.{last-link}
-use Rattle.facts.proofs.Laid.{mine≢beyond, spare≢beyond}
+use Rattle.facts.proofs.Given.{given-last, given-length, given-link, last-one-of}
+use Rattle.facts.proofs.Laid.{chain-known, chain-few, free-known}
 use Rattle.facts.proofs.Passing.{first-page, pages-are}
 use Rattle.facts.proofs.Sound.{Sound, region-or-free}
 use Rattle.giving.specs.Giving.{linkIn, giveChain}
-use Rattle.giving.proofs.Given.{given-last, given-length, given-link}
 
 -- the pages ks are still to be given back, and f is how many pages may be passed
 pub chain-given : (n N f : ℕ) → 0 < 2 ^ n → (ks : List ℕ) (x : ℕ) (r : Run) → N * 2 ^ n ≤ length (r .heap) → Linked (link n (r .heap)) x ks → Once ks
@@ -44,20 +41,17 @@ chain-given n N (suc f) p (k ∷ ks) x r b t o small out m =
 
 -- ---- a region of a sound heap
 
--- the page that the last link names is one of the pages
-last-one-of : (ks : List ℕ) (k : ℕ) → lastLink ks ≡ suc k → List·Memᴰ k ks
-unfolding lastLink
-last-one-of [] k e = absurd (omega arith)
-last-one-of (y ∷ ys) k e = let w : lastOr y ys ≡ k = omega arith in rw w at (last-in (last-link y ys))
+-- the page that the last link names is free
+last-free : (s : Store) (S : Sound s) (k : ℕ) → s .ctl .last ≡ suc k → List·Memᴰ k (S .free)
+last-free s S k e = last-one-of (S .free) k (sym (S .laid .free-last) ∙ e)
 
-last-below : (N : ℕ) (ks : List ℕ) → ((k : ℕ) → List·Memᴰ k ks → k < N) → lastLink ks ≤ N
-unfolding lastLink
-last-below N [] f = zero-le
-last-below N (y ∷ ys) f = f (lastOr y ys) (last-in (last-link y ys))
-
--- the last free page is a page of the heap
+-- so it is a page of the heap
 pub last-there : (s : Store) (S : Sound s) → s .ctl .last ≤ pageCount (s .ctl .n) (s .heap)
-last-there s S = rw (S .laid .free-last) (last-below _ (S .free) (λ k m. S .laid .known k (spare≢beyond (S .laid .free-own k m))))
+last-there s S = go (s .ctl .last) refl
+  where
+    go : (x : ℕ) → s .ctl .last ≡ x → x ≤ pageCount (s .ctl .n) (s .heap)
+    go zero e = zero-le
+    go (suc k) e = free-known (S .laid) k (last-free s S k e)
 
 module _ (s : Store) (S : Sound s) (j : ℕ) (jR : j < s .ctl .regions) where
   abbrev n : ℕ
@@ -66,15 +60,10 @@ module _ (s : Store) (S : Sound s) (j : ℕ) (jR : j < s .ctl .regions) where
   abbrev N : ℕ
   N = pageCount (s .ctl .n) (s .heap)
 
-  there : (k : ℕ) → List·Memᴰ k (S .pages j) → k < N
-  there k m = S .laid .known k (mine≢beyond (S .laid .mine-own j k jR m))
-
   pub region-given : giveChain n N (firstLink n (s .table) j) (begun s) ≡ giveBackAll n (regionPages n (s .heap) (s .table) j) (begun s)
   region-given =
       let g = S .laid .big in
       let z = S .laid .size in
       rw (pages-are s S j jR, first-page s S j jR)
       (chain-given n N N (omega arith) (S .pages j) (suc (S .laid .mine-links j jR .0)) (begun s) (omega arith) (S .laid .mine-links j jR .2)
-      (S .laid .mine-once j jR) there
-      (λ k m q. region-or-free s S j k jR m (last-one-of (S .free) k (sym (S .laid .free-last) ∙ q)))
-      (once-most N there (S .laid .mine-once j jR)))
+      (S .laid .mine-once j jR) (chain-known (S .laid) j jR) (λ k m q. region-or-free s S j k jR m (last-free s S k q)) (chain-few (S .laid) j jR))

@@ -9,17 +9,12 @@ use Rattle.laws.specs.Lists.{at}
 use Rattle.laws.specs.Each.{along}
 use Rattle.laws.proofs.Each.{along-more, along-none, along-far, along-end}
 use Rattle.rules.specs.declared.Control.{Control}
-use Rattle.rules.specs.Memory.{link}
 use Rattle.rules.specs.Refusals.{Paged}
 use Rattle.rules.specs.Pages.{Run, giveBack}
+use Rattle.rules.proofs.Pages.{link-at}
+use Rattle.facts.proofs.Given.{given-last, given-count}
 use Rattle.pages.specs.Taking.{runOf}
 use Rattle.giving.specs.Giving.{Free, Left, linkIn, giveChain}
-use Rattle.giving.proofs.Given.{given-last, given-count}
-
--- the link of page k, which is the page that a link names
-link-of : (n : ℕ) (h : List ℕ) (k m w : ℕ) → k ≡ m → w ≡ at h (m * 2 ^ n) → w ≡ link n h k
-unfolding link
-link-of n h k m w e q = q ∙ ap (λ x. at h (x * 2 ^ n)) (sym e)
 
 -- of the chain that starts with l₀, what is left from l on leaves what the whole leaves; at most f pages may be passed, and there are N
 pub record Going (N : ℕ) (h₀ : List ℕ) (c₀ : Control) (l₀ : ℕ) (h : List ℕ) (c : Control) (l f : ℕ) : Type 0 where
@@ -56,7 +51,7 @@ module _ (N : ℕ) (h₀ : List ℕ) (c₀ : Control) (l₀ : ℕ) (h : List ℕ
       record {
         run = λ t.
             sym (along-more f N (linkIn (c₀ .n)) (giveBack (c₀ .n)) l l′ k (runOf h t c) (runOf h′ t c′) b (omega arith) (omega arith)
-            (link-of (c₀ .n) h k (l - 1) l′ e q) (g .run t ∙ ap (λ n. giveBack n k (runOf h t c)) (G .exponent)))
+            (link-at (c₀ .n) k _ l′ h (ap (λ x. x * 2 ^ c₀ .n) (sym e)) q) (g .run t ∙ ap (λ n. giveBack n k (runOf h t c)) (G .exponent)))
             ∙ G .run t;
         exponent = g .exponent ∙ G .exponent;
         regions = g .regions ∙ G .regions;

@@ -3,13 +3,14 @@
 use Prim.Native.Nat.{ℕ, zero, suc, _+_, _-_, _≤_, _<_}
 use mathlib.Core.Path.{_≡_, refl, sym, ap, _∙_}
 use mathlib.Core.Logic.{_⊎_, inl, inr, ⊎-elim}
-use mathlib.Core.List.{List, [], _∷_, map, append-nil}
+use mathlib.Core.List.{List, [], _∷_, map}
 use native.Mathlib.Omega.{arith}
 use native.Mathlib.Numerals.{add-one}
 use lib.ListN.{length, take, drop, set, length-drop, length-map}
-use lib.Seq.{paste, paste-suc, length-take-le, getD-drop, drop-length, take-all}
+use lib.Seq.{paste, paste-suc, length-take-le, getD-drop, take-all}
 use Rattle.laws.specs.Lists.{at, put}
 use Rattle.laws.proofs.Lists.{at-put-below, at-put-above}
+use Rattle.laws.proofs.Writes.{sets-whole, put-sets}
 
 pub paste-put : (h : List ℕ) (b : ℕ) (s : List ℕ) (i : ℕ) → i ≤ length s → paste h b s i ≡ put h b (take i s)
 unfolding put
@@ -36,17 +37,20 @@ copy-more h a b m i v l p q w e =
     paste-more h b (drop a h) i v (omega arith) (omega arith)
     (e ∙ at-paste h b (drop a h) i (a + i) (omega arith) (omega arith) out ∙ sym (getD-drop a h i 0))
 
--- the whole list replaced
-pub put-whole : (h ws : List ℕ) → length ws ≡ length h → put h 0 ws ≡ ws
-unfolding put
-put-whole h ws e = let q : 0 + length ws ≡ length h = omega arith in rw (q, drop-length h) (append-nil ws)
-
 -- all m words are there
+pub paste-done : (d : List ℕ) (b : ℕ) (s : List ℕ) (m i : ℕ) → i ≤ m → m ≤ i → m ≤ length s → paste d b s i ≡ put d b (take m s)
+paste-done d b s m i l l′ k = let e : i ≡ m = omega arith in rw e (paste-put d b s m k)
+
 pub copy-done : (h : List ℕ) (a b m i : ℕ) → i ≤ m → m ≤ i → a + m ≤ length h → paste h b (drop a h) i ≡ put h b (take m (drop a h))
-copy-done h a b m i l l′ p =
-    let e : i ≡ m = omega arith in
-    let k : length (drop a h) ≡ length h - a = length-drop a h in
-    rw e (paste-put h b (drop a h) m (omega arith))
+copy-done h a b m i l l′ p = let k : length (drop a h) ≡ length h - a = length-drop a h in paste-done h b (drop a h) m i l l′ (omega arith)
+
+-- all that s has
+pub paste-all : (d : List ℕ) (b : ℕ) (s : List ℕ) (i : ℕ) → i ≤ length s → length s ≤ i → paste d b s i ≡ put d b s
+paste-all d b s i l l′ = paste-put d b s i l ∙ ap (put d b) (take-all i s l′)
+
+-- the whole list replaced
+put-whole : (h ws : List ℕ) → length ws ≡ length h → put h 0 ws ≡ ws
+put-whole h ws e = put-sets h 0 ws (omega arith) ∙ sets-whole h ws e
 
 -- ---- from the front on: every word of d replaced by the word of s at its place
 
@@ -63,11 +67,7 @@ pub front-next : (d s : List ℕ) (i : ℕ) → i ≤ length s → i ≤ length 
 front-next d s i l m = at-paste d 0 s i i l (omega arith) (inr (omega arith))
 
 -- all of it
-pub front-done : (d s : List ℕ) (m i : ℕ) → i ≤ m → m ≤ i → m ≤ length s → paste d 0 s i ≡ put d 0 (take m s)
-front-done d s m i l l′ k = let e : i ≡ m = omega arith in rw e (paste-put d 0 s m k)
-
 pub map-done : (f : ℕ → ℕ) (d : List ℕ) (i : ℕ) → i ≤ length d → length d ≤ i → paste d 0 (map f d) i ≡ map f d
 map-done f d i l l′ =
     let q : length (map f d) ≡ length d = length-map d f in
-    front-done d (map f d) i i (omega arith) (omega arith) (omega arith)
-    ∙ ap (put d 0) (take-all i (map f d) (omega arith)) ∙ put-whole d (map f d) q
+    paste-all d 0 (map f d) i (omega arith) (omega arith) ∙ put-whole d (map f d) q

@@ -1,3 +1,4 @@
+pub mod Choices
 pub mod Loops
 pub mod Lists
 pub mod Tests

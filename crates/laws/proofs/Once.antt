@@ -1,5 +1,6 @@
--- Lists of numbers in which each stands once, chains by links, and the pigeonhole. What follows a number in a chain is decided by the
--- number, so a chain that ends never repeats; and n numbers below n of which each stands once are all of them.
+-- Lists of numbers in which each stands once, chains by links, sums and the pigeonhole. What follows a number in a chain is decided by the
+-- number, so a chain that ends never repeats; what stands once in a list sums to no more than the whole list; and n numbers below n of which
+-- each stands once are all of them.
 use Prim.Native.Nat.{ℕ, zero, suc, _+_, _≤_, _<_, zero-le, suc-le-suc}
 use native.Mathlib.Omega.{arith}
 use native.Mathlib.Nat.{le-refl}
@@ -7,14 +8,16 @@ use native.Mathlib.Decide.{ℕ-discrete}
 use mathlib.Core.Path.{_≡_, refl, sym, ap, _∙_}
 use mathlib.Core.Logic.{_≢_, _⊎_, inl, inr, ∥∥₁-elim}
 use mathlib.Core.HLevel.{⊥-prop}
-use mathlib.Core.Bool.{true, false}
-use mathlib.Core.List.{List, [], _∷_, _++_, List·Memᴰ, List·Memᴰ·head, List·Memᴰ·tail, List·Memᴰ·cases-cons, List·Memᴰ·not-nil, List·Memᴰ·append-cases, List·Nodup, nodup-nil, nodup-cons}
+use mathlib.Core.Bool.{true}
+use mathlib.Core.List.{List, [], _∷_, _++_, List·Memᴰ, List·Memᴰ·head, List·Memᴰ·tail, List·Memᴰ·cases-cons, List·Memᴰ·not-nil, List·Memᴰ·append-cases, Memᴰ·append-left, Memᴰ·append-right, List·Memᴰ·eq-of-singleton, List·Nodup, nodup-nil, nodup-cons}
 use lib.ListN.{length}
 use lib.Dec.{eqb}
 use borrow.Author.Tests.{eqb-true, eq-eqb, ne-eqb}
 use Rattle.laws.specs.Lists.{times, allBelow}
-use Rattle.laws.proofs.Tests.{below-in as test-in}
+use Rattle.laws.specs.Sums.{sumOver}
+use Rattle.laws.proofs.Tests.{below-in}
 use Rattle.laws.proofs.Facts.{below-of, same-test}
+use Rattle.laws.proofs.Sums.{sum-same, sum-append, sum-ones}
 
 pub data Once : List ℕ → Type 0 where
   once-none : Once []
@@ -74,10 +77,16 @@ pub linked-one : {l : ℕ → ℕ} {x : ℕ} {ks ms : List ℕ} → Linked l x k
 linked-one stop stop = refl
 linked-one (goes {k} t) (goes u) = ap (λ r. k ∷ r) (linked-one t u)
 
--- a chain goes on behind each of its numbers, and there it is shorter
-linked-from : {l : ℕ → ℕ} {x k : ℕ} {ks : List ℕ} → Linked l x ks → List·Memᴰ k ks → (ms : List ℕ) × Linked l (l k) ms × (length ms < length ks)
-linked-from {l} (goes {k = y} {ks} t) (List·Memᴰ·head e) = (ks, rw e t, le-refl _)
-linked-from (goes t) (List·Memᴰ·tail m) = let r = linked-from t m in (r .0, r .1, (let b = r .2 in omega arith))
+-- a chain goes on behind each of its numbers, with numbers of its own, and there it is shorter
+pub linked-from : {l : ℕ → ℕ} {x k : ℕ} {ks : List ℕ} → Linked l x ks → List·Memᴰ k ks
+    → (ms : List ℕ) × Linked l (l k) ms × (length ms < length ks) × ((y : ℕ) → List·Memᴰ y ms → List·Memᴰ y ks)
+linked-from {l} (goes {k = y} {ks} t) (List·Memᴰ·head e) = (ks, rw e t, le-refl _, λ y p. List·Memᴰ·tail p)
+linked-from (goes t) (List·Memᴰ·tail m) = let r = linked-from t m in (r .0, r .1, (let b = r .2 in omega arith), λ y p. List·Memᴰ·tail (r .3 y p))
+
+-- the link to a chain of small numbers is small
+pub linked-fits : {l : ℕ → ℕ} {x n : ℕ} {ks : List ℕ} → Linked l x ks → ((k : ℕ) → List·Memᴰ k ks → k < n) → x ≤ n
+linked-fits stop small = zero-le
+linked-fits (goes {k} t) small = small k (List·Memᴰ·head refl)
 
 -- a chain that ends never repeats
 pub linked-once : {l : ℕ → ℕ} {x : ℕ} {ks : List ℕ} → Linked l x ks → Once ks
@@ -122,39 +131,41 @@ has-last (goes {k} {ks} t) = last-of k ks
 
 pub linked-snoc : {l m : ℕ → ℕ} {x z k : ℕ} {ks : List ℕ} → Linked l x ks → Last ks z → Once ks → m z ≡ suc k → m k ≡ 0
     → ((y : ℕ) → List·Memᴰ y ks → y ≢ z → l y ≡ m y) → Linked m x (ks ++ k ∷ [])
-linked-snoc {m = m} {k = k} (goes {k = z} t) only o e e′ same =
-    let t₀ : Linked m (m k) [] = rw e′ stop in
-    let t₁ : Linked m (suc k) (k ∷ []) = goes t₀ in
-    let t₂ : Linked m (m z) (k ∷ []) = rw e t₁ in
-    goes t₂
+linked-snoc {m = m} {k = k} (goes {k = z} t) only o e e′ same = let t₁ : Linked m (m z) (k ∷ []) = rw e (linked-single e′) in goes t₁
 linked-snoc {m = m} {z = z} (goes {k = y} t) (later u) (once-more f o) e e′ same =
     let rest = linked-snoc t u o e e′ (λ w p ne. same w (List·Memᴰ·tail p) ne) in
     goes (rw (same y (List·Memᴰ·head refl) (λ q. f (rw (← q) at (last-in u)))) at rest)
 
+-- more numbers in front leave the last the last
+pub last-append : (ks : List ℕ) {ms : List ℕ} {z : ℕ} → Last ms z → Last (ks ++ ms) z
+last-append [] u = u
+last-append (k ∷ ks) u = later (last-append ks u)
+
 pub last-snoc : {k : ℕ} (ks : List ℕ) → Last (ks ++ k ∷ []) k
-last-snoc [] = only
-last-snoc (y ∷ ys) = later (last-snoc ys)
+last-snoc ks = last-append ks only
 
 pub last-is : {k l : ℕ} (ks : List ℕ) → Last (ks ++ k ∷ []) l → l ≡ k
 last-is ks u = last-one u (last-snoc ks)
 
 pub in-snoc : {k y : ℕ} (ks : List ℕ) → List·Memᴰ y (ks ++ k ∷ []) → List·Memᴰ y ks ⊎ (y ≡ k)
-in-snoc [] (List·Memᴰ·head e) = inr e
-in-snoc [] (List·Memᴰ·tail m) = absurd (List·Memᴰ·not-nil m)
-in-snoc (x ∷ xs) (List·Memᴰ·head e) = inl (List·Memᴰ·head e)
-in-snoc {k} {y} (x ∷ xs) (List·Memᴰ·tail m) = go (in-snoc xs m)
+in-snoc {k} {y} ks m = go (List·Memᴰ·append-cases ks m)
   where
-    go : List·Memᴰ y xs ⊎ (y ≡ k) → List·Memᴰ y (x ∷ xs) ⊎ (y ≡ k)
-    go (inl p) = inl (List·Memᴰ·tail p)
-    go (inr e) = inr e
+    go : List·Memᴰ y ks ⊎ List·Memᴰ y (k ∷ []) → List·Memᴰ y ks ⊎ (y ≡ k)
+    go (inl p) = inl p
+    go (inr q) = inr (List·Memᴰ·eq-of-singleton q)
+
+-- ---- two lists, one after the other
+
+pub once-append : {xs : List ℕ} (ys : List ℕ) → Once xs → Once ys → ((k : ℕ) → List·Memᴰ k xs → List·Memᴰ k ys → ⊥) → Once (xs ++ ys)
+once-append ys once-none o f = o
+once-append ys (once-more {k} {ks} g t) o f = once-more (λ m. go (List·Memᴰ·append-cases ks m)) (once-append ys t o (λ x p q. f x (List·Memᴰ·tail p) q))
+  where
+    go : List·Memᴰ k ks ⊎ List·Memᴰ k ys → ⊥
+    go (inl p) = g p
+    go (inr q) = f k (List·Memᴰ·head refl) q
 
 pub once-snoc : {k : ℕ} {ks : List ℕ} → Once ks → (List·Memᴰ k ks → ⊥) → Once (ks ++ k ∷ [])
-once-snoc once-none f = once-more (λ m. List·Memᴰ·not-nil m) once-none
-once-snoc {k} (once-more {k = y} {ks} g o) f = once-more (λ m. go (in-snoc ks m)) (once-snoc o (λ m. f (List·Memᴰ·tail m)))
-  where
-    go : List·Memᴰ y ks ⊎ (y ≡ k) → ⊥
-    go (inl p) = g p
-    go (inr e) = f (List·Memᴰ·head (sym e))
+once-snoc {k} o f = once-append (k ∷ []) o (once-more (λ m. List·Memᴰ·not-nil m) once-none) (λ x p q. f (rw (List·Memᴰ·eq-of-singleton q) at p))
 
 -- ---- numbers that stand once, and how often a number stands in a list
 
@@ -181,12 +192,11 @@ times-in k (x ∷ xs) b = go (ℕ-discrete k x) (λ q. times-in k xs q)
     go (no ne) rest = List·Memᴰ·tail (rest (rw (times-tail k x xs ne) at b))
 
 pub times-some : (k : ℕ) (xs : List ℕ) → List·Memᴰ k xs → 0 < times k xs
-times-some k (x ∷ xs) m = go (ℕ-discrete k x) (List·Memᴰ·cases-cons m) (λ q. times-some k xs q)
+times-some k (x ∷ xs) m = go (ℕ-discrete k x) (λ q. times-some k xs q)
   where
-    go : Dec (k ≡ x) → (k ≡ x) ⊎ List·Memᴰ k xs → (List·Memᴰ k xs → 0 < times k xs) → 0 < times k (x ∷ xs)
-    go (yes e) c rest = rw (times-head k x xs e) (suc-le-suc zero-le)
-    go (no ne) (inl e) rest = absurd (ne e)
-    go (no ne) (inr m) rest = rw (times-tail k x xs ne) (rest m)
+    go : Dec (k ≡ x) → (List·Memᴰ k xs → 0 < times k xs) → 0 < times k (x ∷ xs)
+    go (yes e) rest = rw (times-head k x xs e) (suc-le-suc zero-le)
+    go (no ne) rest = rw (times-tail k x xs ne) (rest (in-tail ne m))
 times-some k [] m = absurd (List·Memᴰ·not-nil m)
 
 pub member? : (k : ℕ) (xs : List ℕ) → Dec (List·Memᴰ k xs)
@@ -198,12 +208,11 @@ member? k xs = go (times k xs) refl
 
 pub times-once : {xs : List ℕ} → Once xs → (k : ℕ) → List·Memᴰ k xs → times k xs ≡ 1
 times-once once-none k m = absurd (List·Memᴰ·not-nil m)
-times-once (once-more {k = x} {ks} f o) k m = go (ℕ-discrete k x) (List·Memᴰ·cases-cons m) (λ q. times-once o k q)
+times-once (once-more {k = x} {ks} f o) k m = go (ℕ-discrete k x) (λ q. times-once o k q)
   where
-    go : Dec (k ≡ x) → (k ≡ x) ⊎ List·Memᴰ k ks → (List·Memᴰ k ks → times k ks ≡ 1) → times k (x ∷ ks) ≡ 1
-    go (yes e) c rest = times-head k x ks e ∙ ap suc (times-none k ks (λ q. f (rw e at q)))
-    go (no ne) (inl e) rest = absurd (ne e)
-    go (no ne) (inr q) rest = times-tail k x ks ne ∙ rest q
+    go : Dec (k ≡ x) → (List·Memᴰ k ks → times k ks ≡ 1) → times k (x ∷ ks) ≡ 1
+    go (yes e) rest = times-head k x ks e ∙ ap suc (times-none k ks (λ q. f (rw e at q)))
+    go (no ne) rest = times-tail k x ks ne ∙ rest (in-tail ne m)
 
 pub once-times : (xs : List ℕ) → ((k : ℕ) → List·Memᴰ k xs → times k xs ≡ 1) → Once xs
 once-times [] f = once-none
@@ -216,135 +225,64 @@ once-times (x ∷ xs) f = once-more new (once-times xs (λ k m. sym (times-tail 
         let c = times-some x xs m in
         omega arith
 
--- ---- two lists, one after the other
+-- ---- sums over numbers that stand once
 
-pub once-append : {xs : List ℕ} (ys : List ℕ) → Once xs → Once ys → ((k : ℕ) → List·Memᴰ k xs → List·Memᴰ k ys → ⊥) → Once (xs ++ ys)
-once-append ys once-none o f = o
-once-append ys (once-more {k} {ks} g t) o f = once-more (λ m. go (List·Memᴰ·append-cases ks m)) (once-append ys t o (λ x p q. f x (List·Memᴰ·tail p) q))
+-- z counts d more
+pub sum-more : (f g : ℕ → ℕ) (z d : ℕ) {xs : List ℕ} → Once xs → List·Memᴰ z xs → g z ≡ f z + d → ((x : ℕ) → List·Memᴰ x xs → x ≢ z → f x ≡ g x)
+    → sumOver g xs ≡ sumOver f xs + d
+unfolding sumOver
+sum-more f g z d once-none m e same = absurd (List·Memᴰ·not-nil m)
+sum-more f g z d (once-more {k = y} {ks} new o) m e same = go (List·Memᴰ·cases-cons m) (λ q. sum-more f g z d o q e (λ x p. same x (List·Memᴰ·tail p)))
   where
-    go : List·Memᴰ k ks ⊎ List·Memᴰ k ys → ⊥
-    go (inl p) = g p
-    go (inr q) = f k (List·Memᴰ·head refl) q
+    go : (z ≡ y) ⊎ List·Memᴰ z ks → (List·Memᴰ z ks → sumOver g ks ≡ sumOver f ks + d) → g y + sumOver g ks ≡ f y + sumOver f ks + d
+    go (inl q) rest =
+        let a = sum-same f g ks (λ x p. same x (List·Memᴰ·tail p) (λ t. new (rw (t ∙ q) at p))) in
+        let b : g y ≡ f y + d = ap g (sym q) ∙ e ∙ ap (λ x. f x + d) q in
+        omega arith
+    go (inr q) rest =
+        let a = rest q in
+        let b = same y (List·Memᴰ·head refl) (λ t. new (rw (← t) at q)) in
+        omega arith
 
--- ---- pigeonhole
+-- a member, and the rest
+record Split (x : ℕ) (ys : List ℕ) : Type 0 where
+  front : List ℕ
+  back : List ℕ
+  is : ys ≡ front ++ x ∷ back
 
--- xs without k
-unfoldable without : ℕ → List ℕ → List ℕ
-without k [] = []
-without k (x ∷ xs) = elim (eqb k x) [ true ↦ without k xs | false ↦ x ∷ without k xs ]
-
-without-head : (k x : ℕ) (xs : List ℕ) → k ≡ x → without k (x ∷ xs) ≡ without k xs
-unfolding without
-without-head k x xs e = rw (without, eq-eqb k x e)
-
-without-tail : (k x : ℕ) (xs : List ℕ) → k ≢ x → without k (x ∷ xs) ≡ x ∷ without k xs
-unfolding without
-without-tail k x xs ne = rw (without, ne-eqb k x ne)
-
-without-length : (k : ℕ) (xs : List ℕ) → length (without k xs) + times k xs ≡ length xs
-unfolding without times
-without-length k [] = refl
-without-length k (x ∷ xs) = go (ℕ-discrete k x) (without-length k xs)
+split-at : {x : ℕ} (ys : List ℕ) → List·Memᴰ x ys → Split x ys
+split-at [] m = absurd (List·Memᴰ·not-nil m)
+split-at {x} (y ∷ ys) m = go (List·Memᴰ·cases-cons m) (λ q. split-at ys q)
   where
-    go : Dec (k ≡ x) → length (without k xs) + times k xs ≡ length xs → length (without k (x ∷ xs)) + times k (x ∷ xs) ≡ length (x ∷ xs)
-    go (yes e) r = rw (without-head k x xs e, times-head k x xs e) (omega arith)
-    go (no ne) r = rw (without-tail k x xs ne, times-tail k x xs ne) (omega arith)
+    go : (x ≡ y) ⊎ List·Memᴰ x ys → (List·Memᴰ x ys → Split x ys) → Split x (y ∷ ys)
+    go (inl e) rest = record { front = []; back = ys; is = ap (λ z. z ∷ ys) (sym e) }
+    go (inr q) rest = let t = rest q in record { front = y ∷ t .front; back = t .back; is = ap (λ zs. y ∷ zs) (t .is) }
 
-without-in : (k : ℕ) (xs : List ℕ) (y : ℕ) → y ≢ k → List·Memᴰ y xs → List·Memᴰ y (without k xs)
-without-in k [] y ne m = absurd (List·Memᴰ·not-nil m)
-without-in k (x ∷ xs) y ne m = go (ℕ-discrete k x) (List·Memᴰ·cases-cons m) (λ q. without-in k xs y ne q)
+rest-in : {x y : ℕ} (us vs : List ℕ) → List·Memᴰ y (us ++ x ∷ vs) → y ≢ x → List·Memᴰ y (us ++ vs)
+rest-in {x} {y} us vs m ne = go (List·Memᴰ·append-cases us m)
   where
-    go : Dec (k ≡ x) → (y ≡ x) ⊎ List·Memᴰ y xs → (List·Memᴰ y xs → List·Memᴰ y (without k xs)) → List·Memᴰ y (without k (x ∷ xs))
-    go (yes e) (inl q) rest = absurd (ne (q ∙ sym e))
-    go (yes e) (inr q) rest = rw (without-head k x xs e) (rest q)
-    go (no f) (inl q) rest = rw (without-tail k x xs f) (List·Memᴰ·head q)
-    go (no f) (inr q) rest = rw (without-tail k x xs f) (List·Memᴰ·tail (rest q))
+    go : List·Memᴰ y us ⊎ List·Memᴰ y (x ∷ vs) → List·Memᴰ y (us ++ vs)
+    go (inl q) = Memᴰ·append-left vs q
+    go (inr q) = Memᴰ·append-right us (in-tail ne q)
 
--- what stands once and is all in ys is no longer than ys
-pub once-fits : {xs : List ℕ} → Once xs → (ys : List ℕ) → ((k : ℕ) → List·Memᴰ k xs → List·Memᴰ k ys) → length xs ≤ length ys
-once-fits once-none ys f = zero-le
-once-fits (once-more {k} g o) ys f =
-    let a = without-length k ys in
-    let b = times-some k ys (f k (List·Memᴰ·head refl)) in
-    let c = once-fits o (without k ys) (λ y m. without-in k ys y (λ e. g (rw e at m)) (f y (List·Memᴰ·tail m))) in
-    omega arith
-
--- the numbers below n
-unfoldable pub below : ℕ → List ℕ
-below zero = []
-below (suc n) = n ∷ below n
-
-pub below-length : (n : ℕ) → length (below n) ≡ n
-unfolding below
-below-length zero = refl
-below-length (suc n) = ap suc (below-length n)
-
-pub below-in : (n k : ℕ) → k < n → List·Memᴰ k (below n)
-unfolding below
-below-in zero k b = absurd (omega arith)
-below-in (suc n) k b = go (ℕ-discrete k n) (λ q. below-in n k q)
+-- what stands once and counts only where it is in ys sums to no more than ys does
+pub once-sum : (f : ℕ → ℕ) {xs : List ℕ} → Once xs → (ys : List ℕ) → ((x : ℕ) → List·Memᴰ x xs → List·Memᴰ x ys ⊎ (f x ≡ 0)) → sumOver f xs ≤ sumOver f ys
+unfolding sumOver
+once-sum f once-none ys all = zero-le
+once-sum f (once-more {k = x} {ks} new o) ys all = go (all x (List·Memᴰ·head refl)) (λ zs sub. once-sum f o zs sub)
   where
-    go : Dec (k ≡ n) → (k < n → List·Memᴰ k (below n)) → List·Memᴰ k (n ∷ below n)
-    go (yes e) rest = List·Memᴰ·head e
-    go (no ne) rest = List·Memᴰ·tail (rest (omega arith))
-
-pub in-below : (n k : ℕ) → List·Memᴰ k (below n) → k < n
-unfolding below
-in-below zero k m = absurd (List·Memᴰ·not-nil m)
-in-below (suc n) k m = go (List·Memᴰ·cases-cons m) (λ q. in-below n k q)
-  where
-    go : (k ≡ n) ⊎ List·Memᴰ k (below n) → (List·Memᴰ k (below n) → k < n) → k < suc n
-    go (inl e) rest = omega arith
-    go (inr q) rest = let b = rest q in omega arith
-
-pub below-once : (n : ℕ) → Once (below n)
-unfolding below
-below-once zero = once-none
-below-once (suc n) = once-more (λ m. let b = in-below n n m in omega arith) (below-once n)
-
-module _ (n : ℕ) {xs : List ℕ} (small : (k : ℕ) → List·Memᴰ k xs → k < n) where
-  -- numbers below n that stand once are at most n
-  pub once-most : Once xs → length xs ≤ n
-  once-most o = let b = once-fits o (below n) (λ k m. below-in n k (small k m)) in omega (arith, below-length n)
-
-  -- and n of them are all
-  pub once-full : Once xs → length xs ≡ n → (k : ℕ) → k < n → List·Memᴰ k xs
-  once-full o e k b = go (member? k xs)
-    where
-      smaller : (y : ℕ) → List·Memᴰ y (k ∷ xs) → List·Memᴰ y (below n)
-      smaller y m = by (List·Memᴰ·cases-cons m)
-        where
-          by : (y ≡ k) ⊎ List·Memᴰ y xs → List·Memᴰ y (below n)
-          by (inl q) = below-in n y (omega arith)
-          by (inr q) = below-in n y (small y q)
-
-      go : Dec (List·Memᴰ k xs) → List·Memᴰ k xs
-      go (yes m) = m
-      go (no f) = let c = once-fits (once-more f o) (below n) smaller in absurd (omega (arith, below-length n))
-
-  -- a list that stands once and has all has n
-  pub full-length : Once xs → ((k : ℕ) → k < n → List·Memᴰ k xs) → length xs ≡ n
-  full-length o f =
-      let a = once-most o in
-      let b = once-fits (below-once n) xs (λ k m. f k (in-below n k m)) in
-      omega (arith, below-length n)
-
-  -- "exactly once", as a test of each number below n, says: each stands once, and all are there
-  pub each-once : allBelow (λ k. eqb (times k xs) 1) n ≡ true → Once xs × ((k : ℕ) → k < n → List·Memᴰ k xs)
-  each-once t =
-      let one : (k : ℕ) → k < n → times k xs ≡ 1 = λ k b. eqb-true (times k xs) 1 (test-in (λ k. eqb (times k xs) 1) n t k b) in
-      (once-times xs (λ k m. one k (small k m)), λ k b. times-in k xs (let e = one k b in omega arith))
-
-pub once-each : (n : ℕ) {xs : List ℕ} → Once xs → ((k : ℕ) → k < n → List·Memᴰ k xs) → allBelow (λ k. eqb (times k xs) 1) n ≡ true
-once-each n {xs} o f = below-of (λ k. eqb (times k xs) 1) n (λ k b. eq-eqb (times k xs) 1 (times-once o k (f k b)))
-
--- so that among numbers below n of which each stands once, counting is enough
-pub once-by-count : (n : ℕ) {xs : List ℕ} → ((k : ℕ) → List·Memᴰ k xs → k < n) → Once xs
-    → allBelow (λ k. eqb (times k xs) 1) n ≡ eqb (length xs) n
-once-by-count n {xs} small o =
-    same-test _ _
-    (λ t. eq-eqb (length xs) n (full-length n small o (each-once n small t .1)))
-    (λ t. once-each n o (once-full n small o (eqb-true (length xs) n t)))
+    go : List·Memᴰ x ys ⊎ (f x ≡ 0) → ((zs : List ℕ) → ((y : ℕ) → List·Memᴰ y ks → List·Memᴰ y zs ⊎ (f y ≡ 0)) → sumOver f ks ≤ sumOver f zs) → f x + sumOver f ks ≤ sumOver f ys
+    go (inr z) rest = let r = rest ys (λ y m. all y (List·Memᴰ·tail m)) in omega arith
+    go (inl q) rest =
+        let s = split-at ys q in
+        let r = rest (s .front ++ s .back) (λ y m. left s y m (all y (List·Memᴰ·tail m))) in
+        let a = ap (sumOver f) (s .is) ∙ sum-append f (s .front) (x ∷ s .back) in
+        let b = sum-append f (s .front) (s .back) in
+        omega arith
+      where
+        left : (s : Split x ys) (y : ℕ) → List·Memᴰ y ks → List·Memᴰ y ys ⊎ (f y ≡ 0) → List·Memᴰ y (s .front ++ s .back) ⊎ (f y ≡ 0)
+        left s y m (inr z) = inr z
+        left s y m (inl t) = inl (rest-in (s .front) (s .back) (rw (s .is) at t) (λ e. new (rw e at m)))
 
 -- ---- the numbers from k on
 
@@ -375,10 +313,65 @@ counting-in (suc m) k i a b = go (ℕ-discrete i k) (λ p q. counting-in m (suc 
     go (yes e) rest = List·Memᴰ·head e
     go (no ne) rest = List·Memᴰ·tail (rest (omega arith) (omega arith))
 
+pub counting-once : (m k : ℕ) → Once (counting m k)
+unfolding counting
+counting-once zero k = once-none
+counting-once (suc m) k = once-more (λ i. let b = in-counting m (suc k) k i .0 in omega arith) (counting-once m (suc k))
+
 pub counting-linked : (l : ℕ → ℕ) (N : ℕ) → ((i : ℕ) → suc i < N → l i ≡ suc (suc i)) → ((i : ℕ) → suc i ≡ N → l i ≡ 0) → (m k : ℕ) → k + suc m ≡ N → Linked l (suc k) (counting (suc m) k)
 unfolding counting
-counting-linked l N next last zero k e = let t : Linked l (l k) [] = rw (last k (omega arith)) stop in goes t
+counting-linked l N next last zero k e = linked-single (last k (omega arith))
 counting-linked l N next last (suc m) k e =
     let r = counting-linked l N next last m (suc k) (omega arith) in
     let t : Linked l (l k) (counting (suc m) (suc k)) = rw (next k (omega arith)) r in
     goes t
+
+-- ---- pigeonhole
+
+-- what stands once and is all in ys is no longer than ys
+pub once-fits : {xs : List ℕ} → Once xs → (ys : List ℕ) → ((k : ℕ) → List·Memᴰ k xs → List·Memᴰ k ys) → length xs ≤ length ys
+once-fits {xs} o ys f = let a = once-sum (λ x. 1) o ys (λ k m. inl (f k m)) in omega (arith, sum-ones xs, sum-ones ys)
+
+-- numbers below n that stand once are at most n
+pub once-most : (n : ℕ) {xs : List ℕ} → ((k : ℕ) → List·Memᴰ k xs → k < n) → Once xs → length xs ≤ n
+once-most n {xs} small o = let b = once-fits o (counting n 0) (λ k m. counting-in n 0 k zero-le (omega (arith, small k m))) in omega (arith, counting-length n 0)
+
+module _ (n : ℕ) {xs : List ℕ} (small : (k : ℕ) → List·Memᴰ k xs → k < n) where
+  -- and n of them are all
+  pub once-full : Once xs → length xs ≡ n → (k : ℕ) → k < n → List·Memᴰ k xs
+  once-full o e k b = go (member? k xs)
+    where
+      smaller : (y : ℕ) → List·Memᴰ y (k ∷ xs) → y < n
+      smaller y m = by (List·Memᴰ·cases-cons m)
+        where
+          by : (y ≡ k) ⊎ List·Memᴰ y xs → y < n
+          by (inl q) = omega arith
+          by (inr q) = small y q
+
+      go : Dec (List·Memᴰ k xs) → List·Memᴰ k xs
+      go (yes m) = m
+      go (no f) = let c = once-most n smaller (once-more f o) in absurd (omega arith)
+
+  -- a list that stands once and has all has n
+  pub full-length : Once xs → ((k : ℕ) → k < n → List·Memᴰ k xs) → length xs ≡ n
+  full-length o f =
+      let a = once-most n small o in
+      let b = once-fits (counting-once n 0) xs (λ k m. f k (let t = in-counting n 0 k m .1 in omega arith)) in
+      omega (arith, counting-length n 0)
+
+  -- "exactly once", as a test of each number below n, says: each stands once, and all are there
+  pub each-once : allBelow (λ k. eqb (times k xs) 1) n ≡ true → Once xs × ((k : ℕ) → k < n → List·Memᴰ k xs)
+  each-once t =
+      let one : (k : ℕ) → k < n → times k xs ≡ 1 = λ k b. eqb-true (times k xs) 1 (below-in (λ k. eqb (times k xs) 1) n t k b) in
+      (once-times xs (λ k m. one k (small k m)), λ k b. times-in k xs (let e = one k b in omega arith))
+
+pub once-each : (n : ℕ) {xs : List ℕ} → Once xs → ((k : ℕ) → k < n → List·Memᴰ k xs) → allBelow (λ k. eqb (times k xs) 1) n ≡ true
+once-each n {xs} o f = below-of (λ k. eqb (times k xs) 1) n (λ k b. eq-eqb (times k xs) 1 (times-once o k (f k b)))
+
+-- so that among numbers below n of which each stands once, counting is enough
+pub once-by-count : (n : ℕ) {xs : List ℕ} → ((k : ℕ) → List·Memᴰ k xs → k < n) → Once xs
+    → allBelow (λ k. eqb (times k xs) 1) n ≡ eqb (length xs) n
+once-by-count n {xs} small o =
+    same-test _ _
+    (λ t. eq-eqb (length xs) n (full-length n small o (each-once n small t .1)))
+    (λ t. once-each n o (once-full n small o (eqb-true (length xs) n t)))

@@ -5,9 +5,8 @@ use native.Mathlib.Nat.{zero-add, add-zero}
 use native.Mathlib.Omega.{arith}
 use native.Mathlib.Decide.{ℕ-discrete}
 use mathlib.Core.Path.{_≡_, refl, sym, ap, _∙_}
-use mathlib.Core.Logic.{_⊎_, inl, inr}
-use mathlib.Core.Bool.{Bool, true, false, _&&_, and-true, false≢true}
-use mathlib.Core.List.{List, [], _∷_, List·Memᴰ, List·Memᴰ·cases-cons}
+use mathlib.Core.Bool.{Bool, true, false, _&&_, and-true, and-assoc, false≢true}
+use mathlib.Core.List.{List, [], _∷_, List·Memᴰ, List·Memᴰ·head, List·Memᴰ·tail}
 use lib.ListN.{length, getD, drop, drop-of-length-le}
 use lib.Seq.{slice, slice-cons, drop-cons, take-length}
 use lib.Dec.{eqb}
@@ -25,10 +24,6 @@ is-eqb x w y e q = eq-eqb w y (sym e ∙ q)
 pub not-eqb : (x w y : ℕ) → x ≡ w → (x ≡ y → ⊥) → eqb w y ≡ false
 not-eqb x w y e ne = ne-eqb w y (λ q. ne (e ∙ q))
 
--- x is not y, and y is w
-pub not-that : (x y w : ℕ) → y ≡ w → (x ≡ y → ⊥) → x ≡ w → ⊥
-not-that x y w e ne q = ne (q ∙ sym e)
-
 pub and-left : (a b : Bool) → (a && b) ≡ true → a ≡ true
 and-left true b e = refl
 and-left false b e = e
@@ -40,57 +35,50 @@ and-right false b e = absurd (false≢true cc)
 pub both : {a b : Bool} → (a && b) ≡ true → (a ≡ true) × (b ≡ true)
 both {a} {b} e = (and-left a b e, and-right a b e)
 
-pub and-yes : (a : Bool) → (a && true) ≡ a
-and-yes true = refl
-and-yes false = refl
-
-pub and-assoc : (a b c : Bool) → (a && b && c) ≡ (a && (b && c))
-and-assoc true b c = refl
-and-assoc false b c = refl
+-- a test and then the others
+pub then-and : (a b : Bool) → (elim a [ true ↦ b | false ↦ false ]) ≡ (a && b)
+then-and true b = refl
+then-and false b = refl
 
 module _ {A : Type 0} (p : A → Bool) where
-  pub all-in : (xs : List A) → all p xs ≡ true → (x : A) → List·Memᴰ x xs → p x ≡ true
+  -- one turn of a test of all
+  all-step : (x : A) (xs : List A) → all p (x ∷ xs) ≡ (p x && all p xs)
   unfolding all
+  all-step x xs = then-and (p x) (all p xs)
+
+  pub all-cons : (x : A) (xs : List A) → all p (x ∷ xs) ≡ true → (p x ≡ true) × (all p xs ≡ true)
+  all-cons x xs t = both (sym (all-step x xs) ∙ t)
+
+  pub cons-all : (x : A) (xs : List A) → p x ≡ true → all p xs ≡ true → all p (x ∷ xs) ≡ true
+  cons-all x xs e t = all-step x xs ∙ rw (e, t)
+
+  pub all-in : (xs : List A) → all p xs ≡ true → (x : A) → List·Memᴰ x xs → p x ≡ true
   all-in [] t x m = elim m [ ]
-  all-in (y ∷ ys) t x m = go (p y) refl (List·Memᴰ·cases-cons m) (λ u. all-in ys u)
-    where
-      go : (b : Bool) → p y ≡ b → (x ≡ y) ⊎ List·Memᴰ x ys → (all p ys ≡ true → (x : A) → List·Memᴰ x ys → p x ≡ true) → p x ≡ true
-      go true e (inl q) rest = ap p q ∙ e
-      go true e (inr q) rest = rest (rw (e, all) at t) x q
-      go false e q rest = absurd (false≢true (rw (e, all) at t))
+  all-in (y ∷ ys) t x (List·Memᴰ·head q) = ap p q ∙ all-cons y ys t .0
+  all-in (y ∷ ys) t x (List·Memᴰ·tail m) = all-in ys (all-cons y ys t .1) x m
+
+  -- and of one with what comes after it
+  pub all-turn : (x : A) (xs : List A) (r : Bool) → (all p (x ∷ xs) && r) ≡ (p x && (all p xs && r))
+  all-turn x xs r = ap (λ b. b && r) (all-step x xs) ∙ and-assoc (p x) (all p xs) r
+
+pub from-step : (p : ℕ → Bool) (m j : ℕ) → allFrom p (suc m) j ≡ (p j && allFrom p m (suc j))
+unfolding allFrom
+from-step p m j = then-and (p j) (allFrom p m (suc j))
+
+pub from-go : (p : ℕ → Bool) (m j : ℕ) → 0 < m → allFrom p m j ≡ (p j && allFrom p (m - 1) (j + 1))
+from-go p zero j l = absurd (omega arith)
+from-go p (suc m) j l = rw (sub-one (suc m), add-one j) (from-step p m j)
 
 pub from-in : (p : ℕ → Bool) (m j : ℕ) → allFrom p m j ≡ true → (i : ℕ) → j ≤ i → i < j + m → p i ≡ true
-unfolding allFrom
 from-in p zero j t i a b = absurd (omega arith)
-from-in p (suc m) j t i a b = go (p j) refl (ℕ-discrete i j) (λ u. from-in p m (suc j) u)
+from-in p (suc m) j t i a b = go (ℕ-discrete i j) (both {a = p j} (sym (from-step p m j) ∙ t)) (λ u. from-in p m (suc j) u)
   where
-    go : (q : Bool) → p j ≡ q → Dec (i ≡ j) → (allFrom p m (suc j) ≡ true → (i : ℕ) → suc j ≤ i → i < suc j + m → p i ≡ true) → p i ≡ true
-    go true e (yes q) rest = ap p q ∙ e
-    go true e (no ne) rest = rest (rw (e, allFrom) at t) i (omega arith) (omega arith)
-    go false e q rest = absurd (false≢true (rw (e, allFrom) at t))
+    go : Dec (i ≡ j) → (p j ≡ true) × (allFrom p m (suc j) ≡ true) → (allFrom p m (suc j) ≡ true → (i : ℕ) → suc j ≤ i → i < suc j + m → p i ≡ true) → p i ≡ true
+    go (yes q) t rest = ap p q ∙ t .0
+    go (no ne) t rest = rest (t .1) i (omega arith) (omega arith)
 
 pub below-in : (p : ℕ → Bool) (n : ℕ) → allBelow p n ≡ true → (i : ℕ) → i < n → p i ≡ true
 below-in p n t i b = from-in p n 0 t i zero-le (omega arith)
-
--- ---- tests of all, with what comes after them
-
-module _ {A : Type 0} (p : A → Bool) where
-  pub all-turn : (x : A) (xs : List A) (r : Bool) → (all p (x ∷ xs) && r) ≡ (p x && (all p xs && r))
-  unfolding all
-  all-turn x xs r = go (p x) refl
-    where
-      go : (b : Bool) → p x ≡ b → (all p (x ∷ xs) && r) ≡ (p x && (all p xs && r))
-      go true e = rw (e, all)
-      go false e = rw (e, all)
-
-pub from-go : (p : ℕ → Bool) (m j : ℕ) → 0 < m → allFrom p m j ≡ (p j && allFrom p (m - 1) (j + 1))
-unfolding allFrom
-from-go p zero j l = absurd (omega arith)
-from-go p (suc m) j l = rw (sub-one (suc m), add-one j) (go (p j) refl)
-  where
-    go : (b : Bool) → p j ≡ b → allFrom p (suc m) j ≡ (p j && allFrom p m (suc j))
-    go true e = rw (e, allFrom)
-    go false e = rw (e, allFrom)
 
 pub from-next : (p : ℕ → Bool) (m j : ℕ) → 0 < m → p j ≡ true → allFrom p m j ≡ allFrom p (m - 1) (j + 1)
 from-next p m j l e = from-go p m j l ∙ ap (λ b. b && allFrom p (m - 1) (j + 1)) e
@@ -107,14 +95,11 @@ from-end p (suc m) j l = absurd (omega arith)
 pub from-add : (p : ℕ → Bool) (a b j : ℕ) → allFrom p (a + b) j ≡ (allFrom p a j && allFrom p b (j + a))
 unfolding allFrom
 from-add p zero b j = rw (zero-add, add-zero)
-from-add p (suc a) b j = go (p j) refl (from-add p a b (suc j))
-  where
-    go : (t : Bool) → p j ≡ t → allFrom p (a + b) (suc j) ≡ (allFrom p a (suc j) && allFrom p b (suc j + a)) → allFrom p (suc a + b) j ≡ (allFrom p (suc a) j && allFrom p b (j + suc a))
-    go true e r =
-        let q : suc a + b ≡ suc (a + b) = omega arith in
-        let k : j + suc a ≡ suc j + a = omega arith in
-        rw (q, k, allFrom, e) r
-    go false e r = let q : suc a + b ≡ suc (a + b) = omega arith in rw (q, allFrom, e)
+from-add p (suc a) b j =
+    let q : suc a + b ≡ suc (a + b) = omega arith in
+    let k : j + suc a ≡ suc j + a = omega arith in
+    rw (q, k)
+    (from-step p (a + b) j ∙ ap (λ t. p j && t) (from-add p a b (suc j)) ∙ sym (and-assoc (p j) (allFrom p a (suc j)) (allFrom p b (suc j + a))) ∙ ap (λ t. t && allFrom p b (suc j + a)) (sym (from-step p a j)))
 
 -- fields, from address f up to address e
 module _ (p : ℕ → Bool) (h : List ℕ) (f e : ℕ) (r : Bool) where

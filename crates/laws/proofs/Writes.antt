@@ -1,15 +1,14 @@
 -- Runs of stores: `sets l i vs` is l with vs stored one after the other from place i on. Two runs that follow one another are one run, and
--- a part that was lent and given back is a run of stores. All by recursion on the words stored.
+-- words that are put into a list are a run of stores. All by recursion on the words stored.
 use Prim.Native.Nat.{ℕ, suc, _+_, _-_, _≤_}
 use mathlib.Core.Path.{_≡_, sym, ap, _∙_}
 use mathlib.Core.List.{List, [], _∷_, _++_, append-nil}
 use native.Mathlib.Nat.{add-zero, zero-add}
 use native.Mathlib.Numerals.{add-one}
 use native.Mathlib.Omega.{arith}
-use lib.ListN.{length, take, drop, set, drop-of-length-le}
+use lib.ListN.{length, drop, set, drop-of-length-le}
 use lib.Seq.{sets, sets-eq}
 use Rattle.laws.specs.Lists.{put}
-use Rattle.laws.proofs.Parts.{part-put}
 
 module _ {A : Type 0} where
   pub sets-append : (l : List A) (i : ℕ) (vs ws : List A) → sets l i (vs ++ ws) ≡ sets (sets l i vs) (i + length vs) ws
@@ -31,7 +30,6 @@ module _ {A : Type 0} where
       ∙ ap (λ r. vs ++ r) (drop-of-length-le l {i = length vs} (omega arith))
       ∙ append-nil vs
 
--- a part from a up to e, lent and given back as ys
-pub part-sets : (l : List ℕ) (a e : ℕ) (ys : List ℕ) → a ≤ e → e ≤ length l → length ys ≡ e - a → take a l ++ (ys ++ drop (e - a) (drop a l)) ≡ sets l a ys
+pub put-sets : (l : List ℕ) (a : ℕ) (ys : List ℕ) → a + length ys ≤ length l → put l a ys ≡ sets l a ys
 unfolding put
-part-sets l a e ys b c q = part-put l a e ys (omega arith) ∙ sym (sets-eq ys l a (omega arith))
+put-sets l a ys b = sym (sets-eq ys l a b)

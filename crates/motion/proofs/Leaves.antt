@@ -1,5 +1,5 @@
 -- What the tests of the leaves say as facts.
-use Prim.Native.Nat.{ℕ, _+_, _*_, _^_, _≤_}
+use Prim.Native.Nat.{ℕ, _+_, _≤_}
 use mathlib.Core.Path.{_≡_, refl, sym, _∙_}
 use mathlib.Core.Logic.{_⊎_, inl, inr}
 use mathlib.Core.Bool.{Bool, true, false, _||_}
@@ -7,7 +7,6 @@ use lib.Dec.{leb}
 use borrow.Author.Tests.{leb-true}
 use Rattle.laws.proofs.Tests.{both}
 use Rattle.motion.specs.Leaves.{apart}
-use Rattle.rules.proofs.Limits.{address-small}
 
 -- m words at a and m words at b lie within a size, and apart
 pub record Apart (m a b size : ℕ) : Type 0 where
@@ -27,7 +26,3 @@ apart-says m a b size t e q =
     let (x, y) = both (sym e ∙ q) in
     let (u, v) = both x in
     record { first = leb-true _ _ u; second = leb-true _ _ v; clear = either m a b y }
-
--- a page of a heap starts at a small address
-pub page-below : (n k : ℕ) → n ≤ 8 → k ≤ 65536 → k * 2 ^ n ≤ 16777216
-page-below n k a b = address-small n k b a .0

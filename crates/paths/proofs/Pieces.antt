@@ -6,62 +6,45 @@ use mathlib.Core.Bool.{Bool, true, false, not, false≢true}
 use mathlib.Core.List.{List, [], _∷_, _++_}
 use native.Mathlib.Omega.{arith}
 use lib.Dec.{leb}
-use lib.ListN.{length, take, drop, take-append-drop, length-drop}
-use lib.Seq.{drop-drop, take-all}
+use lib.ListN.{length, take, drop, take-append-drop}
+use lib.Seq.{drop-drop}
 use Rattle.laws.specs.Choice.{_⇒_∣_}
 use Rattle.laws.specs.Lists.{at}
+use Rattle.laws.proofs.Choices.{choices-agree}
+use Rattle.laws.proofs.Parts.{part-rest}
 use Rattle.rules.specs.declared.Control.{Control}
 use Rattle.rules.specs.declared.Refusal.{Refusal}
 use Rattle.rules.specs.declared.Valued.{Valued}
 use Rattle.rules.specs.Words.{wordOf, isRecord}
 use Rattle.rules.specs.Calls.{headerIn, fieldsIn, isThere, isNumber, Walked, ends, stops, stepInto, walkFrom, walkSays}
+use Rattle.rules.proofs.Walks.{walk-stuck}
 
 -- a walk that goes on where another ends
 abbrev onward : Walked → (ℕ → Walked) → Walked
 onward (ends x) go = go x
 onward (stops r) go = stops r
 
--- a step that both take, or refuse alike
-step-or : (a b d : Bool) (x y : Walked) (go : ℕ → Walked) → x ≡ onward y go
-    → (a ⇒ stops Refusal.NotGood ∣ b ⇒ stops Refusal.NoFields ∣ d ⇒ stops Refusal.NoSuch ∣ x)
-    ≡ onward (a ⇒ stops Refusal.NotGood ∣ b ⇒ stops Refusal.NoFields ∣ d ⇒ stops Refusal.NoSuch ∣ y) go
-step-or true b d x y go e = refl
-step-or false true d x y go e = refl
-step-or false false true x y go e = refl
-step-or false false false x y go e = e
+-- a test that both make, and refuse alike
+refuse-or : (go : ℕ → Walked) (b : Bool) (r : Refusal) (x y : Walked) → x ≡ onward y go → (b ⇒ stops r ∣ x) ≡ onward (b ⇒ stops r ∣ y) go
+refuse-or go b r x y e = choices-agree (λ x y. x ≡ onward y go) b refl e
 
 into : (v : List ℕ) (f : ℕ) (g h go : ℕ → Walked) → g (at v (suc f)) ≡ onward (h (at v (suc f))) go
     → stepInto v f g ≡ onward (stepInto v f h) go
 unfolding stepInto
-into v f g h go e = step-or (not (isThere v)) (not (isRecord (headerIn v))) (leb (fieldsIn v) f) (g (at v (suc f))) (h (at v (suc f))) go e
-
-number-or : (b : Bool) (x y : Walked) (go : ℕ → Walked) → x ≡ onward y go
-    → (b ⇒ stops Refusal.NoFields ∣ x) ≡ onward (b ⇒ stops Refusal.NoFields ∣ y) go
-number-or true x y go e = refl
-number-or false x y go e = e
+into v f g h go e = refuse-or go (not (isThere v)) _ _ _ (refuse-or go (not (isRecord (headerIn v))) _ _ _ (refuse-or go (leb (fieldsIn v) f) _ _ _ e))
 
 module _ (view : ℕ → List ℕ) where
-  -- a word that is no good pointer stops every path
-  stuck : (w : ℕ) (q : List ℕ) → isNumber (wordOf w) ≡ false → isThere (view w) ≡ false → walkFrom view w q ≡ stops Refusal.NotGood
-  unfolding walkFrom stepInto
-  stuck w [] n t = rw (n, t)
-  stuck w (f ∷ fs) n t = rw (n, t)
-
   from-end : (w : ℕ) (q : List ℕ) (b t : Bool) → isNumber (wordOf w) ≡ b → isThere (view w) ≡ t
       → walkFrom view w q ≡ onward (b ⇒ ends w ∣ not t ⇒ stops Refusal.NotGood ∣ ends w) (λ x. walkFrom view x q)
   from-end w q true t n h = refl
   from-end w q false true n h = refl
-  from-end w q false false n h = stuck w q n h
+  from-end w q false false n h = walk-stuck view w q n h
 
   joined : (p q : List ℕ) (w : ℕ) → walkFrom view w (p ++ q) ≡ onward (walkFrom view w p) (λ x. walkFrom view x q)
   unfolding walkFrom
   joined [] q w = from-end w q (isNumber (wordOf w)) (isThere (view w)) refl refl
   joined (f ∷ fs) q w =
-      number-or
-      (isNumber (wordOf w))
-      (stepInto (view w) f (λ x. walkFrom view x (fs ++ q)))
-      (stepInto (view w) f (λ x. walkFrom view x fs))
-      (λ x. walkFrom view x q)
+      refuse-or (λ x. walkFrom view x q) (isNumber (wordOf w)) _ _ _
       (into (view w) f (λ x. walkFrom view x (fs ++ q)) (λ x. walkFrom view x fs) (λ x. walkFrom view x q) (joined fs q (at (view w) (suc f))))
 
   -- the walk of what lies behind i, by its piece up to e
@@ -103,4 +86,4 @@ pub last-piece : (view : ℕ → List ℕ) (c : Control) (w i : ℕ) (path : Lis
     → v ≡ walkSays c (walkFrom view w (take (length path - i) (drop i path)))
     → v ≡ walkSays c (walkFrom view w (drop i path))
 last-piece view c w i path s =
-    s ∙ ap (λ (p : List ℕ). walkSays c (walkFrom view w p)) (take-all (length path - i) (drop i path) (omega (arith, length-drop i path)))
+    s ∙ ap (λ (p : List ℕ). walkSays c (walkFrom view w p)) (part-rest path i)

@@ -1,7 +1,6 @@
 -- What a collection leaves can be written: a collection that is done was of a heap that passes, and leaves one that passes.
 use mathlib.Core.Path.{_≡_, refl, sym, ap, _∙_}
 use mathlib.Core.Bool.{false≢true}
-use mathlib.Core.Logic.{_⊎_, inl, inr}
 use lib.ListN.{length}
 use Rattle.rules.specs.declared.Control.{Control}
 use Rattle.rules.specs.declared.Refusal.{Refusal}
@@ -11,12 +10,13 @@ use Rattle.rules.specs.Refusals.{Admitted, Outcome, leaving, refused}
 use Rattle.rules.specs.Calls.{audit}
 use Rattle.rules.specs.Collection.{collected, collect}
 use Rattle.rules.specs.Image.{imageText, refusalText}
-use Rattle.rules.proofs.Judged.{judged-refuse}
-use Rattle.facts.proofs.Sound.{Sound, Passes}
-use Rattle.facts.proofs.Passing.{meaning}
-use Rattle.facts.proofs.Judged.{judged-passes, passed, passed-admitted}
-use Rattle.working.proofs.Running.{Refusing}
-use Rattle.working.proofs.Collecting.{collects}
+use Rattle.facts.proofs.Sound.{Sound}
+use Rattle.facts.proofs.Passing.{meaning, judged-sound}
+use Rattle.facts.proofs.Judged.{judged-collects, passed-admitted}
+use Rattle.working.proofs.Running.{Collects, runs-dry, runs-through, collects}
+use Rattle.working.proofs.Ending.{left-store, left-sound}
+use Rattle.working.proofs.Collecting.{ran-leaves}
+use Rattle.collection.proofs.Judged.{judged-broken}
 use Rattle.printing.specs.Printed.{collectedFrom}
 
 module _ (s : Store) (o : Outcome Plain) (c : Control) (done : o .answer ≡ Plain.Done c) where
@@ -34,20 +34,19 @@ module _ (s : Store) (o : Outcome Plain) (c : Control) (done : o .answer ≡ Pla
       let k : c ≡ s′ .ctl = cc in
       rw (q, k) (passed-admitted s′ (meaning s′ .1 S))
 
-  finished : (p : Passes s) → o ≡ collected s → Fit
-  finished p e = go (collects s (meaning s .0 p))
+  finished : (S : Sound s) → o ≡ collected s → Fit
+  finished S e = go (collects s S)
     where
-      go : ((collected s ≡ refused s Refusal.NoPage) × Refusing s (meaning s .0 p)) ⊎ ((s′ : Store) × (collected s ≡ leaving s′) × Sound s′) → Fit
-      go (inl u) = not-refused (e ∙ u .0)
-      go (inr u) = left (u .0) (e ∙ u .1) (u .2)
+      go : Collects s S → Fit
+      go (runs-dry q R) = not-refused (e ∙ q)
+      go (runs-through roots r q A) = left (left-store s S roots r A) (e ∙ q ∙ ran-leaves s S roots r A) (left-sound s S roots r A)
 
   pub left-admitted : o ≡ collect s → Admitted (length (o .heap)) (length (o .table)) (length (o .roots)) (length (o .consts)) c
-  unfolding collect
   left-admitted e = go (audit s) refl
     where
       go : (a : Plain) → audit s ≡ a → Fit
-      go (Plain.Refused why d) q = not-refused (e ∙ sym (judged-refuse (refused s) (collected s) s (sym q)))
-      go (Plain.Done d) q = let p = judged-passes s d (sym q) in finished p (e ∙ passed s p (refused s) (collected s))
+      go (Plain.Refused why d) q = not-refused (e ∙ sym (judged-broken s why d (sym q)))
+      go (Plain.Done d) q = finished (judged-sound s d (sym q)) (e ∙ judged-collects s d (sym q))
 
   -- and is printed as an image
   pub collected-image : o ≡ collect s → imageText (lent (o .heap) (o .table) (o .roots) (o .consts) c) ≡ collectedFrom s

@@ -4,6 +4,7 @@
 use Prim.Native.Nat.{ℕ}
 use mathlib.Core.Path.{_≡_, sym, ap, _∙_}
 use mathlib.Core.Logic.{_↔_}
+use mathlib.Core.Bool.{true}
 use mathlib.Core.Option.{some}
 use mathlib.Core.List.{List, [], List·Memᴰ}
 use lib.IntN.{ℤ}
@@ -15,15 +16,15 @@ use Rattle.rules.specs.declared.Told.{Told}
 use Rattle.rules.specs.declared.Opened.{Opened}
 use Rattle.rules.specs.declared.Worded.{Worded}
 use Rattle.rules.specs.declared.Numbered.{Numbered}
-use Rattle.rules.specs.Memory.{Store}
+use Rattle.rules.specs.Memory.{Store, pageWords}
 use Rattle.rules.specs.Refusals.{numberOf, Outcome}
-use Rattle.rules.specs.Calls.{wordOfNumber, numberOfWord, setUp, push, pop, allocate, fetch, fetchRefusal, assign, setRoot, walk, audit, due, usedWords, pageByNumber, pageRefusal}
+use Rattle.rules.specs.Calls.{wordOfNumber, numberOfWord, setUp, push, pop, allocate, isThere, fetch, fetchRefusal, assign, setRoot, walk, audit, due, usedWords, pageByNumber, pageRefusal}
 use Rattle.rules.specs.Collection.{collect}
 use Rattle.rules.specs.Image.{Written, writeImage, readImage}
 use Rattle.rules.specs.Order.{Test, First, numbers, Numbers, Refusing, onPlain, onValued, onOpened, onText, toPlain, toValued, toTold, toWorded, toNumbered, setUpTests, pushTests, popTests, allocateTests, fetchTests, assignTests, setRootTests, walkTests, auditTests, dueTests, usedTests, pageTests, collectTests, writeTests, readTests, wordTests, numberTests}
 use Rattle.rules.proofs.Order.{the-numbers}
 use Rattle.promises.proofs.Ordered.{first-number, Lawful, exactly}
-use Rattle.promises.proofs.Outcomes.{set-up-lawful, push-lawful, pop-lawful, allocate-lawful, fetch-lawful, fetch-empty, assign-lawful, set-root-lawful, walk-lawful, audit-lawful, due-lawful, used-lawful, page-lawful, page-empty, collect-lawful, write-lawful, read-lawful, word-lawful, number-lawful}
+use Rattle.promises.proofs.Outcomes.{set-up-lawful, push-lawful, pop-lawful, allocate-lawful, fetch-lawful, fetch-empty, fetch-there, assign-lawful, set-root-lawful, walk-lawful, audit-lawful, due-lawful, used-lawful, page-lawful, page-empty, page-there, collect-lawful, write-lawful, read-lawful, word-lawful, number-lawful}
 
 -- two outcomes are one: the answer, and every lent word
 pub record SameOutcome {A : Type 0} (o p : Outcome A) : Type 0 where
@@ -85,9 +86,11 @@ pub record Demand1 : Type 0 where
       → Refuses (onOpened heap table roots consts) (readTests text heap table roots consts) (readImage text heap table roots consts)
   pub of-word : (i : ℤ) → Refuses toWorded (wordTests i) (wordOfNumber i)
   pub of-number : (w : ℕ) → Refuses toNumbered (numberTests w) (numberOfWord w)
-  -- a refused fetch or page call returns an empty part
+  -- a refused fetch or page call returns an empty part, and one that is not refused a value, or the page
   pub no-value : (s : Store) (w : ℕ) (r : Refusal) → fetchRefusal s w ≡ Plain.Refused r (s .ctl) → fetch s w ≡ []
+  pub some-value : (s : Store) (w : ℕ) → fetchRefusal s w ≡ Plain.Done (s .ctl) → isThere (fetch s w) ≡ true
   pub no-page : (s : Store) (k : ℕ) (r : Refusal) → pageRefusal s k ≡ Plain.Refused r (s .ctl) → pageByNumber s k ≡ []
+  pub the-page : (s : Store) (k : ℕ) → pageRefusal s k ≡ Plain.Done (s .ctl) → pageByNumber s k ≡ pageWords (s .ctl .n) (s .heap) k
   -- and the tests' numbers are those that document 01 lists for each call, in its order
   pub paper : Numbers
 
@@ -155,6 +158,8 @@ demand1 = record {
   of-word = λ i. refuses (word-lawful i);
   of-number = λ w. refuses (number-lawful w);
   no-value = fetch-empty;
+  some-value = fetch-there;
   no-page = page-empty;
+  the-page = page-there;
   paper = the-numbers;
 }

@@ -6,7 +6,7 @@
 -- readings are the definitions, step by step.
 use Prim.Native.Nat.{ℕ, suc, _+_, _*_, _^_, _≤_, _<_}
 use mathlib.Core.Path.{_≡_, refl, sym, ap, _∙_}
-use mathlib.Core.Logic.{_↔_, _⊎_, inl, inr}
+use mathlib.Core.Logic.{_↔_}
 use mathlib.Core.Bool.{Bool, true, false≢true}
 use mathlib.Core.List.{List, [], _∷_, map, sum}
 use lib.ListN.{length, take}
@@ -26,19 +26,19 @@ use Rattle.rules.specs.Words.{Val, pageVals, usedOf}
 use Rattle.rules.specs.Audit.{usedOn, usedBy}
 use Rattle.rules.specs.Refusals.{Outcome, outcome, refused, leaving, withinLimits, commonTest}
 use Rattle.rules.specs.Calls.{wordOfNumber, numberOfWord, audit, due, usedWords}
-use Rattle.rules.specs.Pages.{Run}
 use Rattle.rules.specs.Collection.{fromSpace, collected, collect}
 use Rattle.rules.specs.Image.{writeImage, readImage}
 use Rattle.rules.specs.Left.{leftPlain, leftOpened}
 use Rattle.rules.specs.Wanted.{wanted}
 use Rattle.rules.proofs.Left.{left-leaving}
-use Rattle.facts.proofs.Sound.{Sound, Passes}
-use Rattle.facts.proofs.Passing.{audit-yes, meaning}
+use Rattle.facts.proofs.Sound.{Sound}
+use Rattle.facts.proofs.Judged.{judged-collects}
+use Rattle.facts.proofs.Passing.{judged-sound, audit-yes}
 use Rattle.facts.proofs.Observing.{used-is}
-use Rattle.working.proofs.Running.{Ran, Refusing}
+use Rattle.working.proofs.Running.{Collects, runs-dry, runs-through, collects}
 use Rattle.working.proofs.Ending.{left-store}
-use Rattle.working.proofs.Refused.{refused-wants, done-pages}
-use Rattle.working.proofs.Collecting.{run-ends}
+use Rattle.working.proofs.Refused.{refused-wants, Pages, done-pages}
+use Rattle.working.proofs.Collecting.{ran-leaves}
 use Rattle.promises.proofs.NumbersBack.{number-back, word-back}
 use Rattle.promises.proofs.Images.{written-reads-back, read-writes-back}
 
@@ -81,44 +81,28 @@ unfolding usedOn sum
 used-pages s [] = refl
 used-pages s (k ∷ ks) = rw (used-sum (pageVals (s .ctl .n) (s .heap) k), used-pages s ks)
 
-lacking : (s : Store) → audit s ≡ Plain.Done (s .ctl) → (collect s ≡ refused s Refusal.NoPage) ↔ (s .ctl .count < wanted s)
-unfolding collect
-lacking s e = let p = audit-yes s .0 e in rw (p .limits, p .common, p .unbroken) (refused-wants s (meaning s .0 p))
-
-dueing : (s : Store) → withinLimits s ≡ true → commonTest s ≡ true
-    → (b : Bool) × (due s ≡ Told.Done b (s .ctl)) × ((b ≡ true) ↔ (3 * s .ctl .count < pageCount (s .ctl .n) (s .heap)))
-unfolding due
-dueing s l c =
-    (ltb (3 * s .ctl .count) (pageCount (s .ctl .n) (s .heap)), rw (l, c), (λ e. ltb-true _ _ e, λ b. lt-ltb _ _ b))
-
-using-words : (s : Store) → audit s ≡ Plain.Done (s .ctl) → (j : ℕ) → j < s .ctl .regions
-    → usedWords s j ≡ Valued.Done (sum _+_ 0 (map (λ k. sum _+_ 0 (wordsOn s k)) (regionPages (s .ctl .n) (s .heap) (s .table) j))) (s .ctl)
-unfolding usedBy
-using-words s e j b = used-is s (audit-yes s .0 e) j b ∙ ap (λ u. Valued.Done u (s .ctl)) (used-pages s (regionPages (s .ctl .n) (s .heap) (s .table) j))
-
-finishing : (s s′ : Store) → audit s ≡ Plain.Done (s .ctl) → collect s ≡ leaving s′
-    → (wanted s ≤ s .ctl .count) × (length (fromSpace s′) ≡ wanted s) × (s′ .ctl .count + wanted s ≡ s .ctl .count + length (fromSpace s))
-unfolding collect
-finishing s s′ e f = go (run-ends s S)
+-- what a collection that finishes leaves is what its run leaves
+pages-of : (s s′ : Store) (S : Sound s) → collected s ≡ leaving s′ → Pages s s′
+pages-of s s′ S e = go (collects s S)
   where
-    p : Passes s
-    p = audit-yes s .0 e
-
-    S : Sound s
-    S = meaning s .0 p
-
-    is : collected s ≡ leaving s′
-    is = rw (p .limits, p .common, p .unbroken) at f
-
-    go : ((collected s ≡ refused s Refusal.NoPage) × Refusing s S) ⊎ ((roots : List ℕ) × (r : Run) × (A : Ran s S roots r) × (collected s ≡ leaving (left-store s S roots r A)))
-        → (wanted s ≤ s .ctl .count) × (length (fromSpace s′) ≡ wanted s) × (s′ .ctl .count + wanted s ≡ s .ctl .count + length (fromSpace s))
-    go (inl u) =
-        let q = ap (λ (o : Outcome Plain). o .answer) (sym (u .0) ∙ is) in
-        absurd (false≢true cc)
-    go (inr u) =
-        let q : left-store s S (u .0) (u .1) (u .2) ≡ s′ = sym (left-leaving _) ∙ ap leftPlain (sym (u .3) ∙ is) ∙ left-leaving s′ in
-        let t = rw q at (done-pages s S (u .0) (u .1) (u .2)) in
-        (t .enough, sym (t .taken), t .left)
+    go : Collects s S → Pages s s′
+    go (runs-dry q R) = let t = ap (λ (o : Outcome Plain). o .answer) (sym q ∙ e) in absurd (false≢true cc)
+    go (runs-through roots r q A) =
+        let t : left-store s S roots r A ≡ s′ = sym (left-leaving _) ∙ ap leftPlain (sym (q ∙ ran-leaves s S roots r A) ∙ e) ∙ left-leaving s′ in
+        rw t at (done-pages s S roots r A)
 
 pub demand2 : Demand2
-demand2 = record { lacks = lacking; finishes = finishing; dues = dueing; uses = using-words; numbers = number-back; words = word-back; images = written-reads-back; texts = read-writes-back }
+demand2 = record {
+  lacks = λ s e. rw (judged-collects s (s .ctl) (sym e)) (refused-wants s (judged-sound s (s .ctl) (sym e)));
+  finishes = λ s s′ e f.
+      let t = pages-of s s′ (judged-sound s (s .ctl) (sym e)) (sym (judged-collects s (s .ctl) (sym e)) ∙ f) in
+      (t .enough, sym (t .taken), t .left);
+  dues = λ s l c. (ltb (3 * s .ctl .count) (pageCount (s .ctl .n) (s .heap)), unfold due in (rw (l, c)), (λ e. ltb-true _ _ e, λ b. lt-ltb _ _ b));
+  uses = λ s e j b.
+      used-is s (audit-yes s .0 e) j b
+      ∙ ap (λ u. Valued.Done u (s .ctl)) (unfold usedBy in (used-pages s (regionPages (s .ctl .n) (s .heap) (s .table) j)));
+  numbers = number-back;
+  words = word-back;
+  images = written-reads-back;
+  texts = read-writes-back;
+}

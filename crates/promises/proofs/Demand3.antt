@@ -4,7 +4,7 @@
 -- It is stated over what `collect` of rules leaves, so over demand 2's result. It is true because a run on a sound heap lacks a page or ends with
 -- each reached value copied once, in its region and with its words; and each call keeps a heap sound.
 use Prim.Native.Nat.{ℕ, _+_, _≤_, _<_}
-use mathlib.Core.Path.{_≡_, _∙_}
+use mathlib.Core.Path.{_≡_, sym, _∙_}
 use mathlib.Core.Logic.{_↔_, _≢_, _⊎_, inl, inr}
 use mathlib.Core.Bool.{true}
 use mathlib.Core.List.{List, map, sum, List·Memᴰ, List·Nodup}
@@ -19,16 +19,17 @@ use Rattle.rules.specs.Memory.{Store, lent}
 use Rattle.rules.specs.Audit.{rule8}
 use Rattle.rules.specs.Refusals.{refused, leaving}
 use Rattle.rules.specs.Calls.{setUp, walk, audit, usedWords}
-use Rattle.rules.specs.Collection.{collected, collect}
+use Rattle.rules.specs.Collection.{collect}
 use Rattle.rules.specs.Pages.{Run}
 use Rattle.rules.specs.Runs.{Call, run, fresh}
 use Rattle.rules.specs.Seen.{homeIn, seen, Reached, readValue, ReadsAlike, readAt, Meet, wordsAt}
 use Rattle.rules.proofs.Seen.{reading-tells}
-use Rattle.facts.proofs.Sound.{Sound, Passes}
-use Rattle.facts.proofs.Passing.{meaning, audit-yes}
-use Rattle.working.proofs.Running.{Ran, Refusing}
+use Rattle.facts.proofs.Sound.{Sound}
+use Rattle.facts.proofs.Judged.{judged-collects}
+use Rattle.facts.proofs.Passing.{judged-sound, audit-yes}
+use Rattle.working.proofs.Running.{Ran, runs-dry, runs-through, collects}
 use Rattle.working.proofs.Ending.{left-store}
-use Rattle.working.proofs.Collecting.{passes′, live as live-values, live-once, live-exactly, left-counts, never-more as no-more, left-reads, left-meets, run-ends}
+use Rattle.working.proofs.Collecting.{passes′, live as live-values, live-once, live-exactly, left-counts, never-more as no-more, left-reads, left-meets, ran-leaves}
 use Rattle.promises.proofs.Keeps.{fresh-run-passes}
 
 -- s′ is what a finished collection of s leaves
@@ -73,27 +74,15 @@ finished s S roots r A = record {
   never-more = no-more s S roots r A;
 }
 
-collecting : (s : Store) → audit s ≡ Plain.Done (s .ctl) → (collect s ≡ refused s Refusal.NoPage) ⊎ ((s′ : Store) × (collect s ≡ leaving s′) × Finished s s′)
-unfolding collect
-collecting s e = go (run-ends s S)
-  where
-    p : Passes s
-    p = audit-yes s .0 e
-
-    S : Sound s
-    S = meaning s .0 p
-
-    is : collect s ≡ collected s
-    is = rw (p .limits, p .common, p .unbroken)
-
-    go : ((collected s ≡ refused s Refusal.NoPage) × Refusing s S) ⊎ ((roots : List ℕ) × (r : Run) × (A : Ran s S roots r) × (collected s ≡ leaving (left-store s S roots r A)))
-        → (collect s ≡ refused s Refusal.NoPage) ⊎ ((s′ : Store) × (collect s ≡ leaving s′) × Finished s s′)
-    go (inl u) = inl (is ∙ u .0)
-    go (inr u) = inr (left-store s S (u .0) (u .1) (u .2), is ∙ u .3, finished s S (u .0) (u .1) (u .2))
-
 pub demand3 : Demand3
 demand3 = record {
-  collection = collecting;
+  collection = λ s e.
+      let S = judged-sound s (s .ctl) (sym e) in
+      let is = judged-collects s (s .ctl) (sym e) in
+      elim (collects s S) [
+        | runs-dry q R ↦ inl (is ∙ q)
+        | runs-through roots r q A ↦ inr (left-store s S roots r A, is ∙ q ∙ ran-leaves s S roots r A, finished s S roots r A)
+      ];
   reading = reading-tells;
   any-run = λ n heap table roots consts c t e calls. audit-yes _ .1 (fresh-run-passes n heap table roots consts c t e calls);
 }

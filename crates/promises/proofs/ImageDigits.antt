@@ -1,5 +1,5 @@
 -- Digits, words and frames, there and back: what is written is read as it was, and what is read is what was written. By recursion on the
--- digits and on the words; a digit is a byte of two ranges, and a number of m digits is its first digit and a number of the others.
+-- digits and on the words; a number of m digits is its first digit and a number of the others.
 use Prim.Native.Nat.{ℕ, zero, suc, _+_, _-_, _*_, _/_, _%_, _^_, _<_}
 use mathlib.Core.Path.{_≡_, refl, sym, ap, _∙_}
 use mathlib.Core.Bool.{Bool, true, false, false≢true}
@@ -7,49 +7,21 @@ use mathlib.Core.Option.{Option, none, some, Option·none-ne-some}
 use mathlib.Core.List.{List, [], _∷_, _++_, append-assoc}
 use native.Mathlib.Nat.{pow-succ', one-le-pow, mod-eq-of-lt, mod-lt, mul-add-div-right, mul-add-mod-self-left, mul-assoc, mul-left-comm, mul-one, mod-one, add-mul, zero-mul}
 use native.Mathlib.Omega.{arith}
-use native.Mathlib.Decide.{decLt}
-use borrow.Author.Tests.{lt-ltb, le-ltb, eq-eqb, eqb-true}
+use borrow.Author.Tests.{eq-eqb, eqb-true}
 use lib.Arith.{digits-lt, digits-div, mod-mul}
 use lib.Dec.{eqb}
 use lib.ListN.{length}
 use Rattle.laws.specs.Choice.{_⇒_∣_}
 use Rattle.rules.specs.Memory.{Small}
 use Rattle.rules.specs.Image.{digitOf, hex, hexWords, frame, valueOf, digits, words, endFrame, readWords, readFrame}
+use Rattle.rules.proofs.Digits.{value-digit, digit-value}
 use Rattle.promises.specs.Texts.{Countable}
 
--- ---- a digit
-
-pub value-digit : (d : ℕ) → d < 16 → valueOf (digitOf d) ≡ some d
-unfolding digitOf valueOf
-value-digit d b = go (decLt d 10)
-  where
-    go : Dec (d < 10) → valueOf (digitOf d) ≡ some d
-    go (yes l) =
-        let q : 48 + d - 48 ≡ d = omega arith in
-        rw (lt-ltb d 10 l) (rw (le-ltb (48 + d) 48 (omega arith), lt-ltb (48 + d) 58 (omega arith), q))
-    go (no f) =
-        let q : 87 + d - 87 ≡ d = omega arith in
-        rw (le-ltb d 10 (omega arith))
-        (rw (le-ltb (87 + d) 48 (omega arith), le-ltb (87 + d) 58 (omega arith), le-ltb (87 + d) 97 (omega arith), lt-ltb (87 + d) 103 (omega arith), q))
-
--- a byte that has a value is that value's digit
-pub digit-value : (b d : ℕ) → valueOf b ≡ some d → (b ≡ digitOf d) × (d < 16)
-unfolding digitOf valueOf
-digit-value b d e = go (decLt b 48) (decLt b 58) (decLt b 97) (decLt b 103)
-  where
-    go : Dec (b < 48) → Dec (b < 58) → Dec (b < 97) → Dec (b < 103) → (b ≡ digitOf d) × (d < 16)
-    go (yes w) x y z = absurd (Option·none-ne-some _ (sym (rw (lt-ltb b 48 w)) ∙ e))
-    go (no w) (yes x) y z =
-        let s : some (b - 48) ≡ some d = sym (rw (le-ltb b 48 (omega arith), lt-ltb b 58 x)) ∙ e in
-        let q : b - 48 ≡ d = cc in
-        (rw (lt-ltb d 10 (omega arith)) (omega arith), omega arith)
-    go (no w) (no x) (yes y) z = absurd (Option·none-ne-some _ (sym (rw (le-ltb b 48 (omega arith), le-ltb b 58 (omega arith), lt-ltb b 97 y)) ∙ e))
-    go (no w) (no x) (no y) (yes z) =
-        let s : some (b - 87) ≡ some d = sym (rw (le-ltb b 48 (omega arith), le-ltb b 58 (omega arith), le-ltb b 97 (omega arith), lt-ltb b 103 z)) ∙ e in
-        let q : b - 87 ≡ d = cc in
-        (rw (le-ltb d 10 (omega arith)) (omega arith), omega arith)
-    go (no w) (no x) (no y) (no z) =
-        absurd (Option·none-ne-some _ (sym (rw (le-ltb b 48 (omega arith), le-ltb b 58 (omega arith), le-ltb b 97 (omega arith), le-ltb b 103 (omega arith))) ∙ e))
+-- what was read and what is left
+some-both : {A B : Type 0} {a c : A} {b d : B} → _≡_ {A = Option (A × B)} (some (a, b)) (some (c, d)) → (a ≡ c) × (b ≡ d)
+some-both {A} {B} {a} {c} {b} {d} e =
+    let p : _≡_ {A = A × B} (a, b) (c, d) = cc in
+    (ap (λ (t : A × B). t .0) p, ap (λ (t : A × B). t .1) p)
 
 -- ---- a number
 
@@ -93,10 +65,8 @@ pub record Digits (m v x : ℕ) (bs rest : List ℕ) : Type 0 where
 pub hex-digits : (m v x : ℕ) (bs rest : List ℕ) → digits m v bs ≡ some (x, rest) → Digits m v x bs rest
 unfolding digits hex
 hex-digits zero v x bs rest e =
-    let f : _≡_ {A = Option (ℕ × List ℕ)} (some (v, bs)) (some (x, rest)) = e in
-    let p : _≡_ {A = ℕ × List ℕ} (v, bs) (x, rest) = cc in
-    let q : v ≡ x = ap (λ (t : ℕ × List ℕ). t .0) p in
-    record { number = 0; small = omega arith; value = (let o = mul-one v in omega arith); text = ap (λ (t : ℕ × List ℕ). t .1) p }
+    let (q, t) = some-both {a = v} {c = x} {b = bs} {d = rest} e in
+    record { number = 0; small = omega arith; value = (let o = mul-one v in omega arith); text = t }
 hex-digits (suc m) v x [] rest e = absurd (false≢true cc)
 hex-digits (suc m) v x (b ∷ bs) rest e = go (valueOf b) refl (λ d. hex-digits m (16 * v + d) x bs rest)
   where
@@ -142,19 +112,14 @@ pub record Words (m : ℕ) (ws bs rest : List ℕ) : Type 0 where
 pub hex-words : (m : ℕ) (bs ws rest : List ℕ) → words m bs ≡ some (ws, rest) → Words m ws bs rest
 unfolding words hexWords
 hex-words zero bs ws rest e =
-    let f : _≡_ {A = Option (List ℕ × List ℕ)} (some ([], bs)) (some (ws, rest)) = e in
-    let p : _≡_ {A = List ℕ × List ℕ} ([], bs) (ws, rest) = cc in
-    let q : [] ≡ ws = ap (λ (t : List ℕ × List ℕ). t .0) p in
-    rw (← q) (record { count = refl; small = λ i. omega arith; text = ap (λ (t : List ℕ × List ℕ). t .1) p })
+    let (q, t) = some-both {a = []} {c = ws} {b = bs} {d = rest} e in
+    rw (← q) (record { count = refl; small = λ i. omega arith; text = t })
 hex-words (suc m) bs ws rest e = go (λ mid us end. hex-words m mid us end) (digits 8 0 bs) refl
   where
     more : ((mid us end : List ℕ) → words m mid ≡ some (us, end) → Words m us mid end) → (w : ℕ) (mid : List ℕ) → digits 8 0 bs ≡ some (w, mid) → (o : Option (List ℕ × List ℕ)) → words m mid ≡ o → Words (suc m) ws bs rest
     more h w mid q none p = absurd (Option·none-ne-some _ (sym (rw (words, q, p)) ∙ e))
     more h w mid q (some t) p =
-        let f : _≡_ {A = Option (List ℕ × List ℕ)} (some (w ∷ t .0, t .1)) (some (ws, rest)) = sym (rw (words, q, p)) ∙ e in
-        let r : _≡_ {A = List ℕ × List ℕ} (w ∷ t .0, t .1) (ws, rest) = cc in
-        let a : w ∷ t .0 ≡ ws = ap (λ (x : List ℕ × List ℕ). x .0) r in
-        let b : t .1 ≡ rest = ap (λ (x : List ℕ × List ℕ). x .1) r in
+        let (a, b) = some-both {a = w ∷ t .0} {c = ws} {b = t .1} {d = rest} (sym (rw (words, q, p)) ∙ e) in
         let d = hex-digits 8 0 w bs mid q in
         let k = d .value in
         let n : w ≡ d .number = omega arith in
@@ -202,10 +167,8 @@ read-framed kind fits bs ws rest e = go (digits 2 0 bs) refl
       where
         line : (b : ℕ) (bs : List ℕ) → fits us ≡ true → (t : Bool) → eqb b 10 ≡ t → endFrame us (b ∷ bs) ≡ some (ws, rest) → (us ≡ ws) × (fits us ≡ true) × (b ∷ bs ≡ 10 ∷ rest)
         line b bs p true r h =
-            let f : _≡_ {A = Option (List ℕ × List ℕ)} (some (us, bs)) (some (ws, rest)) = sym (rw (endFrame, r)) ∙ h in
-            let g : _≡_ {A = List ℕ × List ℕ} (us, bs) (ws, rest) = cc in
-            let x : bs ≡ rest = ap (λ (t : List ℕ × List ℕ). t .1) g in
-            (ap (λ (t : List ℕ × List ℕ). t .0) g, p, rw (eqb-true b 10 r, x))
+            let (y, x) = some-both {a = us} {c = ws} {b = bs} {d = rest} (sym (rw (endFrame, r)) ∙ h) in
+            (y, p, rw (eqb-true b 10 r, x))
         line b bs p false r h = absurd (Option·none-ne-some _ (sym (rw (endFrame, r)) ∙ h))
 
         test : (t : Bool) → fits us ≡ t → (tail : List ℕ) → (fits us ⇒ endFrame us tail ∣ none) ≡ some (ws, rest) → (us ≡ ws) × (fits us ≡ true) × (tail ≡ 10 ∷ rest)

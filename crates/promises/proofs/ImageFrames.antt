@@ -4,7 +4,7 @@ use Prim.Native.Nat.{ℕ, suc, _+_, _-_}
 use mathlib.Core.Path.{_≡_, refl, sym, ap, _∙_}
 use mathlib.Core.Option.{Option, none, some, Option·some-ne-none}
 use mathlib.Core.List.{List, [], _∷_, _++_, append-assoc}
-use mathlib.Core.Bool.{false≢true}
+use mathlib.Core.Bool.{Bool, false≢true}
 use native.Mathlib.Omega.{arith}
 use lib.ListN.{length}
 use Rattle.rules.specs.Image.{frame, headFits, partFits, Expected, layout, Frames, frames, malformed, withFrame, readFrame, readFrames, readText}
@@ -24,6 +24,20 @@ with-frames ws (malformed l) fs e k = not-frames e
 with-fault : {A : Type 0} (ws : List ℕ) (r : Frames) (l : ℕ) → withFrame ws r ≡ malformed l → (r ≡ malformed l → A) → A
 with-fault ws (frames gs) l e k = not-frames (sym e)
 with-fault ws (malformed m) l e k = k e
+
+-- a frame of words that fit reads, and what reads is one: so none reads exactly where there is none
+module _ (kind : ℕ) (fits : List ℕ → Bool) (Fit : List ℕ → Type 0) where
+  no-read : ((ws rest : List ℕ) → Fit ws → readFrame kind fits (frame kind ws ++ rest) ≡ some (ws, rest))
+      → (bs : List ℕ) → readFrame kind fits bs ≡ none → (ws rest : List ℕ) → Fit ws → bs ≡ frame kind ws ++ rest → ⊥
+  no-read reads bs h ws rest f q = Option·some-ne-none _ (sym (reads ws rest f) ∙ rw q at h)
+
+  read-none : ((bs ws rest : List ℕ) → readFrame kind fits bs ≡ some (ws, rest) → Fit ws × (bs ≡ frame kind ws ++ rest))
+      → (bs : List ℕ) → ((ws rest : List ℕ) → Fit ws → bs ≡ frame kind ws ++ rest → ⊥) → readFrame kind fits bs ≡ none
+  read-none framed bs f = go (readFrame kind fits bs) refl
+    where
+      go : (o : Option (List ℕ × List ℕ)) → readFrame kind fits bs ≡ o → readFrame kind fits bs ≡ none
+      go none q = q
+      go (some t) q = let g = framed bs (t .0) (t .1) q in absurd (f (t .0) (t .1) (g .0) (g .1))
 
 -- ---- a part's frame
 
@@ -60,16 +74,6 @@ frames-back (e ∷ es) bs fs line h = go (readFrame (e .kind) (partFits (e .most
 
 -- ---- their first fault
 
-no-read : (e : Expected) (es : List Expected) (bs : List ℕ) → readFrame (e .kind) (partFits (e .most)) bs ≡ none → NoFrame (e ∷ es) bs
-no-read e es bs h ws rest f q = Option·some-ne-none _ (sym (reads e ws rest f) ∙ rw q at h)
-
-read-none : (e : Expected) (es : List Expected) (bs : List ℕ) → NoFrame (e ∷ es) bs → readFrame (e .kind) (partFits (e .most)) bs ≡ none
-read-none e es bs f = go (readFrame (e .kind) (partFits (e .most)) bs) refl
-  where
-    go : (o : Option (List ℕ × List ℕ)) → readFrame (e .kind) (partFits (e .most)) bs ≡ o → readFrame (e .kind) (partFits (e .most)) bs ≡ none
-    go none q = q
-    go (some t) q = let g = framed e bs (t .0) (t .1) q in absurd (f (t .0) (t .1) (g .0) (g .1))
-
 pub fault-back : (es : List Expected) (bs : List ℕ) (line l : ℕ) → readFrames line es bs ≡ malformed l → FaultAt line es bs l
 unfolding readFrames framesText
 fault-back [] [] line l h = not-frames (sym h)
@@ -102,7 +106,7 @@ fault-back (e ∷ es) bs line l h = go (readFrame (e .kind) (partFits (e .most))
           fits = tt;
           text = refl;
           counted = omega arith;
-          fault = no-read e es bs q;
+          fault = no-read (e .kind) (partFits (e .most)) (FrameFits e) (reads e) bs q;
         }
     go (some t) q r =
         with-fault (t .0) (readFrames (suc line) es (t .1)) l (sym (rw (readFrames, q)) ∙ h)
@@ -128,7 +132,7 @@ fault-after : (ps left : List Expected) (fs : List (List ℕ)) (rest : List ℕ)
 unfolding readFrames framesText
 fault-after [] [] [] [] line f g = absurd (g refl)
 fault-after [] [] [] (b ∷ bs) line f g = ap malformed (omega arith)
-fault-after [] (e ∷ es) [] rest line f g = rw (readFrames, read-none e es rest g) (ap malformed (omega arith))
+fault-after [] (e ∷ es) [] rest line f g = rw (readFrames, read-none (e .kind) (partFits (e .most)) (FrameFits e) (framed e) rest g) (ap malformed (omega arith))
 fault-after [] left (ws ∷ fs) rest line f g = absurd f
 fault-after (e ∷ ps) left [] rest line f g = absurd f
 fault-after (e ∷ ps) left (ws ∷ fs) rest line f g =
@@ -172,7 +176,7 @@ text-fault text l h = go (readFrame 1 headFits text) refl
     go none q =
         let m : malformed 1 ≡ malformed l = sym (rw (readText, q)) ∙ h in
         let s : 1 ≡ l = cc in
-        rw (← s) (at-head (λ ws rest f p. Option·some-ne-none _ (sym (head-reads ws rest f) ∙ rw p at q)))
+        rw (← s) (at-head (no-read 1 headFits HeadFits head-reads text q))
     go (some t) q =
         with-fault (t .0) (readFrames 2 (layout (t .0)) (t .1)) l (sym (rw (readText, q)) ∙ h)
         (λ p.
@@ -181,9 +185,5 @@ text-fault text l h = go (readFrame 1 headFits text) refl
 
 pub fault-text : (text : List ℕ) (l : ℕ) → Fault text l → readText text ≡ malformed l
 unfolding readText
-fault-text text _ (at-head f) = go (readFrame 1 headFits text) refl
-  where
-    go : (o : Option (List ℕ × List ℕ)) → readFrame 1 headFits text ≡ o → readText text ≡ malformed 1
-    go none q = rw (readText, q)
-    go (some t) q = let g = head-framed text (t .0) (t .1) q in absurd (f (t .0) (t .1) (g .0) (g .1))
+fault-text text _ (at-head f) = rw (readText, read-none 1 headFits HeadFits head-framed text f)
 fault-text text l (behind head rest f p k) = rw (p, readText, head-reads head rest f, fault-read (layout head) rest 2 l k)

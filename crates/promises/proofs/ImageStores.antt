@@ -4,9 +4,9 @@ use Prim.Native.Nat.{ℕ, zero, suc, _+_, _-_, _*_, _/_, _^_, _≤_, _<_}
 use mathlib.Core.Path.{_≡_, refl, sym, ap, _∙_}
 use mathlib.Core.Bool.{Bool, true, false, false≢true}
 use mathlib.Core.List.{List, [], _∷_, _++_, append-assoc}
-use native.Mathlib.Nat.{zero-mul, mul-div-cancel, div-le-self, suc-mul}
+use native.Mathlib.Nat.{zero-mul, mul-div-cancel, suc-mul}
 use native.Mathlib.Omega.{arith}
-use borrow.Author.Tests.{le-leb, leb-true, eqb-true, not-true}
+use borrow.Author.Tests.{le-leb, leb-true, not-true}
 use lib.Dec.{eqb}
 use lib.Pow.{pow-pos}
 use lib.ListN.{length, take, drop, replicate, length-append, length-take}
@@ -17,7 +17,8 @@ use Rattle.laws.proofs.Padded.{length-padded}
 use Rattle.rules.specs.Memory.{Store, pageCount, pageWords, row, Small, Words32}
 use Rattle.rules.specs.Refusals.{Admitted}
 use Rattle.rules.specs.Image.{frame, trim, headWords, pageFrames, imageText, trimmed, partFits, headFits, Expected, expected, layout, joined, storeOf}
-use Rattle.rules.proofs.Limits.{page-size, whole-pages, two-pages}
+use Rattle.rules.proofs.FirstFrame.{limited}
+use Rattle.rules.proofs.Limits.{paged-size, whole-pages, two-pages, pages-few}
 use Rattle.rules.proofs.Frames.{trim-take, length-trim, trim-trimmed, padded-trim}
 use Rattle.promises.specs.Texts.{FrameFits, Fits, WellFormed, framesText, textOf}
 use Rattle.promises.proofs.ImageDigits.{small-cons}
@@ -168,8 +169,7 @@ module _ (s : Store) (a : Admitted (length (s .heap)) (length (s .table)) (lengt
 
   small-head : Words32 s → Small (headWords s)
   small-head w =
-      let d = div-le-self (length (s .heap)) (2 ^ s .ctl .n) in
-      let z = a .paged .size in
+      let d = pages-few (s .ctl .n) (length (s .heap)) pages (a .paged) refl in
       let r = a .roots in
       let k = a .consts in
       small-eight (s .ctl .n) pages (s .ctl .regions) (s .ctl .first) (s .ctl .last) (s .ctl .count) (length (s .roots)) (length (s .consts))
@@ -178,7 +178,7 @@ module _ (s : Store) (a : Admitted (length (s .heap)) (length (s .table)) (lengt
   pub frames-fit : Words32 s → WellFormed (framesOf s)
   unfolding layout framesOf
   frames-fit w =
-      let p = page-size (s .ctl .n) (a .paged .low) (a .paged .high) in
+      let p = paged-size (s .ctl .n) (length (s .heap)) (a .paged) in
       let p1 = p .1 in
       let g = a .regions in
       let r = a .roots in
@@ -208,26 +208,6 @@ module _ (s : Store) (a : Admitted (length (s .heap)) (length (s .table)) (lengt
       rw (h, t, padded-trim (s .roots), padded-trim (s .consts))
 
 -- ---- the store of frames
-
--- the first frame's limits as facts
-record Limited (ws : List ℕ) : Type 0 where
-  eight : length ws ≡ 8
-  low : 4 ≤ at ws 0
-  high : at ws 0 ≤ 8
-  size : at ws 1 * 2 ^ at ws 0 ≤ 65536
-  regions : at ws 2 ≤ 64
-
-limited : (ws : List ℕ) → headFits ws ≡ true → Limited ws
-unfolding headFits
-limited ws e =
-    let (e7, k) = both e in
-    let (e6, r) = both e7 in
-    let (e5, g) = both e6 in
-    let (e4, s) = both e5 in
-    let (e3, t) = both e4 in
-    let (e2, n8) = both e3 in
-    let (e1, n4) = both e2 in
-    record { eight = eqb-true _ _ e1; low = leb-true _ _ n4; high = leb-true _ _ n8; size = leb-true _ _ s; regions = leb-true _ _ g }
 
 -- eight words are their words
 eight-words : (ws : List ℕ) → length ws ≡ 8 → at ws 0 ∷ at ws 1 ∷ at ws 2 ∷ at ws 3 ∷ at ws 4 ∷ at ws 5 ∷ at ws 6 ∷ at ws 7 ∷ [] ≡ ws

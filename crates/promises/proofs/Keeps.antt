@@ -1,25 +1,26 @@
 -- Every call keeps a heap that passes passing, so any run of calls from a fresh heap passes. `Sound` is what passing means, each call keeps it,
 -- and a refused call changes nothing.
 use Prim.Native.Nat.{ℕ}
-use mathlib.Core.Path.{_≡_, refl}
-use mathlib.Core.Logic.{_⊎_, inl, inr}
-use mathlib.Core.Bool.{Bool, true, false, false≢true}
+use mathlib.Core.Path.{_≡_, _∙_}
+use mathlib.Core.Bool.{true, not, false≢true}
 use mathlib.Core.List.{List, [], _∷_}
 use lib.ListN.{length}
+use borrow.Author.Tests.{not-false}
+use Rattle.laws.proofs.Choices.{choice-keeps}
 use Rattle.rules.specs.declared.Control.{Control}
-use Rattle.rules.specs.declared.Refusal.{Refusal}
 use Rattle.rules.specs.declared.Opened.{Opened}
 use Rattle.rules.specs.Memory.{Store, lent, control, limits, pageCount}
 use Rattle.rules.specs.Audit.{rule8}
-use Rattle.rules.specs.Refusals.{refused, leaving}
+use Rattle.rules.specs.Refusals.{refused}
 use Rattle.rules.specs.Calls.{setUp}
 use Rattle.rules.specs.Collection.{collected, collect}
 use Rattle.facts.proofs.Means.{constants-of}
 use Rattle.facts.proofs.Passing.{meaning}
 use Rattle.facts.proofs.Sound.{Sound, Passes}
-use Rattle.working.proofs.Running.{Refusing}
-use Rattle.working.proofs.Collecting.{collects}
-use Rattle.rules.specs.Left.{leftPlain}
+use Rattle.working.proofs.Running.{Collects, runs-dry, runs-through, collects}
+use Rattle.working.proofs.Ending.{left-sound}
+use Rattle.working.proofs.Collecting.{ran-leaves}
+use Rattle.rules.specs.Left.{recordOpened, leftPlain, leftOpened}
 use Rattle.rules.specs.Runs.{Call, aPush, aPop, aCollect, anAudit, aDue, anAllocate, aFetch, aFetchRefusal, anAssign, aSetRoot, aSetUp, aWalk, aUsedWords, aPage, aPageRefusal, aWordOfNumber, aNumberOfWord, aWriteImage, after, run, fresh}
 use Rattle.promises.proofs.KeepsGood.{audited-keeps}
 use Rattle.promises.proofs.KeepsFields.{set-root-keeps, assign-keeps}
@@ -33,23 +34,19 @@ use Rattle.promises.proofs.KeepsSetUp.{set-up-sound}
 pub set-up-passes : (n : ℕ) (heap table roots consts : List ℕ) (c : Control) → rule8 (lent heap table roots consts c) ≡ true
     → setUp n heap table roots consts .answer ≡ Opened.Done c → Passes (fresh n heap table roots consts c)
 unfolding setUp
-set-up-passes n heap table roots consts c t e = go (limits n (length heap) (length table) (length roots) (length consts)) refl
-  where
-    go : (b : Bool) → limits n (length heap) (length table) (length roots) (length consts) ≡ b → Passes (fresh n heap table roots consts c)
-    go false q = let z : Opened.Refused Refusal.Limits ≡ Opened.Done c = rw q at e in absurd (false≢true cc)
-    go true q =
-        let z : Opened.Done (control n 0 1 (pageCount n heap) (pageCount n heap)) ≡ Opened.Done c = rw q at e in
-        let x : control n 0 1 (pageCount n heap) (pageCount n heap) ≡ c = cc in
-        rw (q, ← x) (meaning _ .1 (set-up-sound n (lent heap table roots consts c) q (constants-of (lent heap table roots consts c) t)))
+set-up-passes n heap table roots consts c t =
+    choice-keeps (λ o. o .answer ≡ Opened.Done c → Passes (leftOpened o c)) (not (limits n (length heap) (length table) (length roots) (length consts))) _ _
+    (λ q e. absurd (false≢true cc))
+    (λ q e.
+    let x : control n 0 1 (pageCount n heap) (pageCount n heap) ≡ c = cc in
+    rw (← x) (meaning _ .1 (set-up-sound n (lent heap table roots consts c) (not-false _ q) (constants-of (lent heap table roots consts c) t))))
 
 -- setting up again is done, on the constants of a sound heap, or refused
 pub set-up-keeps : (n : ℕ) (s : Store) → Sound s → Sound (after (aSetUp n) s)
 unfolding setUp
-set-up-keeps n s S = go (limits n (length (s .heap)) (length (s .table)) (length (s .roots)) (length (s .consts))) refl
-  where
-    go : (b : Bool) → limits n (length (s .heap)) (length (s .table)) (length (s .roots)) (length (s .consts)) ≡ b → Sound (after (aSetUp n) s)
-    go false q = rw q S
-    go true q = rw q (set-up-sound n s q (S .consts))
+set-up-keeps n s S =
+    choice-keeps (λ o. Sound (leftOpened o (recordOpened (s .ctl) (o .answer)))) (not (limits n (length (s .heap)) (length (s .table)) (length (s .roots)) (length (s .consts)))) _ _
+    (λ q. S) (λ q. set-up-sound n s (not-false _ q) (S .consts))
 
 -- ---- each call
 
@@ -58,9 +55,9 @@ pub collect-keeps : (s : Store) → Sound s → Sound (leftPlain (collect s))
 unfolding collect
 collect-keeps s S = audited-keeps (λ o. Sound (leftPlain o)) (refused s) s (collected s) (λ r. S) (λ l c b. go (collects s S))
   where
-    go : ((collected s ≡ refused s Refusal.NoPage) × Refusing s S) ⊎ ((s′ : Store) × (collected s ≡ leaving s′) × Sound s′) → Sound (leftPlain (collected s))
-    go (inl u) = rw (u .0) S
-    go (inr u) = rw (u .1) (u .2)
+    go : Collects s S → Sound (leftPlain (collected s))
+    go (runs-dry e R) = rw e S
+    go (runs-through roots r e A) = rw (e ∙ ran-leaves s S roots r A) (left-sound s S roots r A)
 
 pub call-keeps : (c : Call) (s : Store) → Sound s → Sound (after c s)
 call-keeps aPush s S = push-keeps s S
@@ -88,9 +85,6 @@ run-keeps [] s S = S
 run-keeps (c ∷ cs) s S = run-keeps cs (after c s) (call-keeps c s S)
 
 -- ---- in the audit's words
-
-pub call-passes : (c : Call) (s : Store) → Passes s → Passes (after c s)
-call-passes c s p = meaning (after c s) .1 (call-keeps c s (meaning s .0 p))
 
 pub run-passes : (cs : List Call) (s : Store) → Passes s → Passes (run cs s)
 run-passes cs s p = meaning (run cs s) .1 (run-keeps cs s (meaning s .0 p))

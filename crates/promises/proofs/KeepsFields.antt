@@ -2,7 +2,7 @@
 use Prim.Native.Nat.{ℕ, suc, _+_, _*_, _/_, _^_, _≤_, _<_}
 use native.Mathlib.Omega.{arith}
 use native.Mathlib.Decide.{ℕ-discrete}
-use mathlib.Core.Path.{_≡_, sym, ap, _∙_}
+use mathlib.Core.Path.{_≡_, refl, sym, ap, _∙_}
 use mathlib.Core.Logic.{_≢_}
 use mathlib.Core.Bool.{true, not}
 use mathlib.Core.List.{List, List·Memᴰ}
@@ -11,7 +11,7 @@ use lib.Seq.{getD-set-same, getD-set-other}
 use lib.Dec.{leb}
 use borrow.Author.Tests.{leb-false, not-false}
 use Rattle.laws.specs.Lists.{at}
-use Rattle.laws.proofs.Loops.{choice-keeps}
+use Rattle.laws.proofs.Choices.{choice-keeps}
 use Rattle.rules.specs.Memory.{Store, lent, pageCount}
 use Rattle.rules.specs.Words.{Word, number, inHeap, inConst, wordOf, isRecord, goodHeap, goodConst}
 use Rattle.rules.specs.Audit.{goodWord}
@@ -19,15 +19,16 @@ use Rattle.rules.specs.Refusals.{refused}
 use Rattle.rules.specs.Pages.{begun}
 use Rattle.rules.specs.Calls.{assignAt, assignBy, assign, setRoot}
 use Rattle.rules.proofs.Headers.{header-odd}
-use Rattle.facts.proofs.Steps.{Stands, Steps}
+use Rattle.rules.proofs.Limits.{within-same}
+use Rattle.rules.proofs.Steps.{Stands, Steps}
 use Rattle.facts.proofs.Inside.{no-descriptor, no-header, value-still}
 use Rattle.facts.proofs.Laid.{mine, Layout}
-use Rattle.facts.proofs.Framed.{good-in, below-fin}
+use Rattle.facts.proofs.Framed.{good-in, good-below}
 use Rattle.facts.proofs.Goods.{page-ends, good-of, in-heap}
-use Rattle.facts.proofs.Sound.{InHeap, Good, a-number, to-heap, to-const, Sound, descriptor-fits, good-page}
+use Rattle.facts.proofs.Sound.{InHeap, Good, Sound, descriptor-fits, good-page}
 use Rattle.working.proofs.Fielded.{field-laid}
 use Rattle.rules.specs.Left.{leftPlain}
-use Rattle.promises.proofs.KeepsGood.{admitted-keeps}
+use Rattle.promises.proofs.KeepsGood.{admitted-keeps, good-after}
 
 -- ---- a root
 
@@ -45,14 +46,7 @@ module _ (s : Store) (S : Sound s) (i w : ℕ) (good : Good (s .ctl .n) (s .ctl 
   pub root-sound : Sound (lent (s .heap) (s .table) (set (s .roots) i w) (s .consts) (s .ctl))
   root-sound =
       record {
-        within =
-            record {
-              paged = S .within .paged;
-              two = S .within .two;
-              table = S .within .table;
-              roots = let l = length-set (s .roots) i w in let b = S .within .roots in omega arith;
-              consts = S .within .consts;
-            };
+        within = within-same refl refl (length-set (s .roots) i w) refl (S .within);
         own = S .own;
         fin = S .fin;
         pages = S .pages;
@@ -101,7 +95,7 @@ module _ (s : Store) (S : Sound s) (d i x : ℕ) (p : InHeap (s .ctl .n) (s .ctl
   own-k = S .laid .mine-own (p .region) k (p .known) mem
 
   below : d + suc (p .len) ≤ S .fin k
-  below = below-fin (S .laid) (p .region) k own-k (p .steps) (p .stands)
+  below = good-below s S d p
 
   laid : Layout n (pageCount n (s .heap)) R (S .own) (S .fin) (S .pages) (S .free) (begun (lent h′ (s .table) (s .roots) (s .consts) (s .ctl)))
   laid = field-laid n (pageCount n (s .heap)) R (S .own) (S .fin) (S .pages) (S .free) (begun s) (S .laid) k (p .region) d (p .len) i x own-k (p .steps) (p .stands) below i-in
@@ -126,10 +120,9 @@ module _ (s : Store) (S : Sound s) (d i x : ℕ) (p : InHeap (s .ctl .n) (s .ctl
       (no-descriptor n (s .heap) k d (p .len) i (p .steps) (p .stands) i-in m (m * 2 ^ n + 1) (descriptor-fits s S) (omega arith) (omega arith))
 
   good-still : (w : ℕ) → Good n R (s .heap) (s .consts) w → Good n R h′ (s .consts) w
-  good-still w (a-number e) = a-number e
-  good-still w (to-heap a e q) =
-      to-heap a e (good-in n R R (s .heap) h′ a q (length-set (s .heap) (d + suc i) x) (q .known) (origin-kept (q .page)) (there (q .page) a (q .len) (q .steps) (q .stands)))
-  good-still w (to-const a e q) = to-const a e q
+  good-still w g =
+      good-after
+      (λ a e q. good-in n R R (s .heap) h′ a q (length-set (s .heap) (d + suc i) x) (q .known) (origin-kept (q .page)) (there (q .page) a (q .len) (q .steps) (q .stands))) g
 
   fields′ : (j m a l t : ℕ) → j < R → List·Memᴰ m (S .pages j) → Steps h′ (m * 2 ^ n + 2 ^ n) (m * 2 ^ n + 2) a → Stands h′ (m * 2 ^ n + 2 ^ n) a l
       → isRecord (at h′ a) ≡ true → t < l → Good n R h′ (s .consts) (at h′ (a + suc t))
@@ -151,8 +144,7 @@ module _ (s : Store) (S : Sound s) (d i x : ℕ) (p : InHeap (s .ctl .n) (s .ctl
   field-sound =
       let len = length-set (s .heap) (d + suc i) x in
       record {
-        within =
-            record { paged = rw len (S .within .paged); two = rw len (S .within .two); table = S .within .table; roots = S .within .roots; consts = S .within .consts };
+        within = within-same len refl refl refl (S .within);
         own = S .own;
         fin = S .fin;
         pages = S .pages;

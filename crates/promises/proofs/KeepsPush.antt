@@ -1,31 +1,31 @@
 -- Pushing a region keeps a heap sound: the page taken becomes the only page of a new region, holds no value, and no other page changes.
-use Prim.Native.Nat.{ℕ, suc, _+_, _-_, _*_, _^_, _≤_, _<_}
+use Prim.Native.Nat.{ℕ, suc, _+_, _-_, _*_, _^_, _<_}
+use native.Mathlib.Nat.{eq-or-lt-of-le}
 use native.Mathlib.Omega.{arith}
-use native.Mathlib.Decide.{ℕ-discrete}
 use mathlib.Core.Path.{_≡_, refl, sym, ap, _∙_, subst}
 use mathlib.Core.Logic.{_≢_, _⊎_, inl, inr}
 use mathlib.Core.Bool.{true, false, not}
-use mathlib.Core.List.{List, [], _∷_, List·Memᴰ, List·Memᴰ·head, List·Memᴰ·eq-of-singleton}
+use mathlib.Core.List.{List, [], _∷_, List·Memᴰ, List·Memᴰ·eq-of-singleton}
 use lib.ListN.{length}
 use lib.Dec.{leb, eqb}
 use borrow.Author.Tests.{leb-false, eqb-false}
 use Rattle.laws.specs.Lists.{at}
-use Rattle.laws.proofs.Loops.{choice-keeps}
-use Rattle.laws.proofs.Once.{Linked, linked-first}
-use Rattle.rules.specs.Memory.{Store, lent, pageCount, pageEnd, pageAddress, bodyAddress, link, statusOf, setRow}
+use Rattle.laws.proofs.Choices.{choice-keeps}
+use Rattle.rules.specs.Memory.{Store, lent, pageCount, pageEnd, pageAddress, bodyAddress, statusOf, setRow}
 use Rattle.rules.specs.Words.{isRecord}
 use Rattle.rules.specs.Refusals.{refused}
 use Rattle.rules.specs.Pages.{Run, begun, recordAfter, linkFits}
 use Rattle.rules.specs.Calls.{pushOn, push}
-use Rattle.facts.proofs.Steps.{Stands, Steps, steps-le}
-use Rattle.facts.proofs.Laid.{spare≢mine, upd, upd-same, upd-other, Owner, old, spare, mine, Layout, chain-body, chain-apart}
-use Rattle.facts.proofs.Framed.{below-fin}
+use Rattle.rules.proofs.Limits.{within-same}
+use Rattle.rules.proofs.Steps.{Stands, Steps, steps-le}
+use Rattle.facts.proofs.Laid.{spare≢mine, upd, upd-same, upd-other, Owner, old, spare, mine, Layout, chain-body, chain-apart, first-spare, first-is}
+use Rattle.facts.proofs.Framed.{below-fin, chain-below}
 use Rattle.facts.proofs.Sound.{Good, Sound}
-use Rattle.working.proofs.Owned.{sound-owned, Owned}
+use Rattle.working.proofs.Owned.{sound-owned, Owned, taken-old, owned-chained}
 use Rattle.working.proofs.Taken.{taken, takes, taken-laid, others}
 use Rattle.rules.specs.Left.{leftPlain}
-use Rattle.working.proofs.OneMore.{same-width, else-row, status-new, status-else, own-new, pages-new, pages-old, region-laid, old-before, region-owned}
-use Rattle.promises.proofs.KeepsGood.{admitted-keeps, good-kept, record-was, field-was, not-old, chained-by}
+use Rattle.working.proofs.OneMore.{same-width, else-row, status-new, status-else, own-new, pages-new, pages-old, region-laid, region-owned}
+use Rattle.promises.proofs.KeepsGood.{admitted-keeps, FieldWas, behind, before, good-kept, field-was, not-old}
 
 module _ (s : Store) (S : Sound s) (k : ℕ) (ks : List ℕ) (free : S .free ≡ k ∷ ks) (below : s .ctl .regions < 64) where
   abbrev n : ℕ
@@ -62,7 +62,7 @@ module _ (s : Store) (S : Sound s) (k : ℕ) (ks : List ℕ) (free : S .free ≡
   L₁ = taken-laid n N R (S .own) (S .fin) (S .pages) k ks (begun s) L R
 
   spare-k : S .own k ≡ spare
-  spare-k = L .free-own k (List·Memᴰ·head refl)
+  spare-k = first-spare L
 
   abbrev table′ : List ℕ
   table′ = setRow (r₁ .table) R (pageEnd n k) (pageAddress n k) (bodyAddress n k) 0
@@ -70,14 +70,6 @@ module _ (s : Store) (S : Sound s) (k : ℕ) (ks : List ℕ) (free : S .free ≡
   -- other rows are as they were
   abbrev else : (x : ℕ) → (x < 4 * R) ⊎ (4 * R + 3 < x) → at table′ x ≡ at (s .table) x
   else = else-row n N R (S .own) (S .fin) (S .pages) k ks (begun s) L wide
-
-  -- a region is an old one or the new one
-  old-or-new : (j : ℕ) → j < suc R → (j < R) ⊎ (j ≡ R)
-  old-or-new j b = go (ℕ-discrete j R)
-    where
-      go : Dec (j ≡ R) → (j < R) ⊎ (j ≡ R)
-      go (yes e) = inr e
-      go (no ne) = inl (omega arith)
 
   abbrev was-old : (j : ℕ) → j ≢ R → pages′ j ≡ S .pages j
   was-old = pages-old n N R (S .own) (S .fin) (S .pages) k ks (begun s) L wide
@@ -112,21 +104,19 @@ module _ (s : Store) (S : Sound s) (k : ℕ) (ks : List ℕ) (free : S .free ≡
 
   fields′ : (j l a c i : ℕ) → j < suc R → List·Memᴰ l (pages′ j) → Steps (r₁ .heap) (l * P + P) (l * P + 2) a → Stands (r₁ .heap) (l * P + P) a c
       → isRecord (at (r₁ .heap) a) ≡ true → i < c → Good n (suc R) (r₁ .heap) (s .consts) (at (r₁ .heap) (a + suc i))
-  fields′ j l a c i b m r st rec q = go (old-or-new j b)
+  fields′ j l a c i b m r st rec q = go (eq-or-lt-of-le {n = j} {m = R} (omega arith))
     where
-      was : (u : j < R) → List·Memᴰ l (S .pages j) → (S .fin l ≤ a) ⊎ (Steps (s .heap) (l * P + P) (l * P + 2) a × Stands (s .heap) (l * P + P) a c × (a + suc c ≤ S .fin l))
-          → Good n (suc R) (r₁ .heap) (s .consts) (at (r₁ .heap) (a + suc i))
-      was u p (inl e) =
+      was : j < R → List·Memᴰ l (S .pages j) → FieldWas s S (r₁ .heap) l a c i → Good n (suc R) (r₁ .heap) (s .consts) (at (r₁ .heap) (a + suc i))
+      was u p (behind e) =
           let f : fin′ l ≡ S .fin l = upd-other (S .fin) k (k * P + 2) l (not-k j l u p) in
-          let t = below-fin L₁ j l (L₁ .mine-own j l u p) r st in
+          let t = chain-below L₁ j l u p r st in
           absurd (omega arith)
-      was u p (inr v) =
-          let f = field-was s S (suc R) (r₁ .heap) long keeps j l a c i u b p (v .0) (v .2) q in
-          rw (f .1) (good′ _ (S .fields j l a c i u p (v .0) (v .1) (ap isRecord (sym (f .0)) ∙ rec) q))
+      was u p (before r₀ st₀ rec₀ e g) = rw e (good′ _ g)
 
-      go : (j < R) ⊎ (j ≡ R) → Good n (suc R) (r₁ .heap) (s .consts) (at (r₁ .heap) (a + suc i))
-      go (inl u) = let p : List·Memᴰ l (S .pages j) = rw (was-old j (omega arith)) at m in was u p (record-was s S (suc R) (r₁ .heap) long keeps j l a c u b p r st)
-      go (inr e) =
+      -- a region is the new one or an old one
+      go : (j ≡ R) ⊎ (j < R) → Good n (suc R) (r₁ .heap) (s .consts) (at (r₁ .heap) (a + suc i))
+      go (inr u) = let p : List·Memᴰ l (S .pages j) = rw (was-old j (omega arith)) at m in was u p (field-was s S (suc R) (r₁ .heap) long keeps j l a c i u b p r st rec q)
+      go (inl e) =
           let lk : l ≡ k = List·Memᴰ·eq-of-singleton (rw (is-new j e) at m) in
           let o : own′ l ≡ mine R = ap own′ lk ∙ own-new n N R (S .own) (S .fin) (S .pages) k ks (begun s) L wide in
           let f : fin′ l ≡ k * P + 2 = upd-same (S .fin) k (k * P + 2) l lk in
@@ -139,20 +129,20 @@ module _ (s : Store) (S : Sound s) (k : ℕ) (ks : List ℕ) (free : S .free ≡
   owned′ = region-owned n N R (S .own) (S .fin) (S .pages) k ks (begun s) L wide (subst (λ fs. Owned N R (S .own) (S .pages) fs) free (sound-owned s S))
 
   none-old : (l : ℕ) → own′ l ≢ old
-  none-old l e = not-old s S l (old-before n N R (S .own) (S .fin) (S .pages) k ks (begun s) L wide l e)
+  none-old l e = not-old s S l (taken-old (S .own) k R spare-k l .1 e)
 
   idle′ : (j : ℕ) → j < suc R → statusOf table′ j ≡ 0
-  idle′ j b = go (old-or-new j b)
+  idle′ j b = go (eq-or-lt-of-le {n = j} {m = R} (omega arith))
     where
-      go : (j < R) ⊎ (j ≡ R) → statusOf table′ j ≡ 0
-      go (inl q) = status-else n N R (S .own) (S .fin) (S .pages) k ks (begun s) L wide j (omega arith) ∙ S .idle j q
-      go (inr e) = status-new n N R (S .own) (S .fin) (S .pages) k ks (begun s) L wide j e
+      go : (j ≡ R) ⊎ (j < R) → statusOf table′ j ≡ 0
+      go (inr q) = status-else n N R (S .own) (S .fin) (S .pages) k ks (begun s) L wide j (omega arith) ∙ S .idle j q
+      go (inl e) = status-new n N R (S .own) (S .fin) (S .pages) k ks (begun s) L wide j e
 
   pub push-sound : Sound s′
   push-sound =
       let w = same-width n N R (S .own) (S .fin) (S .pages) k ks (begun s) L wide in
       record {
-        within = record { paged = rw long (S .within .paged); two = rw long (S .within .two); table = w ∙ S .within .table; roots = S .within .roots; consts = S .within .consts };
+        within = within-same long w refl refl (S .within);
         own = own′;
         fin = fin′;
         pages = pages′;
@@ -161,7 +151,7 @@ module _ (s : Store) (S : Sound s) (k : ℕ) (ks : List ℕ) (free : S .free ≡
         past = λ x p q. else x (inr (omega arith)) ∙ S .past x (omega arith) q;
         idle = idle′;
         laid = rw long laid;
-        chained = rw long (chained-by owned′ none-old);
+        chained = rw long (λ l b. owned-chained owned′ l b (none-old l));
         fields = fields′;
         roots = λ i b. good′ _ (S .roots i b);
         consts = S .consts;
@@ -187,5 +177,5 @@ push-keeps s S =
     choice-keeps (λ o. Sound (leftPlain o)) (not (linkFits (s .ctl .n) (s .heap) (s .ctl .first - 1) (s .ctl .count))) _ _ (λ e. S)
     (λ e₃.
     let f = some-free s S e₂ in
-    let q : s .ctl .first ≡ suc (f .0) = linked-first (subst (λ fs. Linked (link (s .ctl .n) (s .heap)) (s .ctl .first) fs) (f .2) (S .laid .free-links)) .0 in
+    let q : s .ctl .first ≡ suc (f .0) = first-is (S .laid) (f .2) in
     rw (takes (s .ctl .n) (s .ctl .regions) (f .0) (begun s) q, pushOn) (push-sound s S (f .0) (f .1) (f .2) (leb-false 64 (s .ctl .regions) e₁))))))

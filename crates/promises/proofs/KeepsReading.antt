@@ -3,31 +3,26 @@
 use Prim.Native.Nat.{ℕ, suc, _+_, _-_, _*_, _^_, _≤_, _<_}
 use native.Mathlib.Omega.{arith}
 use mathlib.Core.Path.{_≡_, refl, sym, ap, _∙_}
-use mathlib.Core.Bool.{true, false, not, false≢true}
+use mathlib.Core.Bool.{true, false, false≢true}
 use mathlib.Core.List.{List, List·Memᴰ}
 use lib.ListN.{length, take, drop}
-use lib.Dec.{eqb}
-use borrow.Author.Tests.{not-true, not-false, eqb-false}
+use borrow.Author.Tests.{not-true}
 use Rattle.laws.specs.Lists.{at}
-use Rattle.laws.proofs.Loops.{choice-keeps}
-use Rattle.laws.proofs.Lists.{part-same, word-in, part-length}
+use Rattle.laws.proofs.Lists.{word-in, part-length}
 use Rattle.laws.proofs.Facts.{all-at}
 use Rattle.rules.specs.Memory.{Store}
 use Rattle.rules.specs.Words.{inHeap, inConst, wordOf, headOf, isRecord}
-use Rattle.rules.specs.Refusals.{refused}
-use Rattle.rules.specs.Calls.{lookIn, headerIn, fieldsIn, isNumber, Walked, ends, walkSays, walk, pointsInto, letGo, popOn, popTop, pop}
+use Rattle.rules.specs.Calls.{lookIn, headerIn, fieldsIn, isNumber, Walked, ends, walkSays, walk, pointsInto, letGo, pop}
 use Rattle.rules.specs.Seen.{homeIn, seen, path, readAt}
-use Rattle.facts.proofs.Steps.{Stands, Steps, steps-le}
-use Rattle.facts.proofs.Laid.{Body, chain-body}
-use Rattle.facts.proofs.Framed.{value-kept, below-fin}
-use Rattle.facts.proofs.Goods.{page-ends, const-seen, const-home}
-use Rattle.facts.proofs.Looked.{pointer-is, look-at, home-at, seen-plain, words-head}
+use Rattle.rules.proofs.Pointers.{pointer-is}
+use Rattle.facts.proofs.Goods.{page-ends}
+use Rattle.facts.proofs.Looked.{heap-seen, heap-home, const-seen, const-home, seen-plain, words-head}
 use Rattle.facts.proofs.Alike.{Alike, Same, AlikeWalks, both-end, both-stop, paths}
 use Rattle.facts.proofs.Observing.{walk-is, reads-alike}
-use Rattle.facts.proofs.Passing.{meaning, pages-are}
+use Rattle.facts.proofs.Passing.{meaning}
 use Rattle.facts.proofs.Sound.{InHeap, InConst, Good, a-number, to-heap, to-const, GoodConst, number-there, const-there, Sound, Passes, good-page}
 use Rattle.rules.specs.Left.{leftPlain}
-use Rattle.promises.proofs.KeepsGood.{audited-keeps}
+use Rattle.promises.proofs.KeepsGood.{words-there, in-kept}
 use Rattle.promises.proofs.KeepsPop as Pop
 
 -- ---- values that stay
@@ -54,13 +49,17 @@ module _ (s : Store) (S : Sound s) (j : ℕ) (top : s .ctl .regions ≡ suc j) (
     pub good : Good n R (s .heap) (s .consts) v
     pub out : pointsInto n (s .heap) j v ≡ false
 
+  -- so do the fields of the record that v names
+  abbrev FieldsStay : ℕ → Type 0
+  FieldsStay v = isRecord (headerIn (lookIn s v)) ≡ true → (f : ℕ) → f < fieldsIn (lookIn s v) → Stays (at (lookIn s v) (suc f)) (at (lookIn s′ v) (suc f))
+
   stays : (v : ℕ) → Good n R (s .heap) (s .consts) v → pointsInto n (s .heap) j v ≡ false → Stays v v
   stays v g o = record { same = refl; good = g; out = o }
 
   -- the fields of a value that is seen as before, wherever it stands
   module _ (v a l : ℕ) (ws : List ℕ) (inside : a + suc l ≤ length ws) (is : lookIn s v ≡ take (suc l) (drop a ws)) (same : lookIn s v ≡ lookIn s′ v)
       (good : isRecord (at ws a) ≡ true → (f : ℕ) → f < l → Good n R (s .heap) (s .consts) (at ws (a + suc f)) × (pointsInto n (s .heap) j (at ws (a + suc f)) ≡ false)) where
-    fields-stay : isRecord (headerIn (lookIn s v)) ≡ true → (f : ℕ) → f < fieldsIn (lookIn s v) → Stays (at (lookIn s v) (suc f)) (at (lookIn s′ v) (suc f))
+    fields-stay : FieldsStay v
     fields-stay rec f b =
         let z = ap length is ∙ part-length ws a (suc l) inside in
         let w : at (lookIn s v) (suc f) ≡ at ws (a + suc f) = ap (λ x. at x (suc f)) is ∙ word-in ws a (suc l) (suc f) (omega arith) in
@@ -74,69 +73,41 @@ module _ (s : Store) (S : Sound s) (j : ℕ) (top : s .ctl .regions ≡ suc j) (
     k = p .page
 
     low : p .region < j
-    low = let ne = Pop.other-region n R (s .heap) j v a p e o in let b = p .known in omega arith
+    low = let ne = Pop.other-region n R (s .heap) (S .within .paged) j v a p e o in let b = p .known in omega arith
 
     mem : List·Memᴰ k (S .pages (p .region))
     mem = good-page s S a p
 
-    body : Body n (s .heap) k (p .region) (S .fin k)
-    body = chain-body (S .laid) (p .region) k (p .known) mem
-
-    ends-in : a + suc (p .len) ≤ S .fin k
-    ends-in = below-fin (S .laid) (p .region) k (S .laid .mine-own (p .region) k (p .known) mem) (p .steps) (p .stands)
-
     inside : k * 2 ^ n + 2 ^ n ≤ length (s .heap)
     inside = page-ends n (s .heap) (S .within .paged) k (p .there)
-
-    keep : (x : ℕ) → k * 2 ^ n < x → x < S .fin k → at (s .heap) x ≡ at h′ x
-    keep x lo hi = Pop.keeps s S j top free (p .region) k x (p .known) low mem lo hi
 
     v-is : v ≡ 4 * a
     v-is = pointer-is v a e
 
     seen-before : lookIn s v ≡ take (suc (p .len)) (drop a (s .heap))
     seen-before =
-        let b = S .laid .big in
-        ap (lookIn s) v-is ∙ look-at s k a (p .len) (omega arith) inside (p .steps) (p .stands) (p .region) (p .known) (p .whose)
-
-    there-after : Steps h′ (k * 2 ^ n + 2 ^ n) (k * 2 ^ n + 2) a × Stands h′ (k * 2 ^ n + 2 ^ n) a (p .len)
-    there-after =
-        value-kept (s .heap) (k * 2 ^ n + 2 ^ n) (k * 2 ^ n + 2) (S .fin k) (body .filled) (body .rest) h′ (λ x lo hi. keep x (omega arith) hi) (p .steps) (p .stands)
-
-    whose-after : at h′ (k * 2 ^ n + 1) ≡ suc (p .region)
-    whose-after = let b = steps-le (body .filled) in sym (keep (k * 2 ^ n + 1) (omega arith) (omega arith)) ∙ p .whose
+        ap (lookIn s) v-is ∙ heap-seen s (S .within .paged) a p
 
     long : length h′ ≡ length (s .heap)
     long = Pop.long s S j top free
 
-    inside-after : k * 2 ^ n + 2 ^ n ≤ length h′
-    inside-after = let a = inside in let b = long in omega arith
+    -- it is good still
+    abbrev p′ : InHeap n j h′ a
+    p′ = in-kept s S j h′ long (Pop.keeps s S j top free) a p low
 
     seen-after : lookIn s′ v ≡ take (suc (p .len)) (drop a h′)
     seen-after =
-        let b = S .laid .big in
-        ap (lookIn s′) v-is ∙ look-at s′ k a (p .len) (omega arith) inside-after (there-after .0) (there-after .1) (p .region) low whose-after
+        ap (lookIn s′) v-is ∙ heap-seen s′ (S′ .within .paged) a p′
 
     pub value-same : lookIn s v ≡ lookIn s′ v
-    value-same =
-        let lo = steps-le (p .steps) in
-        let hi = ends-in in
-        let end = body .inside in
-        let i = inside in
-        seen-before
-        ∙ part-same (s .heap) h′ a (suc (p .len)) (sym long) (λ x u v. keep x (omega arith) (omega arith)) (omega arith)
-        ∙ sym seen-after
+    value-same = seen-before ∙ words-there s S j h′ long (Pop.keeps s S j top free) a p low ∙ sym seen-after
 
     pub home-same : homeIn s v ≡ homeIn s′ v
     home-same =
-        let b = S .laid .big in
-        ap (homeIn s) v-is
-        ∙ home-at s k a (p .len) (omega arith) inside (p .steps) (p .stands) (p .region) (p .known) (p .whose)
-        ∙ sym (home-at s′ k a (p .len) (omega arith) inside-after (there-after .0) (there-after .1) (p .region) low whose-after)
-        ∙ ap (homeIn s′) (sym v-is)
+        ap (homeIn s) v-is ∙ heap-home s (S .within .paged) a p ∙ sym (heap-home s′ (S′ .within .paged) a p′) ∙ ap (homeIn s′) (sym v-is)
 
     -- its fields stay too
-    pub field-stays : isRecord (headerIn (lookIn s v)) ≡ true → (f : ℕ) → f < fieldsIn (lookIn s v) → Stays (at (lookIn s v) (suc f)) (at (lookIn s′ v) (suc f))
+    pub field-stays : FieldsStay v
     field-stays =
         let i = inside in
         let e = p .stands .ends in
@@ -157,7 +128,7 @@ module _ (s : Store) (S : Sound s) (j : ℕ) (top : s .ctl .regions ≡ suc j) (
     const-stays w (number-there q) = (a-number q, rw (pointsInto, q))
     const-stays w (const-there b q g) = (to-const b q g, rw (pointsInto, q))
 
-    const-field : isRecord (headerIn (lookIn s v)) ≡ true → (f : ℕ) → f < fieldsIn (lookIn s v) → Stays (at (lookIn s v) (suc f)) (at (lookIn s′ v) (suc f))
+    const-field : FieldsStay v
     const-field =
         fields-stay v a (p .len) (s .consts) (p .stands .ends) (const-seen s v a e p) const-same
         (λ r f q. const-stays (at (s .consts) (a + suc f)) (S .consts .fields a (p .len) f (p .steps) (p .stands) r q))
@@ -170,7 +141,7 @@ module _ (s : Store) (S : Sound s) (j : ℕ) (top : s .ctl .regions ≡ suc j) (
 
   view-same : (v : ℕ) → Good n R (s .heap) (s .consts) v → pointsInto n (s .heap) j v ≡ false
       → (lookIn s v ≡ lookIn s′ v) × (homeIn s v ≡ homeIn s′ v)
-      × (isRecord (headerIn (lookIn s v)) ≡ true → (f : ℕ) → f < fieldsIn (lookIn s v) → Stays (at (lookIn s v) (suc f)) (at (lookIn s′ v) (suc f)))
+      × FieldsStay v
   view-same v (a-number e) o = (
     seen-plain s .no-value v (ap isNumber e) ∙ sym (seen-plain s′ .no-value v (ap isNumber e)),
     seen-plain s .no-home v (ap isNumber e) ∙ sym (seen-plain s′ .no-home v (ap isNumber e)),
@@ -220,17 +191,7 @@ pub record SameWalk (s s′ : Store) (i : ℕ) (fs : List ℕ) : Type 0 where
   pub reads : readAt s (walk s i fs) ≡ readAt s′ (walk s′ i fs)
 
 pub pop-reads : (s : Store) → Passes s → (i : ℕ) (fs : List ℕ) → SameWalk s (leftPlain (pop s)) i fs
-unfolding pop popTop popOn
-pop-reads s P i fs =
-    audited-keeps (λ o. SameWalk s (leftPlain o) i fs) (refused s) s _ (λ r. stayed)
-    (λ l c b.
-    choice-keeps (λ o. SameWalk s (leftPlain o) i fs) (eqb (s .ctl .regions) 0) _ _ (λ e. stayed)
-    (λ e₁.
-    let j : ℕ = s .ctl .regions - 1 in
-    let ne = eqb-false (s .ctl .regions) 0 e₁ in
-    let top : s .ctl .regions ≡ suc j = omega arith in
-    choice-keeps (λ o. SameWalk s (leftPlain o) i fs) (not (letGo (s .ctl .n) (s .heap) (s .table) (s .roots) j)) _ _ (λ e. stayed)
-    (λ e₂. rw (pages-are s S j (omega arith)) (popped j top (not-false _ e₂)))))
+pop-reads s P i fs = Pop.pop-leaves (λ t. SameWalk s t i fs) s S stayed popped
   where
     S : Sound s
     S = meaning s .0 P

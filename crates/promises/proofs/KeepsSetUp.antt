@@ -1,9 +1,9 @@
 -- Setting up leaves a sound heap, from any words, if the constants keep rule 8: every page is free and linked to the next, no region is
 -- there, and every root is a number.
-use Prim.Native.Nat.{ℕ, zero, suc, _+_, _-_, _*_, _/_, _^_, _≤_, _<_, zero-le, suc-le-suc}
+use Prim.Native.Nat.{ℕ, zero, suc, _+_, _-_, _*_, _/_, _^_, _≤_, _<_, zero-le}
 use native.Mathlib.Nat.{add-zero, zero-add, zero-mul}
 use native.Mathlib.Omega.{arith}
-use mathlib.Core.Path.{_≡_, refl, sym, ap, _∙_}
+use mathlib.Core.Path.{_≡_, refl, sym, ap, _∙_, subst}
 use mathlib.Core.Logic.{_≢_}
 use mathlib.Core.Bool.{Bool, true, false}
 use mathlib.Core.List.{List, [], _∷_, _++_, List·Memᴰ}
@@ -19,7 +19,7 @@ use Rattle.rules.specs.Audit.{lastLink}
 use Rattle.rules.specs.Pages.{begun}
 use Rattle.rules.specs.Refusals.{Paged}
 use Rattle.rules.specs.Calls.{freshPages}
-use Rattle.rules.proofs.Limits.{page-size, whole-pages}
+use Rattle.rules.proofs.Limits.{paged-size, whole-pages, two-pages, within-same}
 use Rattle.rules.proofs.Fresh.{page-length}
 use Rattle.facts.proofs.Laid.{spare≢mine, spare≢beyond, mine≢beyond, Owner, spare, beyond, mine, Clean, Layout}
 use Rattle.facts.proofs.Means.{within-of}
@@ -117,7 +117,7 @@ module _ (n : ℕ) (s : Store) (fits : limits n (length (s .heap)) (length (s .t
   paged = within .paged
 
   size : (16 ≤ 2 ^ n) × (2 ^ n ≤ 256)
-  size = page-size n (paged .low) (paged .high)
+  size = paged-size n (length (s .heap)) paged
 
   big : 1 ≤ 2 ^ n
   big = let a = size in omega arith
@@ -125,17 +125,8 @@ module _ (n : ℕ) (s : Store) (fits : limits n (length (s .heap)) (length (s .t
   long : length h ≡ length (s .heap)
   long = fresh-length n big N 0 ∙ whole-pages n (length (s .heap)) paged
 
-  some-pages : 0 < N
-  some-pages = some N refl
-    where
-      some : (m : ℕ) → N ≡ m → 0 < m
-      some zero e =
-          let a = within .two in
-          let b = whole-pages n (length (s .heap)) paged in
-          let c : N * 2 ^ n ≡ 0 = rw (e, zero-mul) in
-          let d = size in
-          absurd (omega arith)
-      some (suc m) e = suc-le-suc zero-le
+  some-pages : N ≡ suc (N - 1)
+  some-pages = let a = two-pages n (length (s .heap)) paged (within .two) in omega arith
 
   own : ℕ → Owner
   own k = elim (ltb k N) [ true ↦ spare | false ↦ beyond ]
@@ -153,12 +144,7 @@ module _ (n : ℕ) (s : Store) (fits : limits n (length (s .heap)) (length (s .t
       go false e = absurd (ne (rw (own, e)))
 
   never : {A : Type 0} (k j : ℕ) → own k ≡ mine j → A
-  unfolding own
-  never {A} k j e = go (ltb k N) refl
-    where
-      go : (b : Bool) → ltb k N ≡ b → A
-      go true q = spare≢mine refl (rw (own, q) at e)
-      go false q = mine≢beyond (rw (own, q) at e) refl
+  never k j e = spare≢mine (own-there k (there k (λ q. mine≢beyond e q))) e
 
   free : List ℕ
   free = counting N 0
@@ -169,22 +155,18 @@ module _ (n : ℕ) (s : Store) (fits : limits n (length (s .heap)) (length (s .t
 
   linked : Linked (link n h) 1 free
   unfolding free link
-  linked = go N refl
+  linked =
+      subst (λ m. Linked (link n h) 1 (counting m 0)) (sym some-pages)
+      (counting-linked (link n h) N next (λ i q. fresh-last n big N 0 i q) (N - 1) 0 (let e = some-pages in omega arith))
     where
       next : (i : ℕ) → suc i < N → at h (i * 2 ^ n) ≡ suc (suc i)
       next i b = fresh-next n big N 0 i b ∙ ap (λ x. suc (suc x)) (zero-add i)
 
-      go : (m : ℕ) → N ≡ m → Linked (link n h) 1 (counting m 0)
-      go zero e = let b = some-pages in absurd (omega arith)
-      go (suc m) e = counting-linked (link n h) N next (λ i q. fresh-last n big N 0 i q) m 0 (omega arith)
-
   last-is : N ≡ lastLink free
   unfolding free
-  last-is = go N refl
-    where
-      go : (m : ℕ) → N ≡ m → N ≡ lastLink (counting m 0)
-      go zero e = let b = some-pages in absurd (omega arith)
-      go (suc m) e = let q : N ≡ suc (0 + m) = omega arith in q ∙ sym (counting-last m 0)
+  last-is =
+      let q : N ≡ suc (0 + (N - 1)) = some-pages ∙ ap suc (sym (zero-add (N - 1))) in
+      q ∙ sym (counting-last (N - 1) 0) ∙ ap (λ m. lastLink (counting m 0)) (sym some-pages)
 
   cleans : (k : ℕ) → k < N → Clean n h k
   cleans k b =
@@ -232,14 +214,7 @@ module _ (n : ℕ) (s : Store) (fits : limits n (length (s .heap)) (length (s .t
   set-up-sound =
       let p : pageCount n h ≡ N = ap (λ x. x / 2 ^ n) long in
       record {
-        within =
-            record {
-              paged = rw long paged;
-              two = rw long (within .two);
-              table = length-replicate (length (s .table)) 0 ∙ within .table;
-              roots = rw (length-replicate {A = ℕ} (length (s .roots)) 1) (within .roots);
-              consts = within .consts;
-            };
+        within = within-same long (length-replicate (length (s .table)) 0) (length-replicate {A = ℕ} (length (s .roots)) 1) refl within;
         own = own;
         fin = λ k. 0;
         pages = λ j. [];

@@ -6,6 +6,7 @@ use mathlib.Core.Bool.{Bool, true, false, false≢true}
 use lib.IntN.{ℤ, pos, negsuc}
 use lib.Dec.{ltb, eqb}
 use borrow.Author.Tests.{lt-ltb, le-ltb, ltb-true, ltb-false, ne-eqb, eqb-false}
+use Rattle.laws.specs.Choice.{_⇒_∣_}
 use Rattle.rules.specs.declared.Refusal.{Refusal}
 use Rattle.rules.specs.declared.Worded.{Worded}
 use Rattle.rules.specs.declared.Numbered.{Numbered}
@@ -29,24 +30,15 @@ high-word i b =
     let h : (2 ^ 32 - 1 - w) / 2 ≡ i = omega arith in
     rw (o, l, h)
 
--- a number that is not refused reads back
+-- a number that is not refused is in its range
+in-range : (b : Bool) (v w : ℕ) → (b ⇒ Worded.Done v ∣ Worded.Refused Refusal.NoNumber) ≡ Worded.Done w → (b ≡ true) × (v ≡ w)
+in-range true v w e = (refl, cc)
+in-range false v w e = absurd (false≢true cc)
+
+-- and reads back
 pub number-back : (i : ℤ) (w : ℕ) → wordOfNumber i ≡ Worded.Done w → numberOfWord w ≡ Numbered.Done i
-number-back (pos i) w e = go (ltb i (2 ^ 30)) refl
-  where
-    go : (b : Bool) → ltb i (2 ^ 30) ≡ b → numberOfWord w ≡ Numbered.Done (pos i)
-    go true q =
-        let e′ : Worded.Done (2 * i + 1) ≡ Worded.Done w = rw q at e in
-        let x : 2 * i + 1 ≡ w = cc in
-        rw (← x) (low-word i (ltb-true i (2 ^ 30) q))
-    go false q = let e′ : Worded.Refused Refusal.NoNumber ≡ Worded.Done w = rw q at e in absurd (false≢true cc)
-number-back (negsuc i) w e = go (ltb i (2 ^ 30)) refl
-  where
-    go : (b : Bool) → ltb i (2 ^ 30) ≡ b → numberOfWord w ≡ Numbered.Done (negsuc i)
-    go true q =
-        let e′ : Worded.Done (2 ^ 32 - (2 * i + 1)) ≡ Worded.Done w = rw q at e in
-        let x : 2 ^ 32 - (2 * i + 1) ≡ w = cc in
-        rw (← x) (high-word i (ltb-true i (2 ^ 30) q))
-    go false q = let e′ : Worded.Refused Refusal.NoNumber ≡ Worded.Done w = rw q at e in absurd (false≢true cc)
+number-back (pos i) w e = let t = in-range (ltb i (2 ^ 30)) (2 * i + 1) w e in rw (← (t .1)) (low-word i (ltb-true i (2 ^ 30) (t .0)))
+number-back (negsuc i) w e = let t = in-range (ltb i (2 ^ 30)) (2 ^ 32 - (2 * i + 1)) w e in rw (← (t .1)) (high-word i (ltb-true i (2 ^ 30) (t .0)))
 
 -- the word of a number that halving gives
 low-back : (w : ℕ) → (w % 2 ≡ 0 → ⊥) → w < 2 ^ 31 → wordOfNumber (pos (w / 2)) ≡ Worded.Done w

@@ -3,16 +3,16 @@
 use Prim.Native.Nat.{ℕ, zero, suc, _+_, _-_, _*_, _/_, _%_, _^_}
 use native.Mathlib.Omega.{arith}
 use mathlib.Core.Path.{_≡_, refl, sym, ap, _∙_}
-use mathlib.Core.Logic.{_⊎_, inl, inr}
 use mathlib.Core.Bool.{Bool, true, false, _&&_, _||_, not, false≢true}
 use mathlib.Core.Option.{Option, none, some}
 use mathlib.Core.List.{List, [], _∷_}
 use lib.ListN.{length}
 use lib.IntN.{ℤ, pos, negsuc}
 use lib.Dec.{leb, ltb, eqb}
-use borrow.Author.Tests.{eqb-false}
+use borrow.Author.Tests.{leb-true, leb-false, eqb-false}
 use Rattle.laws.specs.Choice.{_⇒_∣_}
 use Rattle.laws.specs.Lists.{at}
+use Rattle.laws.proofs.Choices.{choices-agree}
 use Rattle.rules.specs.declared.Control.{Control}
 use Rattle.rules.specs.declared.Kind.{Kind}
 use Rattle.rules.specs.declared.Refusal.{Refusal}
@@ -24,16 +24,20 @@ use Rattle.rules.specs.Memory.{Store, pageCount, pageWords, endOf, topOf}
 use Rattle.rules.specs.Words.{Word, number, inHeap, inConst, wordOf, pointerAddress, isRecord, goodHeap, goodConst, goodIn}
 use Rattle.rules.specs.Audit.{goodWord}
 use Rattle.rules.specs.Refusals.{Outcome, refused, leaving, withinLimits, commonTest, unbroken}
-use Rattle.rules.specs.Pages.{Run, begun, takePage, room, place}
-use Rattle.rules.specs.Calls.{lookIn, headerIn, fieldsIn, wordOfNumber, numberOfWord, setUp, pushOn, push, popOn, popTop, pop, headerFor, allocateOn, allocateIn, allocate, fetch, isThere, fetchRefusal, assignAt, assignBy, assign, setRoot, ends, stops, isNumber, stepInto, walkFrom, walkSays, walk, audit, due, usedWords, pageByNumber, pageRefusal}
+use Rattle.rules.specs.Pages.{Run, begun, place}
+use Rattle.rules.specs.Calls.{lookIn, headerIn, fieldsIn, wordOfNumber, numberOfWord, setUp, pushOn, push, popOn, popTop, pop, headerFor, allocateOn, allocateIn, allocate, fetch, isThere, fetchRefusal, assignAt, assignBy, assign, setRoot, Walked, ends, stops, isNumber, stepInto, walkFrom, walkSays, walk, audit, due, usedWords, pageByNumber, pageRefusal}
 use Rattle.rules.specs.Collection.{Ended, finished, lacksPage, unfinished, freshen, evacuateAll, workStack, leaves, ending, collected, collect}
 use Rattle.rules.specs.Image.{writeText, writeImage, Frames, frames, malformed, readText, storeOf, sameLengths, readStore, readOn, readImage}
 use Rattle.rules.specs.Order.{Test, test, whyPlain, whyValued, onPlain, onValued, onOpened, onText, toPlain, toValued, toTold, toWorded, toNumbered, setUpTests, noPage, badLink, pushTests, popTests, allocateTests, fetchTests, isConst, assignTests, setRootTests, stepTests, walkTests, auditTests, dueTests, usedTests, pageTests, lacks, collectTests, writeTests, isMalformed, faultLine, wordsOf, readTests, wordTests, numberTests}
+use Rattle.rules.proofs.Judged.{admissions-agree}
 use Rattle.rules.proofs.Limits.{admits}
+use Rattle.rules.proofs.Pages.{place-here, place-grown}
 use Rattle.facts.proofs.Passing.{meaning}
 use Rattle.facts.proofs.Sound.{Sound}
-use Rattle.working.proofs.Running.{Refusing as LacksPage}
-use Rattle.working.proofs.Collecting.{collects}
+use Rattle.working.proofs.Running.{Collects, runs-dry, runs-through, collects}
+use Rattle.working.proofs.Taken.{takes}
+use Rattle.working.proofs.Ending.{left-store}
+use Rattle.working.proofs.Collecting.{ran-leaves}
 use Rattle.promises.proofs.Ordered.{Lawful, is-done, tested, stopped, passed, after-admission, after-audit}
 use Rattle.rules.proofs.Pointers.{pointer-is}
 
@@ -61,7 +65,7 @@ page-free s l c e = go (s .ctl .first) refl
     go (suc k) q = (k, q)
 
 pub push-lawful : (s : Store) → Lawful (onPlain s) (pushTests s) (push s)
-unfolding push pushOn takePage
+unfolding push pushOn
 push-lawful s =
     after-admission (onPlain s) s _ _
     (λ l c.
@@ -71,7 +75,7 @@ push-lawful s =
     (λ some-page.
     tested (onPlain s) (badLink s) (Refusal.Broken 0) [] _
     (λ ok.
-    is-done (onPlain s) _ (let p = page-free s l c some-page in rw (pushOn, takePage, p .1))))))
+    is-done (onPlain s) _ (let p = page-free s l c some-page in rw (takes (s .ctl .n) (s .ctl .regions) (p .0) (begun s) (p .1), pushOn))))))
 
 pub pop-lawful : (s : Store) → Lawful (onPlain s) (popTests s) (pop s)
 unfolding pop popTop popOn
@@ -83,29 +87,27 @@ pop-lawful s =
 
 -- where a value fits, or a page is there, it is placed
 allocated : (s : Store) (j : ℕ) (ws : List ℕ) → leb (topOf (s .table) j + length ws) (endOf (s .table) j) ≡ true → whyValued (allocateOn s (place (s .ctl .n) j ws (begun s)) .answer) ≡ none
-unfolding allocateOn place room
-allocated s j ws e = rw (place, room, e, allocateOn)
+unfolding allocateOn
+allocated s j ws e = rw (place-here (s .ctl .n) j (begun s) ws (leb-true _ _ e), allocateOn)
 
 allocated-in-page : (s : Store) (j : ℕ) (ws : List ℕ) (k : ℕ) → leb (topOf (s .table) j + length ws) (endOf (s .table) j) ≡ false → s .ctl .first ≡ suc k
     → whyValued (allocateOn s (place (s .ctl .n) j ws (begun s)) .answer) ≡ none
-unfolding allocateOn place room takePage
-allocated-in-page s j ws k e q = rw (place, room, e, takePage, q, allocateOn)
+unfolding allocateOn
+allocated-in-page s j ws k e q = rw (place-grown (s .ctl .n) j (begun s) ws k _ (leb-false _ _ e) (takes (s .ctl .n) j k (begun s) q), allocateOn)
 
-allocate-in : (s : Store) (j : ℕ) (value : List ℕ) → withinLimits s ≡ true → commonTest s ≡ true
-    → Lawful (onValued s)
+abbrev PlacedLawfully : Store → ℕ → List ℕ → Type 0
+PlacedLawfully s j value =
+    Lawful (onValued s)
     (test (not (leb (topOf (s .table) j + length value) (endOf (s .table) j)) && noPage s) Refusal.NoPage
     ∷ test (not (leb (topOf (s .table) j + length value) (endOf (s .table) j)) && badLink s) (Refusal.Broken 0)
     ∷ [])
     (allocateIn s j value)
+
+allocate-in : (s : Store) (j : ℕ) (value : List ℕ) → withinLimits s ≡ true → commonTest s ≡ true → PlacedLawfully s j value
 unfolding allocateIn
 allocate-in s j value l c = go (leb (topOf (s .table) j + length value) (endOf (s .table) j)) refl
   where
-    go : (b : Bool) → leb (topOf (s .table) j + length value) (endOf (s .table) j) ≡ b
-        → Lawful (onValued s)
-        (test (not (leb (topOf (s .table) j + length value) (endOf (s .table) j)) && noPage s) Refusal.NoPage
-        ∷ test (not (leb (topOf (s .table) j + length value) (endOf (s .table) j)) && badLink s) (Refusal.Broken 0)
-        ∷ [])
-        (allocateIn s j value)
+    go : (b : Bool) → leb (topOf (s .table) j + length value) (endOf (s .table) j) ≡ b → PlacedLawfully s j value
     go true e =
         rw e
         (passed (onValued s) Refusal.NoPage _ _
@@ -139,27 +141,22 @@ fetch-lawful s w =
 refused≢done : {A : Type 0} {r : Refusal} {c d : Control} → Plain.Refused r c ≡ Plain.Done d → A
 refused≢done e = absurd (false≢true cc)
 
--- the part that a fetch hands back is empty exactly when the call of its own refuses
+-- a fetch hands back nothing where the call of its own refuses, and a value where it does not
 pub fetch-empty : (s : Store) (w : ℕ) (r : Refusal) → fetchRefusal s w ≡ Plain.Refused r (s .ctl) → fetch s w ≡ []
 unfolding fetch fetchRefusal
-fetch-empty s w r e = go (withinLimits s) refl (commonTest s) refl (lookIn s w) refl
+fetch-empty s w r = admissions-agree (λ x v. x ≡ Plain.Refused r (s .ctl) → v ≡ []) (λ q. Plain.Refused q (s .ctl)) (λ q. []) s (λ q e. refl) (go (lookIn s w))
   where
-    go : (a : Bool) → withinLimits s ≡ a → (b : Bool) → commonTest s ≡ b → (v : List ℕ) → lookIn s w ≡ v → fetch s w ≡ []
-    go false p b q v x = rw p
-    go true p false q v x = rw (p, q)
-    go true p true q [] x = rw (p, q, x)
-    go true p true q (h ∷ ws) x = refused≢done (sym (rw (p, q, x) at e))
+    go : (v : List ℕ) → (not (isThere v) ⇒ Plain.Refused Refusal.NotGood (s .ctl) ∣ Plain.Done (s .ctl)) ≡ Plain.Refused r (s .ctl) → v ≡ []
+    go [] e = refl
+    go (h ∷ ws) e = refused≢done (sym e)
 
--- and there is a value in it where it does not
 pub fetch-there : (s : Store) (w : ℕ) → fetchRefusal s w ≡ Plain.Done (s .ctl) → isThere (fetch s w) ≡ true
 unfolding fetch fetchRefusal
-fetch-there s w e = go (withinLimits s) refl (commonTest s) refl (lookIn s w) refl
+fetch-there s w = admissions-agree (λ x v. x ≡ Plain.Done (s .ctl) → isThere v ≡ true) (λ q. Plain.Refused q (s .ctl)) (λ q. []) s (λ q e. refused≢done e) (go (lookIn s w))
   where
-    go : (a : Bool) → withinLimits s ≡ a → (b : Bool) → commonTest s ≡ b → (v : List ℕ) → lookIn s w ≡ v → isThere (fetch s w) ≡ true
-    go false p b q v x = refused≢done (rw p at e)
-    go true p false q v x = refused≢done (rw (p, q) at e)
-    go true p true q [] x = refused≢done (rw (p, q, x) at e)
-    go true p true q (h ∷ ws) x = rw (p, q, x)
+    go : (v : List ℕ) → (not (isThere v) ⇒ Plain.Refused Refusal.NotGood (s .ctl) ∣ Plain.Done (s .ctl)) ≡ Plain.Done (s .ctl) → isThere v ≡ true
+    go [] e = refused≢done e
+    go (h ∷ ws) e = refl
 
 -- ---- assigning a field
 
@@ -210,46 +207,27 @@ set-root-lawful s i w =
 
 -- ---- walking a path
 
+-- one test more, of a walk
+walk-tested : (c : Control) (b : Bool) (r : Refusal) (ts : List Test) (rest : Walked) → Lawful (toValued c) ts (walkSays c rest)
+    → Lawful (toValued c) (test b r ∷ ts) (walkSays c (b ⇒ stops r ∣ rest))
+walk-tested c true r ts rest l = stopped (toValued c) r ts
+walk-tested c false r ts rest l = passed (toValued c) r ts _ l
+
 -- a walk that is at the word w: each step 7, 9, 10, the final word 7
 steps-lawful : (c : Control) (view : ℕ → List ℕ) (w : ℕ) (path : List ℕ) → Lawful (toValued c) (stepTests view w path) (walkSays c (walkFrom view w path))
 unfolding stepTests walkFrom stepInto
 steps-lawful c view w [] = go (isNumber (wordOf w)) refl
   where
-    go : (b : Bool) → isNumber (wordOf w) ≡ b → Lawful (toValued c) (stepTests view w []) (walkSays c (walkFrom view w []))
-    go true e =
-        rw (stepTests, walkFrom, e)
-        (passed (toValued c) Refusal.NotGood [] _ (is-done (toValued c) (Valued.Done w c) refl))
-    go false e = rw (stepTests, walkFrom, e) (last (isThere (view w)) refl)
-      where
-        last : (b : Bool) → isThere (view w) ≡ b → Lawful (toValued c) (test (not (isThere (view w))) Refusal.NotGood ∷ []) (walkSays c (not (isThere (view w)) ⇒ stops Refusal.NotGood ∣ ends w))
-        last true q = rw q (passed (toValued c) Refusal.NotGood [] _ (is-done (toValued c) (Valued.Done w c) refl))
-        last false q = rw q (stopped (toValued c) Refusal.NotGood [])
-steps-lawful c view w (f ∷ fs) = go (isNumber (wordOf w)) refl (λ x. steps-lawful c view x fs)
-  where
-    into : (a : Bool) → isThere (view w) ≡ a → (b : Bool) → isRecord (headerIn (view w)) ≡ b → (d : Bool) → leb (fieldsIn (view w)) f ≡ d
-        → Lawful (toValued c) (stepTests view (at (view w) (suc f)) fs) (walkSays c (walkFrom view (at (view w) (suc f)) fs))
-        → Lawful (toValued c)
-        (test (not (isThere (view w))) Refusal.NotGood ∷ test (not (isRecord (headerIn (view w)))) Refusal.NoFields ∷ test (leb (fieldsIn (view w)) f) Refusal.NoSuch
-        ∷ stepTests view (at (view w) (suc f)) fs)
-        (walkSays c (stepInto (view w) f (λ x. walkFrom view x fs)))
-    into false p b q d r rest = rw p (stopped (toValued c) Refusal.NotGood _)
-    into true p false q d r rest =
-        rw (p, q)
-        (passed (toValued c) Refusal.NotGood _ _
-        (stopped (toValued c) Refusal.NoFields _))
-    into true p true q true r rest =
-        rw (p, q, r)
-        (passed (toValued c) Refusal.NotGood _ _
-        (passed (toValued c) Refusal.NoFields _ _
-        (stopped (toValued c) Refusal.NoSuch _)))
-    into true p true q false r rest =
-        rw (p, q, r)
-        (passed (toValued c) Refusal.NotGood _ _
-        (passed (toValued c) Refusal.NoFields _ _
-        (passed (toValued c) Refusal.NoSuch _ _ (rest))))
+    done : Lawful (toValued c) [] (walkSays c (ends w))
+    done = is-done (toValued c) (Valued.Done w c) refl
 
+    go : (b : Bool) → isNumber (wordOf w) ≡ b → Lawful (toValued c) (stepTests view w []) (walkSays c (walkFrom view w []))
+    go true e = rw (stepTests, walkFrom, e) (passed (toValued c) Refusal.NotGood [] _ done)
+    go false e = rw (stepTests, walkFrom, e) (walk-tested c (not (isThere (view w))) Refusal.NotGood [] (ends w) done)
+steps-lawful c view w (f ∷ fs) = go (isNumber (wordOf w)) refl (steps-lawful c view (at (view w) (suc f)) fs)
+  where
     go : (b : Bool) → isNumber (wordOf w) ≡ b
-        → ((x : ℕ) → Lawful (toValued c) (stepTests view x fs) (walkSays c (walkFrom view x fs)))
+        → Lawful (toValued c) (stepTests view (at (view w) (suc f)) fs) (walkSays c (walkFrom view (at (view w) (suc f)) fs))
         → Lawful (toValued c) (stepTests view w (f ∷ fs)) (walkSays c (walkFrom view w (f ∷ fs)))
     go true e rest =
         rw (stepTests, walkFrom, e)
@@ -257,7 +235,9 @@ steps-lawful c view w (f ∷ fs) = go (isNumber (wordOf w)) refl (λ x. steps-la
         (stopped (toValued c) Refusal.NoFields _))
     go false e rest =
         rw (stepTests, walkFrom, e)
-        (into (isThere (view w)) refl (isRecord (headerIn (view w))) refl (leb (fieldsIn (view w)) f) refl (rest (at (view w) (suc f))))
+        (walk-tested c (not (isThere (view w))) Refusal.NotGood _ _
+        (walk-tested c (not (isRecord (headerIn (view w)))) Refusal.NoFields _ _
+        (walk-tested c (leb (fieldsIn (view w)) f) Refusal.NoSuch _ _ rest)))
 
 pub walk-lawful : (s : Store) (i : ℕ) (path : List ℕ) → Lawful (toValued (s .ctl)) (walkTests s i path) (walk s i path)
 unfolding walk
@@ -289,26 +269,24 @@ page-lawful s k =
     (λ l c.
     tested (toPlain (s .ctl)) (leb (pageCount (s .ctl .n) (s .heap)) k) Refusal.NoSuch [] _ (λ e. is-done (toPlain (s .ctl)) _ refl))
 
+-- a page is handed back where the call of its own does not refuse, and nothing where it does
 pub page-empty : (s : Store) (k : ℕ) (r : Refusal) → pageRefusal s k ≡ Plain.Refused r (s .ctl) → pageByNumber s k ≡ []
 unfolding pageByNumber pageRefusal
-page-empty s k r e = go (withinLimits s) refl (commonTest s) refl (leb (pageCount (s .ctl .n) (s .heap)) k) refl
+page-empty s k r =
+    admissions-agree Empty (λ q. Plain.Refused q (s .ctl)) (λ q. []) s (λ q e. refl)
+    (choices-agree Empty (leb (pageCount (s .ctl .n) (s .heap)) k) (λ e. refl) (λ e. refused≢done (sym e)))
   where
-    go : (a : Bool) → withinLimits s ≡ a → (b : Bool) → commonTest s ≡ b → (v : Bool) → leb (pageCount (s .ctl .n) (s .heap)) k ≡ v → pageByNumber s k ≡ []
-    go false p b q v x = rw p
-    go true p false q v x = rw (p, q)
-    go true p true q true x = rw (p, q, x)
-    go true p true q false x = refused≢done (sym (rw (p, q, x) at e))
+    Empty : Plain → List ℕ → Type 0
+    Empty x v = x ≡ Plain.Refused r (s .ctl) → v ≡ []
 
 pub page-there : (s : Store) (k : ℕ) → pageRefusal s k ≡ Plain.Done (s .ctl) → pageByNumber s k ≡ pageWords (s .ctl .n) (s .heap) k
 unfolding pageByNumber pageRefusal
-page-there s k e = go (withinLimits s) refl (commonTest s) refl (leb (pageCount (s .ctl .n) (s .heap)) k) refl
+page-there s k =
+    admissions-agree There (λ q. Plain.Refused q (s .ctl)) (λ q. []) s (λ q e. refused≢done e)
+    (choices-agree There (leb (pageCount (s .ctl .n) (s .heap)) k) (λ e. refused≢done e) (λ e. refl))
   where
-    go : (a : Bool) → withinLimits s ≡ a → (b : Bool) → commonTest s ≡ b → (v : Bool) → leb (pageCount (s .ctl .n) (s .heap)) k ≡ v
-        → pageByNumber s k ≡ pageWords (s .ctl .n) (s .heap) k
-    go false p b q v x = refused≢done (rw p at e)
-    go true p false q v x = refused≢done (rw (p, q) at e)
-    go true p true q true x = refused≢done (rw (p, q, x) at e)
-    go true p true q false x = rw (p, q, x)
+    There : Plain → List ℕ → Type 0
+    There x v = x ≡ Plain.Done (s .ctl) → v ≡ pageWords (s .ctl .n) (s .heap) k
 
 -- the collection: on a heap that passes its fuel does not run out
 pub collect-lawful : (s : Store) → Lawful (onPlain s) (collectTests s) (collect s)
@@ -317,34 +295,33 @@ collect-lawful s =
     after-audit (onPlain s) s _ _
     (λ l c b. fresh (collects s (meaning s .0 (record { limits = l; common = c; unbroken = b }))) (freshen (s .ctl .n) (s .ctl .regions) 0 (begun s)) refl)
   where
-    Ends : Sound s → Type 0
-    Ends S = ((collected s ≡ refused s Refusal.NoPage) × LacksPage s S) ⊎ ((s′ : Store) × (collected s ≡ leaving s′) × Sound s′)
+    Decided : Type 0
+    Decided = Lawful (onPlain s) (test (lacks s) Refusal.NoPage ∷ []) (collected s)
 
-    none-left : lacks s ≡ true → collected s ≡ refused s Refusal.NoPage → Lawful (onPlain s) (test (lacks s) Refusal.NoPage ∷ []) (collected s)
+    none-left : lacks s ≡ true → collected s ≡ refused s Refusal.NoPage → Decided
     none-left e q = rw (e, q) (stopped (onPlain s) Refusal.NoPage [])
 
-    never : {A : Type 0} {S : Sound s} → Ends S → collected s ≡ refused s (Refusal.Broken 0) → A
-    never (inl u) e =
-        let q : plain (refused s Refusal.NoPage) ≡ plain (refused s (Refusal.Broken 0)) = ap plain (sym (u .0) ∙ e) in
+    never : {A : Type 0} {S : Sound s} → Collects s S → collected s ≡ refused s (Refusal.Broken 0) → A
+    never (runs-dry f x) e =
+        let q : plain (refused s Refusal.NoPage) ≡ plain (refused s (Refusal.Broken 0)) = ap plain (sym f ∙ e) in
         absurd (false≢true cc)
-    never (inr u) e =
-        let q : plain (leaving (u .0)) ≡ plain (refused s (Refusal.Broken 0)) = ap plain (sym (u .1) ∙ e) in
+    never {S = S} (runs-through roots r f x) e =
+        let q : plain (leaving (left-store s S roots r x)) ≡ plain (refused s (Refusal.Broken 0)) = ap plain (sym (f ∙ ran-leaves s S roots r x) ∙ e) in
         absurd (false≢true cc)
 
-    worked : {S : Sound s} → Ends S → (r : Run) → freshen (s .ctl .n) (s .ctl .regions) 0 (begun s) ≡ some r → (p : List ℕ × Run) → evacuateAll (s .ctl .n) (s .roots) r ≡ some p
-        → (e : Ended) → workStack (s .ctl .n) (p .1) ≡ e → Lawful (onPlain s) (test (lacks s) Refusal.NoPage ∷ []) (collected s)
+    worked : {S : Sound s} → Collects s S → (r : Run) → freshen (s .ctl .n) (s .ctl .regions) 0 (begun s) ≡ some r → (p : List ℕ × Run) → evacuateAll (s .ctl .n) (s .roots) r ≡ some p
+        → (e : Ended) → workStack (s .ctl .n) (p .1) ≡ e → Decided
     worked E r q p x (finished t) y =
         let f : lacks s ≡ false = rw (lacks, q, x, y) in
         rw (f, collected, q, x, y) (passed (onPlain s) Refusal.NoPage [] _ (is-done (onPlain s) _ refl))
     worked E r q p x lacksPage y = none-left (rw (lacks, q, x, y)) (rw (collected, q, x, y))
     worked E r q p x unfinished y = never E (rw (collected, q, x, y))
 
-    evacuated : {S : Sound s} → Ends S → (r : Run) → freshen (s .ctl .n) (s .ctl .regions) 0 (begun s) ≡ some r → (o : Option (List ℕ × Run)) → evacuateAll (s .ctl .n) (s .roots) r ≡ o
-        → Lawful (onPlain s) (test (lacks s) Refusal.NoPage ∷ []) (collected s)
+    evacuated : {S : Sound s} → Collects s S → (r : Run) → freshen (s .ctl .n) (s .ctl .regions) 0 (begun s) ≡ some r → (o : Option (List ℕ × Run)) → evacuateAll (s .ctl .n) (s .roots) r ≡ o → Decided
     evacuated E r q none x = none-left (rw (lacks, q, x)) (rw (collected, q, x))
     evacuated E r q (some p) x = worked E r q p x (workStack (s .ctl .n) (p .1)) refl
 
-    fresh : {S : Sound s} → Ends S → (o : Option Run) → freshen (s .ctl .n) (s .ctl .regions) 0 (begun s) ≡ o → Lawful (onPlain s) (test (lacks s) Refusal.NoPage ∷ []) (collected s)
+    fresh : {S : Sound s} → Collects s S → (o : Option Run) → freshen (s .ctl .n) (s .ctl .regions) 0 (begun s) ≡ o → Decided
     fresh E none q = none-left (rw (lacks, q)) (rw (collected, q))
     fresh E (some r) q = evacuated E r q (evacuateAll (s .ctl .n) (s .roots) r) refl
 
@@ -372,17 +349,14 @@ read-lawful text heap table roots consts = go (readText text)
     go (malformed line) =
         stopped (onOpened heap table roots consts) (Refusal.Malformed line) _
 
+-- a number in its range has a word
+in-range : (b : Bool) (w : ℕ) → Lawful toWorded (test (not b) Refusal.NoNumber ∷ []) (b ⇒ Worded.Done w ∣ Worded.Refused Refusal.NoNumber)
+in-range true w = passed toWorded Refusal.NoNumber [] _ (is-done toWorded (Worded.Done w) refl)
+in-range false w = stopped toWorded Refusal.NoNumber []
+
 pub word-lawful : (i : ℤ) → Lawful toWorded (wordTests i) (wordOfNumber i)
-word-lawful (pos i) = go (ltb i (2 ^ 30))
-  where
-    go : (b : Bool) → Lawful toWorded (test (not b) Refusal.NoNumber ∷ []) (b ⇒ Worded.Done (2 * i + 1) ∣ Worded.Refused Refusal.NoNumber)
-    go true = passed toWorded Refusal.NoNumber [] _ (is-done toWorded (Worded.Done (2 * i + 1)) refl)
-    go false = stopped toWorded Refusal.NoNumber []
-word-lawful (negsuc i) = go (ltb i (2 ^ 30))
-  where
-    go : (b : Bool) → Lawful toWorded (test (not b) Refusal.NoNumber ∷ []) (b ⇒ Worded.Done (2 ^ 32 - (2 * i + 1)) ∣ Worded.Refused Refusal.NoNumber)
-    go true = passed toWorded Refusal.NoNumber [] _ (is-done toWorded (Worded.Done (2 ^ 32 - (2 * i + 1))) refl)
-    go false = stopped toWorded Refusal.NoNumber []
+word-lawful (pos i) = in-range (ltb i (2 ^ 30)) (2 * i + 1)
+word-lawful (negsuc i) = in-range (ltb i (2 ^ 30)) (2 ^ 32 - (2 * i + 1))
 
 pub number-lawful : (w : ℕ) → Lawful toNumbered (numberTests w) (numberOfWord w)
 unfolding numberOfWord

@@ -3,14 +3,15 @@
 use Prim.Native.Nat.{ℕ, zero, suc, _+_, _-_, _*_, _^_, _≤_, _<_}
 use mathlib.Core.Path.{_≡_, sym, ap, _∙_}
 use mathlib.Core.List.{List, _++_}
-use native.Mathlib.Nat.{add-zero, zero-mul, add-mul, one-mul}
+use native.Mathlib.Nat.{add-zero, zero-mul, suc-mul, add-mul, one-mul}
 use native.Mathlib.Numerals.{add-one}
 use native.Mathlib.Omega.{arith}
-use lib.ListN.{length, take, drop, set, length-append, length-drop, drop-of-length-le, List·getD-eq-default}
-use lib.Seq.{sets, length-sets, drop-cons, length-take-le}
+use lib.ListN.{length, take, drop, set, length-append, drop-of-length-le, List·getD-eq-default}
+use lib.Seq.{sets, length-sets, drop-cons}
 use Rattle.laws.specs.Lists.{at, padded}
-use Rattle.laws.proofs.Writes.{sets-append, sets-next, sets-whole, part-sets}
+use Rattle.laws.proofs.Writes.{sets-append, sets-next, sets-whole, put-sets}
 use Rattle.laws.proofs.Padded.{length-padded, at-padded}
+use Rattle.rules.proofs.Pages.{page-lent, page-left}
 use Rattle.scanning.specs.Places.{numberAt, wordsAt, wordsOf, afterFrame}
 use Rattle.reading.specs.Parts.{partAt, pagesAt}
 use Rattle.scanning.proofs.Frames.{length-words-at}
@@ -49,18 +50,16 @@ unfolding pagesAt
 pages-at-length zero P text i = sym (zero-mul P)
 pages-at-length (suc m) P text i =
     length-append (partAt P text i) (pagesAt m P text (afterFrame text i))
-    ∙ (let a = length-padded P (wordsOf text i) in let b = pages-at-length m P text (afterFrame text i) in omega (arith, add-mul m 1 P, one-mul P, ap (λ k. k * P) (add-one m)))
+    ∙ (let a = length-padded P (wordsOf text i) in let b = pages-at-length m P text (afterFrame text i) in omega (arith, suc-mul m P))
 
 module _ (n k : ℕ) (heap text : List ℕ) (i m : ℕ) where
   module _ (a p j : ℕ) (ys : List ℕ) (qa : a ≡ k * 2 ^ n) (qp : p ≡ 2 ^ n) (b : k * 2 ^ n + 2 ^ n ≤ length heap)
       (e : ys ≡ partAt (length (take (a + p - a) (drop a heap))) text i) where
     page-filled : take a heap ++ (ys ++ drop (a + p - a) (drop a heap)) ≡ sets heap (k * 2 ^ n) (partAt (2 ^ n) text i)
     page-filled =
-        let s : a + p - a ≡ 2 ^ n = omega arith in
-        let w : length (take (a + p - a) (drop a heap)) ≡ 2 ^ n = length-take-le (a + p - a) (drop a heap) (simp length-drop (omega arith)) ∙ s in
-        let y : ys ≡ partAt (2 ^ n) text i = e ∙ ap (λ x. partAt x text i) w in
-        let l : length (partAt (2 ^ n) text i) ≡ 2 ^ n = length-padded (2 ^ n) (wordsOf text i) in
-        part-sets heap a (a + p) ys (omega arith) (omega arith) (omega (arith, ap length y)) ∙ rw (y, qa)
+        let y : ys ≡ partAt (2 ^ n) text i = e ∙ ap (λ x. partAt x text i) (page-lent n heap k a p qa qp b) in
+        let l : length ys ≡ 2 ^ n = ap length y ∙ length-padded (2 ^ n) (wordsOf text i) in
+        page-left n heap k a p qa qp b ys l ∙ put-sets heap (k * 2 ^ n) ys (omega arith) ∙ ap (sets heap (k * 2 ^ n)) y
 
     pub page-filled-length : length (take a heap ++ (ys ++ drop (a + p - a) (drop a heap))) ≡ length heap
     page-filled-length = ap length page-filled ∙ length-sets heap (k * 2 ^ n) (partAt (2 ^ n) text i)

@@ -1,55 +1,20 @@
--- The first frame by places: what its limits say as facts, that it ends at place 71, and that the judgement of a text is that of the
--- frames behind it.
-use Prim.Native.Nat.{ℕ, _-_, _*_, _^_, _≤_}
+-- The first frame by places: it ends at place 71, since it has eight words, and the judgement of a text is that of the frames behind it.
+use Prim.Native.Nat.{ℕ}
 use mathlib.Core.Path.{_≡_, refl, sym, _∙_}
-use mathlib.Core.Bool.{true, false, false≢true}
+use mathlib.Core.Bool.{true, false}
 use mathlib.Core.List.{List}
-use native.Mathlib.Nat.{mul-le-mul-left, mul-one, one-le-pow}
 use native.Mathlib.Omega.{arith}
-use native.Mathlib.Decide.{ℕ-discrete}
-use borrow.Author.Tests.{leb-true, ne-eqb}
+use borrow.Author.Tests.{ne-eqb}
 use lib.ListN.{drop}
-use Rattle.laws.proofs.Tests.{both, and-right}
+use Rattle.laws.proofs.Tests.{and-right}
 use Rattle.rules.specs.Image.{headFits, layout, Frames, frames, malformed, withFrame, readFrames, readText}
+use Rattle.rules.proofs.FirstFrame.{limited}
 use Rattle.reading.specs.declared.Rest.{Rest}
 use Rattle.reading.specs.declared.Head.{Head}
 use Rattle.reading.specs.declared.Judged.{Judged}
 use Rattle.scanning.specs.Places.{wordsAt, countAt, wordsOf, afterFrame, frameShape, frameFits}
 use Rattle.reading.specs.Parts.{restOf, headList, headFrom, judgedAs}
 use Rattle.scanning.proofs.Frames.{read-frame, length-words-at}
-
--- ---- the limits as facts
-
-pub record Headed (h : Head) : Type 0 where
-  pub low : 4 ≤ h .n
-  pub high : h .n ≤ 8
-  pub two : 2 ≤ h .pages
-  pub size : h .pages * 2 ^ h .n ≤ 65536
-  pub regions : h .regions ≤ 64
-  pub roots : h .roots ≤ 1024
-  pub consts : h .consts ≤ 65535
-
-pub headed : (h : Head) → headFits (headList h) ≡ true → Headed h
-unfolding headFits
-headed h e =
-    let (e6, k) = both e in
-    let (e5, r) = both e6 in
-    let (e4, g) = both e5 in
-    let (e3, s) = both e4 in
-    let (e2, t) = both e3 in
-    let (n4, n8) = both e2 in
-    record {
-      low = leb-true _ _ n4;
-      high = leb-true _ _ n8;
-      two = leb-true _ _ t;
-      size = leb-true _ _ s;
-      regions = leb-true _ _ g;
-      roots = leb-true _ _ r;
-      consts = leb-true _ _ k;
-    }
-
-pub pages-few : (h : Head) → Headed h → h .pages ≤ 65536
-pages-few h g = let s = g .size in omega (arith, mul-le-mul-left (h .pages) (one-le-pow (h .n) 2 (omega arith)), mul-one (h .pages))
 
 -- ---- the frame has eight words
 
@@ -67,13 +32,7 @@ module _ (text : List ℕ) (h : Head) (e : h ≡ headFrom (wordsAt 8 text 6)) (f
   fits = and-right (frameShape 1 text 0) (headFits (wordsOf text 0)) f
 
   eight : countAt text 0 ≡ 8
-  eight = go (ℕ-discrete (countAt text 0) 8)
-    where
-      go : Dec (countAt text 0 ≡ 8) → countAt text 0 ≡ 8
-      go (yes q) = q
-      go (no ne) =
-          let z : false ≡ true = sym (head-other (countAt text 0) text 6 ne) ∙ fits in
-          absurd (false≢true cc)
+  eight = sym (length-words-at (countAt text 0) text 6) ∙ limited (wordsOf text 0) fits .eight
 
   pub head-words : wordsOf text 0 ≡ headList h
   unfolding wordsAt

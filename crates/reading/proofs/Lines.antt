@@ -8,7 +8,8 @@ use native.Mathlib.Numerals.{add-one}
 use native.Mathlib.Omega.{arith}
 use lib.ListN.{length, drop, replicate, drop-of-length-le}
 use lib.Seq.{drop-cons}
-use Rattle.laws.specs.Lists.{at}
+use Rattle.laws.specs.Choice.{_⇒_∣_}
+use Rattle.laws.proofs.Choices.{first-chosen, second-chosen}
 use Rattle.rules.specs.Image.{partFits, Expected, expected, Frames, frames, malformed, withFrame, readFrames}
 use Rattle.scanning.specs.declared.Cursor.{Cursor}
 use Rattle.scanning.specs.declared.Step.{Step}
@@ -25,28 +26,30 @@ pub rest-with : (ws : List ℕ) (f : Frames) → restOf (withFrame ws f) ≡ res
 rest-with ws (frames fs) = refl
 rest-with ws (malformed line) = refl
 
+-- the frame at place i, and the others behind it
+pub line-read : (kind most : ℕ) (es : List Expected) (line : ℕ) (text : List ℕ) (i : ℕ)
+    → readFrames line (expected kind most ∷ es) (drop i text)
+    ≡ (frameFits kind (partFits most) text i ⇒ withFrame (wordsOf text i) (readFrames (suc line) es (drop (afterFrame text i) text)) ∣ malformed line)
+unfolding readFrames
+line-read kind most es line text i = go (frameFits kind (partFits most) text i) refl
+  where
+    go : (b : Bool) → frameFits kind (partFits most) text i ≡ b
+        → readFrames line (expected kind most ∷ es) (drop i text)
+        ≡ (frameFits kind (partFits most) text i ⇒ withFrame (wordsOf text i) (readFrames (suc line) es (drop (afterFrame text i) text)) ∣ malformed line)
+    go true f = rw (readFrames, read-frame kind (partFits most) text i, f)
+    go false f = rw (readFrames, read-frame kind (partFits most) text i, f)
+
 -- ---- a step that the code took, as what the frames are
 
 module _ (text : List ℕ) (c : Cursor) (kind most : ℕ) where
   pub step-next : (n : Cursor) → Step.Next n ≡ frameStep text c kind most
       → (frameFits kind (partFits most) text (c .at) ≡ true) × (n ≡ cursor (afterFrame text (c .at)) (c .line + 1))
   unfolding frameStep
-  step-next n h = go (frameFits kind (partFits most) text (c .at)) refl
-    where
-      go : (b : Bool) → frameFits kind (partFits most) text (c .at) ≡ b
-          → (frameFits kind (partFits most) text (c .at) ≡ true) × (n ≡ cursor (afterFrame text (c .at)) (c .line + 1))
-      go true e = let q : Step.Next n ≡ Step.Next (cursor (afterFrame text (c .at)) (c .line + 1)) = rw e at h in (e, cc)
-      go false e = let q : Step.Next n ≡ Step.Malformed (c .line) = rw e at h in absurd (false≢true cc)
+  step-next n h = let (fits, q) = first-chosen (frameFits kind (partFits most) text (c .at)) h (λ z. false≢true cc) in (fits, cc)
 
   pub step-stop : (l : ℕ) → Step.Malformed l ≡ frameStep text c kind most → (frameFits kind (partFits most) text (c .at) ≡ false) × (l ≡ c .line)
   unfolding frameStep
-  step-stop l h = go (frameFits kind (partFits most) text (c .at)) refl
-    where
-      go : (b : Bool) → frameFits kind (partFits most) text (c .at) ≡ b → (frameFits kind (partFits most) text (c .at) ≡ false) × (l ≡ c .line)
-      go true e =
-          let q : Step.Malformed l ≡ Step.Next (cursor (afterFrame text (c .at)) (c .line + 1)) = rw e at h in
-          absurd (false≢true cc)
-      go false e = let q : Step.Malformed l ≡ Step.Malformed (c .line) = rw e at h in (e, cc)
+  step-stop l h = let (not-fits, q) = second-chosen (frameFits kind (partFits most) text (c .at)) h (λ z. false≢true cc) in (not-fits, cc)
 
   -- how far it goes
   pub step-far : (r : Step) (n : Cursor) → r ≡ Step.Next n → r ≡ frameStep text c kind most → (n .at ≤ c .at + 524287) × (n .line ≡ c .line + 1)
@@ -56,16 +59,12 @@ module _ (text : List ℕ) (c : Cursor) (kind most : ℕ) where
 
   module _ (es : List Expected) (r : Step) (h : r ≡ frameStep text c kind most) where
     pub rest-next : (n : Cursor) → r ≡ Step.Next n → restOf (readFrames (c .line) (expected kind most ∷ es) (drop (c .at) text)) ≡ restOf (readFrames (n .line) es (drop (n .at) text))
-    unfolding readFrames
     rest-next n p =
         let s = step-next n (sym p ∙ h) in
-        rw (readFrames, read-frame kind (partFits most) text (c .at), s .0, s .1, ← add-one (c .line)) (rest-with (wordsOf text (c .at)) (readFrames (c .line + 1) es (drop (afterFrame text (c .at)) text)))
+        rw (line-read kind most es (c .line) text (c .at), s .0, s .1, ← add-one (c .line)) (rest-with (wordsOf text (c .at)) (readFrames (c .line + 1) es (drop (afterFrame text (c .at)) text)))
 
     pub rest-stop : (l : ℕ) → r ≡ Step.Malformed l → restOf (readFrames (c .line) (expected kind most ∷ es) (drop (c .at) text)) ≡ Rest.Malformed l
-    unfolding readFrames
-    rest-stop l p =
-        let s = step-stop l (sym p ∙ h) in
-        rw (readFrames, read-frame kind (partFits most) text (c .at), s .0, s .1)
+    rest-stop l p = let s = step-stop l (sym p ∙ h) in rw (line-read kind most es (c .line) text (c .at), s .0, s .1)
 
 -- ---- pages
 

@@ -1,6 +1,6 @@
 -- A text that is judged to be well formed: its frames are the words that stand at its places, and the store that they give is what filling
 -- leaves. Then what reading an image answers, by the test of the lengths.
-use Prim.Native.Nat.{ℕ, zero, suc, _+_, _*_, _/_, _^_}
+use Prim.Native.Nat.{ℕ, zero, suc, _+_, _*_, _/_, _^_, _≤_}
 use mathlib.Core.Path.{_≡_, refl, sym, ap, _∙_}
 use mathlib.Core.Bool.{Bool, true, false, false≢true}
 use mathlib.Core.List.{List, [], _∷_, _++_}
@@ -17,14 +17,14 @@ use Rattle.rules.specs.declared.Opened.{Opened}
 use Rattle.rules.specs.Memory.{Store, lent}
 use Rattle.rules.specs.Refusals.{Paged, outcome}
 use Rattle.rules.specs.Image.{headFits, partFits, Expected, expected, layout, Frames, frames, malformed, withFrame, readFrames, readText, joined, storeOf, sameLengths, readStore, readImage}
+use Rattle.rules.proofs.FirstFrame.{Limited, limited}
 use Rattle.reading.specs.declared.Rest.{Rest}
 use Rattle.reading.specs.declared.Head.{Head}
 use Rattle.reading.specs.declared.Judged.{Judged}
 use Rattle.scanning.specs.Places.{wordsAt, wordsOf, afterFrame, frameFits}
 use Rattle.reading.specs.Parts.{framesAt, restOf, headList, headFrom, judgedAs, partAt, pagesAt, controlOf, lengthsFit}
-use Rattle.scanning.proofs.Frames.{read-frame}
-use Rattle.reading.proofs.Lines.{rest-with}
-use Rattle.reading.proofs.Heads.{Headed, headed, head-fits, onRest, judged-stop, text-on, judged-on}
+use Rattle.reading.proofs.Lines.{rest-with, line-read}
+use Rattle.reading.proofs.Heads.{head-fits, onRest, judged-stop, text-on, judged-on}
 use Rattle.reading.proofs.Fills.{pages-at-length}
 
 not-well : {A : Type 0} (line : ℕ) → Rest.Malformed line ≡ Rest.Well → A
@@ -42,8 +42,7 @@ frames-at (e ∷ es) line text i w = go (frameFits (e .kind) (partFits (e .most)
   where
     here : (b : Bool) → frameFits (e .kind) (partFits (e .most)) text i ≡ b
         → readFrames line (e ∷ es) (drop i text) ≡ (b ⇒ withFrame (wordsOf text i) (readFrames (suc line) es (drop (afterFrame text i) text)) ∣ malformed line)
-    here true f = rw (readFrames, read-frame (e .kind) (partFits (e .most)) text i, f)
-    here false f = rw (readFrames, read-frame (e .kind) (partFits (e .most)) text i, f)
+    here b f = line-read (e .kind) (e .most) es line text i ∙ ap (λ t. t ⇒ withFrame (wordsOf text i) (readFrames (suc line) es (drop (afterFrame text i) text)) ∣ malformed line) f
 
     go : (b : Bool) → frameFits (e .kind) (partFits (e .most)) text i ≡ b
         → (restOf (readFrames (suc line) es (drop (afterFrame text i) text)) ≡ Rest.Well → readFrames (suc line) es (drop (afterFrame text i) text) ≡ frames (framesAt es text (afterFrame text i)))
@@ -58,7 +57,7 @@ frames-at (e ∷ es) line text i w = go (frameFits (e .kind) (partFits (e .most)
 
 pub record Well (text : List ℕ) (h : Head) : Type 0 where
   pub words : readText text ≡ frames (headList h ∷ framesAt (layout (headList h)) text 71)
-  pub limits : Headed h
+  pub limits : Limited (headList h)
   pub first : h ≡ headFrom (wordsAt 8 text 6)
 
 pub judged-well : (text : List ℕ) (h : Head) → judgedAs (readText text) ≡ Judged.Well h → Well text h
@@ -77,7 +76,7 @@ judged-well text h e = go (frameFits 1 headFits text 0) refl
         rw (← s)
         (record {
           words = text-on text first refl f ∙ ap (withFrame (headList first)) (frames-at (layout (headList first)) 2 text 71 q);
-          limits = headed first (head-fits text first refl f);
+          limits = limited (headList first) (head-fits text first refl f);
           first = refl;
         })
     rest f (Rest.Malformed line) q = not-judged line (sym (judged-on text first refl f ∙ ap (onRest first) q) ∙ e)
@@ -102,12 +101,12 @@ fit h H T R K e =
     let (p, t) = both e1 in
     record { heap = eqb-true _ _ p; table = eqb-true _ _ t; roots = eqb-true _ _ r; consts = eqb-true _ _ k }
 
-pub fit-pages : (h : Head) (H T R K : ℕ) → Headed h → Fit h H T R K → Paged (h .n) H × (h .pages ≡ H / 2 ^ h .n)
+pub fit-pages : (h : Head) (H T R K : ℕ) → Limited (headList h) → Fit h H T R K → Paged (h .n) H × (h .pages ≡ H / 2 ^ h .n)
 fit-pages h H T R K g f = (
   record {
     low = g .low;
     high = g .high;
-    size = (let s = g .size in let e = f .heap in omega arith);
+    size = (let s : h .pages * 2 ^ h .n ≤ 65536 = g .size in let e = f .heap in omega arith);
     whole = rw (f .heap) (mul-mod-left (h .pages) (2 ^ h .n));
   },
   sym (ap (λ x. x / 2 ^ h .n) (f .heap) ∙ mul-div-cancel (h .pages) (pow-pos (h .n))),

@@ -48,48 +48,26 @@ module _ (n : ℕ) (h : List ℕ) where
   unfolding chain chainEnd
   chain-here f k b = (rw (chain, lt-ltb k (pageCount n h) b), rw (chainEnd, lt-ltb k (pageCount n h) b))
 
-  pub chain-go : (f k : ℕ) → 0 < f → (k ≡ 0 → ⊥) → k ≤ length h / 2 ^ n → chain f n h k ≡ (k - 1) ∷ chain (f - 1) n h (getD h ((k - 1) * 2 ^ n) 0)
+  pub chain-go : (f k : ℕ) → 0 < f → (k ≡ 0 → ⊥) → k ≤ length h / 2 ^ n
+      → (chain f n h k ≡ (k - 1) ∷ chain (f - 1) n h (getD h ((k - 1) * 2 ^ n) 0)) × (chainEnd f n h k ≡ chainEnd (f - 1) n h (getD h ((k - 1) * 2 ^ n) 0))
   unfolding link
   chain-go zero k l z b = absurd (omega arith)
   chain-go (suc f) zero l z b = absurd (z refl)
-  chain-go (suc f) (suc k) l z b = rw (sub-one (suc f), sub-one (suc k)) (chain-here f k b .0)
+  chain-go (suc f) (suc k) l z b = rw (sub-one (suc f), sub-one (suc k)) (chain-here f k b)
 
-  -- the ways out: no link, no such page, no page left to pass
-  pub chain-none : (f k : ℕ) → k ≡ 0 → chain f n h k ≡ []
-  unfolding chain
-  chain-none zero k z = refl
-  chain-none (suc f) k z = rw z
+  -- the ways out, and the link that it ends with then: no link, no such page, no page left to pass
+  pub chain-none : (f k : ℕ) → k ≡ 0 → (chain f n h k ≡ []) × (chainEnd f n h k ≡ k)
+  unfolding chain chainEnd
+  chain-none zero k z = (refl, refl)
+  chain-none (suc f) k z = (rw z, rw z)
 
-  pub chain-bad : (f k : ℕ) → length h / 2 ^ n < k → chain f n h k ≡ []
-  unfolding chain
-  chain-bad zero k b = refl
-  chain-bad (suc f) zero b = refl
-  chain-bad (suc f) (suc k) b = rw (chain, le-ltb k (length h / 2 ^ n) (omega arith))
+  pub chain-bad : (f k : ℕ) → length h / 2 ^ n < k → (chain f n h k ≡ []) × (chainEnd f n h k ≡ k)
+  unfolding chain chainEnd
+  chain-bad zero k b = (refl, refl)
+  chain-bad (suc f) zero b = (refl, refl)
+  chain-bad (suc f) (suc k) b = (rw (chain, le-ltb k (length h / 2 ^ n) (omega arith)), rw (chainEnd, le-ltb k (length h / 2 ^ n) (omega arith)))
 
-  pub chain-out : (f k : ℕ) → f ≤ 0 → chain f n h k ≡ []
-  unfolding chain
-  chain-out zero k l = refl
+  pub chain-out : (f k : ℕ) → f ≤ 0 → (chain f n h k ≡ []) × (chainEnd f n h k ≡ k)
+  unfolding chain chainEnd
+  chain-out zero k l = (refl, refl)
   chain-out (suc f) k l = absurd (omega arith)
-
-  -- the link that it ends with
-  pub end-go : (f k : ℕ) → 0 < f → (k ≡ 0 → ⊥) → k ≤ length h / 2 ^ n → chainEnd f n h k ≡ chainEnd (f - 1) n h (getD h ((k - 1) * 2 ^ n) 0)
-  unfolding link
-  end-go zero k l z b = absurd (omega arith)
-  end-go (suc f) zero l z b = absurd (z refl)
-  end-go (suc f) (suc k) l z b = rw (sub-one (suc f), sub-one (suc k)) (chain-here f k b .1)
-
-  pub end-none : (f k : ℕ) → k ≡ 0 → chainEnd f n h k ≡ k
-  unfolding chainEnd
-  end-none zero k z = refl
-  end-none (suc f) k z = rw z
-
-  pub end-bad : (f k : ℕ) → length h / 2 ^ n < k → chainEnd f n h k ≡ k
-  unfolding chainEnd
-  end-bad zero k b = refl
-  end-bad (suc f) zero b = refl
-  end-bad (suc f) (suc k) b = rw (chainEnd, le-ltb k (length h / 2 ^ n) (omega arith))
-
-  pub end-out : (f k : ℕ) → f ≤ 0 → chainEnd f n h k ≡ k
-  unfolding chainEnd
-  end-out zero k l = refl
-  end-out (suc f) k l = absurd (omega arith)

@@ -12,9 +12,10 @@ use lib.ListN.{length, take, drop, getD, set, length-append, length-take, drop-o
 use lib.Seq.{sets, take-suc, drop-cons}
 use Rattle.laws.specs.Lists.{at, padded}
 use Rattle.laws.proofs.Writes.{sets-append, sets-next, sets-front}
+use Rattle.rules.specs.declared.Control.{Control}
 use Rattle.rules.specs.declared.Refusal.{Refusal}
 use Rattle.rules.specs.declared.Valued.{Valued}
-use Rattle.rules.specs.Memory.{Store, pageCount, pageWords, row}
+use Rattle.rules.specs.Memory.{Store, lent, pageCount, pageWords, row}
 use Rattle.rules.specs.Image.{digitOf, hex, hexWords, frame, trim, trimmed, headWords, pageFrames, imageText, written, refusedText, writeText}
 
 -- ---- digits and words
@@ -84,16 +85,21 @@ pub trim-none : (ws : List ℕ) (m : ℕ) → m ≤ 0 → m ≡ length (trim (ta
 unfolding trim
 trim-none ws m b = let q : m ≡ 0 = omega arith in rw q
 
+-- a word before others goes where it is 0 and none of them is left, and else stays before what is left of them
+trim-by : (P : List ℕ → Type 0) (w : ℕ) (ws : List ℕ) → (w ≡ 0 → trim ws ≡ [] → P []) → ((trimmed (trim ws) ≡ true → trimmed (w ∷ trim ws) ≡ true) → P (w ∷ trim ws)) → P (trim (w ∷ ws))
+unfolding trim trimmed
+trim-by P w ws f g = go (trim ws) refl (eqb w 0) refl
+  where
+    go : (ts : List ℕ) → trim ws ≡ ts → (b : Bool) → eqb w 0 ≡ b → P (trim (w ∷ ws))
+    go [] e true z = rw (trim, e, z) (f (eqb-true w 0 z) e)
+    go [] e false z = rw (trim, e, z) (rw e at (g (λ r. rw (e, trimmed, z))))
+    go (t ∷ ts) e b z = rw (trim, e) (rw e at (g (λ r. rw e (rw e at r))))
+
 -- what is left are first words
 pub trim-take : (ws : List ℕ) → take (length (trim ws)) ws ≡ trim ws
 unfolding trim
 trim-take [] = refl
-trim-take (w ∷ ws) = go (trim ws) refl (trim-take ws) (eqb w 0) refl
-  where
-    go : (ts : List ℕ) → trim ws ≡ ts → take (length (trim ws)) ws ≡ trim ws → (b : Bool) → eqb w 0 ≡ b → take (length (trim (w ∷ ws))) (w ∷ ws) ≡ trim (w ∷ ws)
-    go [] e r true z = rw (trim, e, z)
-    go [] e r false z = rw (trim, e, z)
-    go (t ∷ ts) e r b z = rw (trim, e) (ap (λ l. w ∷ l) (rw e at r))
+trim-take (w ∷ ws) = trim-by (λ ts. take (length ts) (w ∷ ws) ≡ ts) w ws (λ z e. refl) (λ f. ap (λ l. w ∷ l) (trim-take ws))
 
 pub trim-part : (ws : List ℕ) (m : ℕ) → m ≡ length (trim ws) → take (m - 0) ws ≡ trim ws
 trim-part ws m e = rw (sub-zero, e) (trim-take ws)
@@ -104,23 +110,15 @@ length-trim ws = let q : length (take (length (trim ws)) ws) ≡ length (trim ws
 pub trim-trimmed : (ws : List ℕ) → trimmed (trim ws) ≡ true
 unfolding trim trimmed
 trim-trimmed [] = refl
-trim-trimmed (w ∷ ws) = go (trim ws) refl (trim-trimmed ws) (eqb w 0) refl
-  where
-    go : (ts : List ℕ) → trim ws ≡ ts → trimmed (trim ws) ≡ true → (b : Bool) → eqb w 0 ≡ b → trimmed (trim (w ∷ ws)) ≡ true
-    go [] e r true z = rw (trim, e, z)
-    go [] e r false z = rw (trim, e, z) (rw (trimmed, z))
-    go (t ∷ ts) e r b z = rw (trim, e) (rw e at r)
+trim-trimmed (w ∷ ws) = trim-by (λ ts. trimmed ts ≡ true) w ws (λ z e. refl) (λ f. f (trim-trimmed ws))
 
 -- the zeros come back
 pub padded-trim : (ws : List ℕ) → padded (length ws) (trim ws) ≡ ws
 unfolding trim padded
 padded-trim [] = refl
-padded-trim (w ∷ ws) = go (trim ws) refl (padded-trim ws) (eqb w 0) refl
-  where
-    go : (ts : List ℕ) → trim ws ≡ ts → padded (length ws) (trim ws) ≡ ws → (b : Bool) → eqb w 0 ≡ b → padded (suc (length ws)) (trim (w ∷ ws)) ≡ w ∷ ws
-    go [] e r true z = let q : 0 ≡ w = sym (eqb-true w 0 z) in rw (trim, e, z) (rw (← q) (ap (λ l. 0 ∷ l) (rw e at r)))
-    go [] e r false z = rw (trim, e, z) (ap (λ l. w ∷ l) (rw e at r))
-    go (t ∷ ts) e r b z = rw (trim, e) (ap (λ l. w ∷ l) (rw e at r))
+padded-trim (w ∷ ws) =
+    trim-by (λ ts. padded (suc (length ws)) ts ≡ w ∷ ws) w ws
+    (λ z e. let q : 0 ≡ w = sym z in rw (← q) (ap (λ l. 0 ∷ l) (rw e at (padded-trim ws)))) (λ f. ap (λ l. w ∷ l) (padded-trim ws))
 
 -- ---- writing by turns
 
@@ -257,3 +255,9 @@ module _ (s : Store) (bytes : List ℕ) (m : ℕ) (e : m ≡ length (imageText s
   text-done b l q =
       let f : b ≡ imageText s ++ drop m bytes = q ∙ sets-front bytes (imageText s) (omega arith) ∙ ap (λ k. imageText s ++ drop k bytes) (sym e) in
       rw (← e, le-ltb (length bytes) m l, f)
+
+-- the text's length, over code that lends the rows of the table as a part of it and has N for the number of pages
+pub text-length : (h t r k : List ℕ) (c : Control) (N : ℕ) → N ≡ pageCount (c .n) h
+    → length (imageText (lent h t r k c))
+    ≡ 71 + (7 + 8 * length (trim (take (row (c .regions) - 0) t))) + (7 + 8 * length (trim r)) + (7 + 8 * length (trim k)) + length (pageFrames (c .n) h N 0)
+text-length h t r k c N e = rw (sub-zero (row (c .regions)), e) (image-length (lent h t r k c))

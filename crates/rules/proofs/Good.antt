@@ -6,23 +6,27 @@ use mathlib.Core.List.{List}
 use native.Mathlib.Omega.{arith}
 use native.Mathlib.Nat.{mul-le-mul-right, le-div-iff-mul-le}
 use borrow.Author.Tests.{le-leb, lt-leb}
+use lib.Pow.{pow-pos}
 use lib.ListN.{length, getD, List·getD-eq-default}
 use lib.Seq.{take-length}
 use Rattle.rules.specs.Memory.{origin}
 use Rattle.rules.specs.Refusals.{Paged}
-use Rattle.rules.specs.Words.{wordOf, valsIn, standsAt, goodOn, goodHeap, goodConst, goodIn}
+use Rattle.rules.specs.Words.{valsIn, standsAt, goodOn, goodHeap, goodConst, goodIn}
 use Rattle.rules.proofs.Chains.{page-vals}
-use Rattle.rules.proofs.Limits.{page-size, whole-pages}
-use Rattle.rules.proofs.Pointers.{number-word}
+use Rattle.rules.proofs.Limits.{whole-pages}
+use Rattle.rules.proofs.Pointers.{heap-word, const-word, number-word}
+
+-- past the last page there is no word
+pub past-pages : (n : ℕ) (h : List ℕ) (k i : ℕ) → Paged n (length h) → length h / 2 ^ n ≤ k → getD h (k * 2 ^ n + i) 0 ≡ 0
+past-pages n h k i g b =
+    let w = whole-pages n (length h) g in
+    let m = mul-le-mul-right (2 ^ n) b in
+    List·getD-eq-default h 0 {n = k * 2 ^ n + i} (omega arith)
 
 -- the page of an address outside has no origin
 pub origin-out : (n : ℕ) (h : List ℕ) (a : ℕ) → Paged n (length h) → length h ≤ a → origin n h (a / 2 ^ n) ≡ 0
 unfolding origin
-origin-out n h a g b =
-    let z = page-size n (g .low) (g .high) in
-    let m : length h / 2 ^ n ≤ a / 2 ^ n = le-div-iff-mul-le {k = 2 ^ n} (omega arith) .1 (rw (whole-pages n (length h) g) b) in
-    let o : length h ≤ a / 2 ^ n * 2 ^ n + 1 = omega (arith, whole-pages n (length h) g, mul-le-mul-right (2 ^ n) m) in
-    List·getD-eq-default h 0 o
+origin-out n h a g b = past-pages n h (a / 2 ^ n) 1 g (le-div-iff-mul-le {k = 2 ^ n} (pow-pos n) .1 (rw (whole-pages n (length h) g) b))
 
 module _ (n R : ℕ) (h : List ℕ) (a : ℕ) where
   pub good-out : Paged n (length h) → length h ≤ a → goodHeap n R h a ≡ false
@@ -52,12 +56,12 @@ const-go h a = rw (take-length h)
 
 module _ (n R : ℕ) (h k : List ℕ) (w : ℕ) where
   pub word-heap : w % 4 ≡ 0 → goodIn n R h k w ≡ goodHeap n R h (w / 4)
-  unfolding goodIn wordOf
-  word-heap e = rw (goodIn, e)
+  unfolding goodIn
+  word-heap m = rw (heap-word w m, goodIn)
 
   pub word-const : w % 4 ≡ 2 → goodIn n R h k w ≡ goodConst k (w / 4)
-  unfolding goodIn wordOf
-  word-const e = rw (goodIn, e)
+  unfolding goodIn
+  word-const m = rw (const-word w m, goodIn)
 
   pub word-number : (w % 4 ≡ 0 → ⊥) → (w % 4 ≡ 2 → ⊥) → goodIn n R h k w ≡ true
   unfolding goodIn

@@ -1,6 +1,7 @@
 -- What a header says, from its remainder by 8.
 use Prim.Native.Nat.{ℕ, zero, suc, _/_, _%_, _≤_}
 use mathlib.Core.Path.{_≡_, refl, sym, ap, _∙_}
+use mathlib.Core.Logic.{_⊎_, inl, inr, ⊎-elim}
 use mathlib.Core.Bool.{Bool, true, false, false≢true, true≢false}
 use mathlib.Core.Option.{Option, none, some, Option·none-ne-some}
 use native.Mathlib.Omega.{arith}
@@ -28,26 +29,26 @@ pub fit-is : (w m l : ℕ) → lengthBy (headOf w) ≡ some l → l ≤ m → fi
 unfolding fit
 fit-is w m l e b = rw (e, fit, le-leb l m b)
 
+-- a remainder that says a length is 1 or 3
+header-by : (r q l : ℕ) → lengthBy (headBy r q) ≡ some l → ((r ≡ 1) ⊎ (r ≡ 3)) × (q ≡ l)
+header-by zero q l e = absurd (false≢true cc)
+header-by (suc zero) q l e = (inl refl, cc)
+header-by (suc (suc zero)) q l e = absurd (false≢true cc)
+header-by (suc (suc (suc zero))) q l e = (inr refl, cc)
+header-by (suc (suc (suc (suc zero)))) q l e = absurd (false≢true cc)
+header-by (suc (suc (suc (suc (suc r))))) q l e = absurd (false≢true cc)
+
 no-head : (r q : ℕ) → (r ≡ 1 → ⊥) → (r ≡ 3 → ⊥) → lengthBy (headBy r q) ≡ none
-no-head zero q a b = refl
-no-head (suc zero) q a b = absurd (a refl)
-no-head (suc (suc zero)) q a b = refl
-no-head (suc (suc (suc zero))) q a b = absurd (b refl)
-no-head (suc (suc (suc (suc zero)))) q a b = refl
-no-head (suc (suc (suc (suc (suc r))))) q a b = refl
+no-head r q a b = go (lengthBy (headBy r q)) refl
+  where
+    go : (o : Option ℕ) → lengthBy (headBy r q) ≡ o → lengthBy (headBy r q) ≡ none
+    go none e = e
+    go (some l) e = absurd (⊎-elim a b (header-by r q l e .0))
 
 -- a header is odd, and has its length from 8 up
 pub header-odd : (w l : ℕ) → lengthBy (headOf w) ≡ some l → (w % 2 ≡ 1) × (w / 8 ≡ l)
 unfolding headOf
-header-odd w l e = go (w % 8) refl e
-  where
-    go : (x : ℕ) → w % 8 ≡ x → lengthBy (headBy x (w / 8)) ≡ some l → (w % 2 ≡ 1) × (w / 8 ≡ l)
-    go zero q t = absurd (false≢true cc)
-    go (suc zero) q t = (omega arith, cc)
-    go (suc (suc zero)) q t = absurd (false≢true cc)
-    go (suc (suc (suc zero))) q t = (omega arith, cc)
-    go (suc (suc (suc (suc zero)))) q t = absurd (false≢true cc)
-    go (suc (suc (suc (suc (suc x))))) q t = absurd (false≢true cc)
+header-odd w l e = let (r, q) = header-by (w % 8) (w / 8) l e in (⊎-elim (λ z. omega arith) (λ z. omega arith) r, q)
 
 fits-by : (h m l : ℕ) → lengthBy (headOf h) ≡ some l → fits h m ≡ leb l m
 unfolding fits fit
@@ -100,15 +101,15 @@ fit-none h m t = go (fit h m) refl
     go none e = e
     go (some l) e = absurd (true≢false (sym (rw (e, fits)) ∙ t))
 
+-- a header that fits says its value's length
+fits-length : (h m : ℕ) → fits h m ≡ true → (lengthBy (headOf h) ≡ some (h / 8)) × (h / 8 ≤ m)
+fits-length h m t = fit-some h m (h / 8) (fit-of h m t .0)
+
 -- what fits, fits into more words
 pub fits-more : (h m k : ℕ) → fits h m ≡ true → m ≤ k → fits h k ≡ true
 unfolding fits
-fits-more h m k t b =
-    let f = fit-of h m t in
-    let g = fit-some h m (h / 8) (f .0) in
-    let q = g .1 in
-    rw (fit-is h k (h / 8) (g .0) (omega arith), fits)
+fits-more h m k t b = let (e, q) = fits-length h m t in rw (fit-is h k (h / 8) e (omega arith), fits)
 
--- a header that fits says how many words its value takes
+-- and how many words it takes
 pub fits-words : (h m : ℕ) → fits h m ≡ true → wordsBy (headOf h) ≡ suc (h / 8)
-fits-words h m t = words-of (headOf h) (h / 8) (fit-some h m (h / 8) (fit-of h m t .0) .0)
+fits-words h m t = words-of (headOf h) (h / 8) (fits-length h m t .0)

@@ -1,5 +1,8 @@
 pub mod Headers
 pub mod Limits
+pub mod Digits
+pub mod FirstFrame
+pub mod Steps
 pub mod Stepping
 pub mod Chains
 pub mod Good

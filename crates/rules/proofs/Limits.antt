@@ -1,19 +1,22 @@
 -- What the limits and the common test say as facts, and that a page of a heap within them lies inside it.
-use Prim.Native.Nat.{ℕ, _+_, _-_, _*_, _/_, _^_, _≤_, _<_}
-use mathlib.Core.Path.{_≡_, refl}
+use Prim.Native.Nat.{ℕ, zero, suc, zero-le, suc-le-suc, _+_, _-_, _*_, _/_, _^_, _≤_, _<_}
+use mathlib.Core.Path.{_≡_, refl, sym, _∙_}
 use mathlib.Core.Bool.{Bool, true, false, Bool·beq, false≢true}
-use borrow.Author.Tests.{leb-true, eqb-true, eqb-false, eq-eqb}
+use borrow.Author.Tests.{leb-true, eqb-true, eq-eqb}
 use lib.Dec.{eqb}
 use Rattle.laws.proofs.Tests.{both}
 use native.Mathlib.Omega.{arith}
 use native.Mathlib.Nat.{le-trans, le-div-iff-mul-le, mul-le-mul-left, mul-le-mul-right, div-add-mod', div-lt-iff-lt-mul, div-le-self}
-use lib.Pow.{pow-pos, pow-mono, shr-le}
+use lib.Pow.{pow-pos, pow-mono}
 use Rattle.rules.specs.declared.Control.{Control}
 use Rattle.rules.specs.Memory.{limits}
 use Rattle.rules.specs.Refusals.{common, Paged, Admitted}
 
 pub page-size : (n : ℕ) → 4 ≤ n → n ≤ 8 → (16 ≤ 2 ^ n) × (2 ^ n ≤ 256)
 page-size n a b = (pow-mono {i = 4} a, pow-mono {j = 8} b)
+
+pub paged-size : (n h : ℕ) → Paged n h → (16 ≤ 2 ^ n) × (2 ^ n ≤ 256)
+paged-size n h g = page-size n (g .low) (g .high)
 
 pub whole-pages : (n h : ℕ) → Paged n h → h / 2 ^ n * 2 ^ n ≡ h
 whole-pages n h g = let w = g .whole in omega (arith, div-add-mod' h (2 ^ n))
@@ -31,7 +34,7 @@ pub record Inside (p base h : ℕ) : Type 0 where
 -- page k lies inside
 pub page-inside : (n h p k : ℕ) → p ≡ 2 ^ n → Paged n h → k < h / 2 ^ n → Inside p (k * p) h
 page-inside n h p k q g b =
-    let z = page-size n (g .low) (g .high) in
+    let z = paged-size n h g in
     rw q
     (record {
       ends = omega (arith, whole-pages n h g, mul-le-mul-right (2 ^ n) b);
@@ -40,9 +43,13 @@ page-inside n h p k q g b =
       size = g .size;
     })
 
+-- there are few pages
+pub pages-few : (n h N : ℕ) → Paged n h → N ≡ h / 2 ^ n → N ≤ 65536
+pages-few n h N g e = let z = g .size in omega (arith, div-le-self h (2 ^ n))
+
 -- a page's number is small enough for its address
 pub page-number : (n h k : ℕ) → Paged n h → k < h / 2 ^ n → (k ≤ 65536) × (n ≤ 8)
-page-number n h k g b = (omega (arith, shr-le h n, g .size), g .high)
+page-number n h k g b = (omega (arith, pages-few n h (h / 2 ^ n) g refl), g .high)
 
 -- so does the page that the link k names, over code that has N for the number of pages and b for the page's address
 pub page-here : (n h N k b : ℕ) → Paged n h → N ≡ h / 2 ^ n → b ≡ (k - 1) * 2 ^ n → (k ≡ 0 → ⊥) → k ≤ N → Inside (2 ^ n) b h
@@ -54,16 +61,13 @@ address-small n k a b =
     let p : 2 ^ n ≤ 256 = pow-mono {j = 8} b in
     (le-trans (mul-le-mul-right (2 ^ n) a) (mul-le-mul-left 65536 p), p)
 
--- the page of address a lies inside
-pub in-page : (n h p base a : ℕ) → p ≡ 2 ^ n → base ≡ a / 2 ^ n * 2 ^ n → Paged n h → a < h → Inside p base h
-in-page n h p base a q e g b =
-    let z = page-size n (g .low) (g .high) in
-    let d : a / 2 ^ n < h / 2 ^ n = div-lt-iff-lt-mul {k = 2 ^ n} (omega arith) .1 (rw (whole-pages n h g) b) in
-    rw (e, q) (page-inside n h (2 ^ n) (a / 2 ^ n) refl g d)
+-- the page of address a is one of the heap's
+pub page-known : (n h a : ℕ) → Paged n h → a < h → a / 2 ^ n < h / 2 ^ n
+page-known n h a g b = div-lt-iff-lt-mul {k = 2 ^ n} (pow-pos n) .1 (rw (whole-pages n h g) b)
 
--- there are few pages
-pub pages-few : (n h N : ℕ) → Paged n h → N ≡ h / 2 ^ n → N ≤ 65536
-pages-few n h N g e = let z = g .size in omega (arith, div-le-self h (2 ^ n))
+-- and lies inside
+pub in-page : (n h p base a : ℕ) → p ≡ 2 ^ n → base ≡ a / 2 ^ n * 2 ^ n → Paged n h → a < h → Inside p base h
+in-page n h p base a q e g b = rw (e, q) (page-inside n h (2 ^ n) (a / 2 ^ n) refl g (page-known n h a g b))
 
 -- ---- the tests of every call, as facts
 
@@ -73,6 +77,10 @@ pub record Within (n h t r k : ℕ) : Type 0 where
   pub table : t ≡ 256
   pub roots : r ≤ 1024
   pub consts : k ≤ 65535
+
+-- parts of the same lengths are within the limits too
+pub within-same : {n h t r k h′ t′ r′ k′ : ℕ} → h′ ≡ h → t′ ≡ t → r′ ≡ r → k′ ≡ k → Within n h t r k → Within n h′ t′ r′ k′
+within-same a b c d w = rw (a, b, c, d) w
 
 pub within : (n h t r k : ℕ) → limits n h t r k ≡ true → Within n h t r k
 unfolding limits
@@ -93,20 +101,15 @@ within n h t r k l =
     }
 
 -- first and count are 0 together
-both-some : (f k : ℕ) → Bool·beq (eqb f 0) (eqb k 0) ≡ true → 0 < k → 0 < f
-both-some f k e b = go (eqb f 0) refl (eqb k 0) refl
-  where
-    go : (x : Bool) → eqb f 0 ≡ x → (y : Bool) → eqb k 0 ≡ y → 0 < f
-    go true p true q = let z = eqb-true k 0 q in absurd (omega arith)
-    go true p false q = absurd (false≢true (rw (p, q) at e))
-    go false p y q = let z = eqb-false f 0 p in omega arith
+together : (a b : Bool) → Bool·beq a b ≡ true → a ≡ b
+together true true e = refl
+together true false e = absurd (false≢true e)
+together false true e = absurd (false≢true e)
+together false false e = refl
 
-both-none : (f k : ℕ) → Bool·beq (eqb f 0) (eqb k 0) ≡ true → k ≡ 0 → f ≡ 0
-both-none f k e b = go (eqb f 0) refl
-  where
-    go : (x : Bool) → eqb f 0 ≡ x → f ≡ 0
-    go true p = eqb-true f 0 p
-    go false p = absurd (false≢true (rw (p, eq-eqb k 0 b) at e))
+both-some : (f k : ℕ) → eqb f 0 ≡ eqb k 0 → 0 < k → 0 < f
+both-some zero k e b = let z = eqb-true k 0 (sym e ∙ eq-eqb 0 0 refl) in absurd (omega arith)
+both-some (suc f) k e b = suc-le-suc zero-le
 
 pub admits : (h t r k : ℕ) (c : Control) → limits (c .n) h t r k ≡ true → common (h / 2 ^ c .n) c ≡ true → Admitted h t r k c
 unfolding common
@@ -124,6 +127,6 @@ admits h t r k c l m =
       regions = leb-true _ _ r64;
       first = leb-true _ _ f1;
       count = leb-true _ _ c1;
-      some-page = both-some (c .first) (c .count) fk;
-      no-page = both-none (c .first) (c .count) fk;
+      some-page = both-some (c .first) (c .count) (together _ _ fk);
+      no-page = λ z. eqb-true (c .first) 0 (together _ _ fk ∙ eq-eqb (c .count) 0 z);
     }

@@ -1,13 +1,14 @@
 -- What a good pointer names: the value lies inside its memory, since the stepping that lands on it tests that; and the turn laws of `look`.
-use Prim.Native.Nat.{ℕ, zero, suc, _+_, _-_, _*_, _/_, _%_, _^_, _<_}
+use Prim.Native.Nat.{ℕ, suc, _+_, _-_, _*_, _/_, _%_, _^_, _<_}
 use mathlib.Core.Path.{_≡_, refl, sym, ap, _∙_}
-use mathlib.Core.Bool.{Bool, true, false, false≢true}
+use mathlib.Core.Bool.{true, false, _&&_, false≢true}
 use mathlib.Core.List.{List, [], _∷_}
 use native.Mathlib.Omega.{arith}
 use native.Mathlib.Decide.{decLe}
 use lib.Dec.{leb}
 use lib.ListN.{length, take, drop}
 use Rattle.laws.specs.Lists.{at}
+use Rattle.laws.proofs.Tests.{both, then-and}
 use Rattle.rules.specs.Calls.{isThere}
 use Rattle.rules.specs.Memory.{origin}
 use Rattle.rules.specs.Refusals.{Paged}
@@ -16,8 +17,8 @@ use Rattle.rules.proofs.Chains.{page-vals}
 use Rattle.rules.proofs.Good.{good-out, const-go}
 use Rattle.rules.proofs.Headers.{fits-more, fits-words}
 use Rattle.rules.proofs.Limits.{in-page}
-use Rattle.rules.proofs.Stepping.{stands-fits}
-use Rattle.rules.proofs.Pointers.{number-word}
+use Rattle.rules.proofs.Steps.{stands-fits}
+use Rattle.rules.proofs.Pointers.{heap-word, const-word, number-word}
 
 -- ---- what a word is
 
@@ -26,18 +27,10 @@ word-is-number w odd = number-word w (λ e. omega arith) (λ e. omega arith)
 
 -- over code that has the address as a
 pub word-is-const : (w a : ℕ) → a ≡ w / 4 → w % 4 ≡ 2 → wordOf w ≡ inConst a
-unfolding wordOf
-word-is-const w a q e = rw (wordOf, e, q)
+word-is-const w a q m = rw q (const-word w m)
 
 pub word-is-heap : (w a : ℕ) → a ≡ w / 4 → (w % 2 ≡ 1 → ⊥) → (w % 4 ≡ 2 → ⊥) → wordOf w ≡ inHeap a
-unfolding wordOf
-word-is-heap w a q even ne = go (w % 4) refl
-  where
-    go : (x : ℕ) → w % 4 ≡ x → wordOf w ≡ inHeap a
-    go zero e = rw (wordOf, e, q)
-    go (suc zero) e = absurd (omega arith)
-    go (suc (suc zero)) e = absurd (ne e)
-    go (suc (suc (suc x))) e = absurd (omega arith)
+word-is-heap w a q even ne = rw q (heap-word w (omega arith))
 
 -- ---- the value that a good pointer names
 
@@ -46,13 +39,10 @@ module _ (n R : ℕ) (h : List ℕ) (a : ℕ) where
   -- its page is a region's, and it stands there
   pub good-parts : goodHeap n R h a ≡ true → (leb 1 (origin n h (a / 2 ^ n)) ≡ true) × (leb (origin n h (a / 2 ^ n)) R ≡ true) × (standsAt a (pageVals n h (a / 2 ^ n)) ≡ true)
   unfolding goodHeap goodOn
-  good-parts t = go (leb 1 (origin n h (a / 2 ^ n))) refl (leb (origin n h (a / 2 ^ n)) R) refl
-    where
-      go : (p : Bool) → leb 1 (origin n h (a / 2 ^ n)) ≡ p → (q : Bool) → leb (origin n h (a / 2 ^ n)) R ≡ q
-          → (leb 1 (origin n h (a / 2 ^ n)) ≡ true) × (leb (origin n h (a / 2 ^ n)) R ≡ true) × (standsAt a (pageVals n h (a / 2 ^ n)) ≡ true)
-      go true e true f = (e, f, rw (e, f, goodOn) at t)
-      go true e false f = absurd (false≢true (rw (e, f, goodOn) at t))
-      go false e q f = absurd (false≢true (rw (e, goodOn) at t))
+  good-parts t =
+      let (o, stands) = both (sym (then-and (leb 1 (origin n h (a / 2 ^ n)) && leb (origin n h (a / 2 ^ n)) R) (standsAt a (pageVals n h (a / 2 ^ n)))) ∙ t) in
+      let (lo, hi) = both {a = leb 1 (origin n h (a / 2 ^ n))} o in
+      (lo, hi, stands)
 
   pub good-fits : Paged n (length h) → goodHeap n R h a ≡ true → (a < length h) × (fits (at h a) (length h - (a + 1)) ≡ true)
   good-fits g t = go (decLe (suc a) (length h))
@@ -62,11 +52,12 @@ module _ (n R : ℕ) (h : List ℕ) (a : ℕ) where
           absurd (false≢true (sym (good-out n R h a g (omega arith)) ∙ t))
       go (yes b) =
           let i = in-page n (length h) (2 ^ n) (a / 2 ^ n * 2 ^ n) a refl refl g b in
-          let s = stands-fits (2 ^ n) a h (a / 2 ^ n * 2 ^ n + 2) (a / 2 ^ n * 2 ^ n + 2 ^ n) (omega arith) (i .ends) (rw (page-vals n h (a / 2 ^ n)) at (good-parts t .2)) in
+          let lo = i .low in
+          let s = stands-fits a h (a / 2 ^ n * 2 ^ n + 2) (a / 2 ^ n * 2 ^ n + 2 ^ n) (omega arith) (i .ends) (rw (page-vals n h (a / 2 ^ n)) at (good-parts t .2)) in
           (b, fits-more (at h a) (a / 2 ^ n * 2 ^ n + 2 ^ n - (a + 1)) (length h - (a + 1)) (s .1) (omega (arith, i .ends)))
 
 pub const-fits : (k : List ℕ) (a : ℕ) → goodConst k a ≡ true → (a < length k) × (fits (at k a) (length k - (a + 1)) ≡ true)
-const-fits k a t = stands-fits (length k) a k 0 (length k) (omega arith) (omega arith) (sym (const-go k a) ∙ t)
+const-fits k a t = stands-fits a k 0 (length k) (omega arith) (omega arith) (sym (const-go k a) ∙ t)
 
 -- the part of memory that a value is, by its end
 pub value-part : (m : List ℕ) (a k : ℕ) → fits (at m a) k ≡ true → take (a + 1 + at m a / 8 - a) (drop a m) ≡ valueAt m a
@@ -79,24 +70,24 @@ value-part m a k t =
 
 module _ (n R : ℕ) (h k : List ℕ) (w a : ℕ) (q : a ≡ w / 4) where
   pub look-heap : w % 4 ≡ 0 → goodHeap n R h a ≡ true → look n R h k w ≡ valueAt h a
-  unfolding look wordOf
-  look-heap e t = rw (look, e, ← q, t)
+  unfolding look
+  look-heap m t = rw (heap-word w m, look, ← q, t)
 
   pub look-no-heap : w % 4 ≡ 0 → goodHeap n R h a ≡ false → look n R h k w ≡ []
-  unfolding look wordOf
-  look-no-heap e t = rw (look, e, ← q, t)
+  unfolding look
+  look-no-heap m t = rw (heap-word w m, look, ← q, t)
 
   pub look-const : w % 4 ≡ 2 → goodConst k a ≡ true → look n R h k w ≡ valueAt k a
-  unfolding look wordOf
-  look-const e t = rw (look, e, ← q, t)
+  unfolding look
+  look-const m t = rw (const-word w m, look, ← q, t)
 
   pub look-no-const : w % 4 ≡ 2 → goodConst k a ≡ false → look n R h k w ≡ []
-  unfolding look wordOf
-  look-no-const e t = rw (look, e, ← q, t)
+  unfolding look
+  look-no-const m t = rw (const-word w m, look, ← q, t)
 
 pub look-number : (n R : ℕ) (h k : List ℕ) (w : ℕ) → (w % 4 ≡ 0 → ⊥) → (w % 4 ≡ 2 → ⊥) → look n R h k w ≡ []
 unfolding look
-look-number n R h k w a b = rw (look, number-word w a b)
+look-number n R h k w a b = rw (number-word w a b, look)
 
 -- a value is there if it has words
 pub there-none : (v : List ℕ) → length v ≡ 0 → isThere v ≡ false

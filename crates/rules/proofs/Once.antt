@@ -1,59 +1,49 @@
 -- Rule 3 as one walk over the pages: region by region its chain opens at a page, bears its origin and ends, so does the free list, and the
--- lengths add up to N. That is the counting form of rule 3 with the tests of each region together.
-use Prim.Native.Nat.{ℕ, _+_, _<_}
-use mathlib.Core.Path.{_≡_, _∙_}
+-- lengths add up to N. That is rule 3 with the tests of each region together, and with the count where each page is in one chain.
+use Prim.Native.Nat.{ℕ, _+_}
+use mathlib.Core.Path.{_≡_, sym, ap, _∙_}
 use mathlib.Core.Bool.{Bool, true, _&&_}
 use mathlib.Core.List.{List}
 use lib.ListN.{length, length-append}
 use lib.Dec.{eqb}
 use Rattle.laws.specs.Lists.{all, allBelow}
-use Rattle.laws.proofs.Tests.{both, and-left, and-right, below-in}
-use Rattle.laws.proofs.Facts.{and-of, same-test, below-of}
+use Rattle.laws.proofs.Tests.{both}
+use Rattle.laws.proofs.Facts.{and-of, same-test, below-and}
 use Rattle.rules.specs.Memory.{Store, pageCount, regionOrigin, origin, firstLink, regionPages, freePages, pagesFrom}
 use Rattle.rules.specs.Audit.{opens, endsWell, lastLink, rule3}
-use Rattle.rules.proofs.Whole.{rule3-counts}
+use Rattle.rules.proofs.Whole.{exactly-once}
 
--- tests below a bound, each and together
-module _ (a b c : ℕ → Bool) (m : ℕ) where
-  pub below-together : (allBelow a m && allBelow b m && allBelow c m) ≡ true → allBelow (λ j. a j && (b j && c j)) m ≡ true
-  below-together t =
-      let (ab, pc) = both {a = allBelow a m && allBelow b m} t in
-      let (pa, pb) = both {a = allBelow a m} ab in
-      below-of (λ j. a j && (b j && c j)) m (λ j l. and-of (below-in a m pa j l) (and-of (below-in b m pb j l) (below-in c m pc j l)))
+-- the tests of rule 3, those of the regions together: a: the chains open; c, d: they and the free list end; e, f: their pages bear their origins;
+-- g, h: free last and count; and b, each page once, which is b′, the sum, where the others hold that it needs
+regroup : (a b c d e f g h b′ : Bool) → (c ≡ true → d ≡ true → e ≡ true → f ≡ true → b ≡ b′)
+    → (a && b && c && d && e && f && g && h) ≡ (a && (e && c) && (f && d && (g && (h && b′))))
+regroup a b c d e f g h b′ same = same-test _ _ there back
+  where
+    there : (a && b && c && d && e && f && g && h) ≡ true → (a && (e && c) && (f && d && (g && (h && b′)))) ≡ true
+    there t =
+        let (t₁, ph) = both {a = a && b && c && d && e && f && g} t in
+        let (t₂, pg) = both {a = a && b && c && d && e && f} t₁ in
+        let (t₃, pf) = both {a = a && b && c && d && e} t₂ in
+        let (t₄, pe) = both {a = a && b && c && d} t₃ in
+        let (t₅, pd) = both {a = a && b && c} t₄ in
+        let (t₆, pc) = both {a = a && b} t₅ in
+        let (pa, pb) = both {a = a} t₆ in
+        and-of (and-of pa (and-of pe pc)) (and-of (and-of pf pd) (and-of pg (and-of ph (sym (same pc pd pe pf) ∙ pb))))
 
-  pub below-apart : allBelow (λ j. a j && (b j && c j)) m ≡ true → (allBelow a m ≡ true) × (allBelow b m ≡ true) × (allBelow c m ≡ true)
-  below-apart t =
-      let each : (j : ℕ) → j < m → (a j && (b j && c j)) ≡ true = below-in (λ j. a j && (b j && c j)) m t in (
-        below-of a m (λ j l. and-left (a j) (b j && c j) (each j l)),
-        below-of b m (λ j l. and-left (b j) (c j) (and-right (a j) (b j && c j) (each j l))),
-        below-of c m (λ j l. and-right (b j) (c j) (and-right (a j) (b j && c j) (each j l))),
-      )
+    back : (a && (e && c) && (f && d && (g && (h && b′)))) ≡ true → (a && b && c && d && e && f && g && h) ≡ true
+    back t =
+        let (t₁, t₂) = both {a = a && (e && c)} t in
+        let (pa, t₃) = both {a = a} t₁ in
+        let (pe, pc) = both {a = e} t₃ in
+        let (t₄, t₅) = both {a = f && d} t₂ in
+        let (pf, pd) = both {a = f} t₄ in
+        let (pg, t₆) = both {a = g} t₅ in
+        let (ph, pb) = both {a = h} t₆ in
+        and-of (and-of (and-of (and-of (and-of (and-of (and-of pa (same pc pd pe pf ∙ pb)) pc) pd) pe) pf) pg) ph
 
-  -- d, e: the free list's pages and its end; f: the sum; g, h: free last and count
-  regroup : (d e f g h : Bool)
-      → (allBelow a m && allBelow c m && e && allBelow b m && d && f && g && h) ≡ (allBelow (λ j. a j && (b j && c j)) m && (d && e && (g && (h && f))))
-  regroup d e f g h = same-test (allBelow a m && allBelow c m && e && allBelow b m && d && f && g && h) (allBelow (λ j. a j && (b j && c j)) m && (d && e && (g && (h && f)))) there back
-    where
-      there : (allBelow a m && allBelow c m && e && allBelow b m && d && f && g && h) ≡ true → (allBelow (λ j. a j && (b j && c j)) m && (d && e && (g && (h && f)))) ≡ true
-      there t =
-          let (t₁, ph) = both {a = allBelow a m && allBelow c m && e && allBelow b m && d && f && g} t in
-          let (t₂, pg) = both {a = allBelow a m && allBelow c m && e && allBelow b m && d && f} t₁ in
-          let (t₃, pf) = both {a = allBelow a m && allBelow c m && e && allBelow b m && d} t₂ in
-          let (t₄, pd) = both {a = allBelow a m && allBelow c m && e && allBelow b m} t₃ in
-          let (t₅, pb) = both {a = allBelow a m && allBelow c m && e} t₄ in
-          let (t₆, pe) = both {a = allBelow a m && allBelow c m} t₅ in
-          let (pa, pc) = both {a = allBelow a m} t₆ in
-          and-of (below-together (and-of (and-of pa pb) pc)) (and-of (and-of pd pe) (and-of pg (and-of ph pf)))
-
-      back : (allBelow (λ j. a j && (b j && c j)) m && (d && e && (g && (h && f)))) ≡ true → (allBelow a m && allBelow c m && e && allBelow b m && d && f && g && h) ≡ true
-      back t =
-          let (t₁, t₂) = both {a = allBelow (λ j. a j && (b j && c j)) m} t in
-          let (t₃, t₄) = both {a = d && e} t₂ in
-          let (pd, pe) = both {a = d} t₃ in
-          let (pg, t₅) = both {a = g} t₄ in
-          let (ph, pf) = both {a = h} t₅ in
-          let r = below-apart t₁ in
-          and-of (and-of (and-of (and-of (and-of (and-of (and-of (r .0) (r .2)) pe) (r .1)) pd) pf) pg) ph
+-- three tests below a bound, each and together
+three-below : (a b c : ℕ → Bool) (m : ℕ) → (allBelow a m && (allBelow b m && allBelow c m)) ≡ allBelow (λ j. a j && (b j && c j)) m
+three-below a b c m = ap (λ x. allBelow a m && x) (sym (below-and b c m)) ∙ sym (below-and a (λ j. b j && c j) m)
 
 module _ (s : Store) where
   abbrev n : ℕ
@@ -72,7 +62,17 @@ module _ (s : Store) where
       && (eqb (s .ctl .last) (lastLink free)
       && (eqb (s .ctl .count) (length free)
       && eqb (length (pagesFrom n (s .heap) (s .table) (s .ctl .regions) 0) + length free) (pageCount n (s .heap))))))
+  unfolding rule3
   rule3-walked =
-      rule3-counts s
-      ∙ regroup (opens n (s .heap) (s .table)) (λ j. bear (regionOrigin j) (regionPages n (s .heap) (s .table) j)) (λ j. endsWell n (s .heap) (firstLink n (s .table) j)) (s .ctl .regions) _ _ _ _ _
-      ∙ rw (length-append (pagesFrom n (s .heap) (s .table) (s .ctl .regions) 0) free)
+      regroup (allBelow opened (s .ctl .regions)) _ (allBelow ending (s .ctl .regions)) (endsWell n (s .heap) (s .ctl .first)) (allBelow bearing (s .ctl .regions)) (bear 0 free) _ _ _
+      (exactly-once n (s .heap) (s .table) (s .ctl .regions) (s .ctl .first))
+      ∙ rw (three-below opened bearing ending (s .ctl .regions), length-append (pagesFrom n (s .heap) (s .table) (s .ctl .regions) 0) free)
+    where
+      opened : ℕ → Bool
+      opened = opens n (s .heap) (s .table)
+
+      bearing : ℕ → Bool
+      bearing j = bear (regionOrigin j) (regionPages n (s .heap) (s .table) j)
+
+      ending : ℕ → Bool
+      ending j = endsWell n (s .heap) (firstLink n (s .table) j)

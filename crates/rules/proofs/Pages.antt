@@ -9,17 +9,26 @@ use native.Mathlib.Numerals.{sub-one}
 use borrow.Author.Tests.{le-leb, lt-leb, eq-eqb, ne-eqb}
 use lib.ListN.{length, length-take, take, drop, replicate, set, length-set, length-replicate}
 use lib.Seq.{getD-set-same}
-use Rattle.laws.specs.Lists.{put}
+use Rattle.laws.specs.Lists.{at, put}
 use Rattle.laws.proofs.Lists.{part-length}
 use Rattle.laws.proofs.Parts.{part-put}
 use Rattle.rules.specs.declared.Refusal.{Refusal}
 use Rattle.rules.specs.declared.Valued.{Valued}
-use Rattle.rules.specs.Memory.{Store, control, pageLink, pageEnd, bodyAddress, pageWords, link, row, endOf, topOf, setEnd, setTop}
+use Rattle.rules.specs.Memory.{Store, control, pageLink, pageEnd, bodyAddress, pageWords, link, origin, row, endOf, topOf, setEnd, setTop}
 use Rattle.rules.specs.Words.{addressPointer}
-use Rattle.rules.specs.Refusals.{outcome, refusedValue}
-use Rattle.rules.proofs.Limits.{page-size}
+use Rattle.rules.specs.Refusals.{Paged, outcome, refusedValue}
+use Rattle.rules.proofs.Limits.{paged-size}
 use Rattle.rules.specs.Pages.{Run, begun, withFree, lastIf, linkFits, takePage, clearPage, join, room, store, place}
 use Rattle.rules.specs.Calls.{allocateOn, allocateIn}
+
+-- the words that stand before the values of page k, which starts at a
+pub link-at : (n k a w : ℕ) (h : List ℕ) → a ≡ k * 2 ^ n → w ≡ at h a → w ≡ link n h k
+unfolding link
+link-at n k a w h e q = rw (← e) q
+
+pub origin-at : (n k a w : ℕ) (h : List ℕ) → a ≡ k * 2 ^ n → w ≡ at h (a + 1) → w ≡ origin n h k
+unfolding origin
+origin-at n k a w h e q = rw (← e) q
 
 -- page k, of p words from a on, is handed back
 pub page-handed : (n : ℕ) (h : List ℕ) (k a p : ℕ) → a ≡ k * 2 ^ n → p ≡ 2 ^ n → take (a + p - a) (drop a h) ≡ pageWords n h k
@@ -29,19 +38,23 @@ page-handed n h k a p qa qp =
     ap (λ m. take m (drop a h)) s ∙ ap (λ x. take (2 ^ n) (drop x h)) qa
 
 -- p words from a on are few
-pub page-short : (n a p : ℕ) (l : List ℕ) → 4 ≤ n → n ≤ 8 → p ≡ 2 ^ n → length (take (a + p - a) l) ≤ 256
-page-short n a p l b c e = let z = page-size n b c in simp length-take (omega arith)
+pub page-short : (n h a p : ℕ) (l : List ℕ) → Paged n h → p ≡ 2 ^ n → length (take (a + p - a) l) ≤ 256
+page-short n h a p l g e = let z = paged-size n h g in simp length-take (omega arith)
 
--- page k, of p words from a on, is lent, and its words are left as ys
+-- page k, of p words from a on, is lent whole, and its words are left as ys
+module _ (n : ℕ) (h : List ℕ) (k a p : ℕ) (qa : a ≡ k * 2 ^ n) (qp : p ≡ 2 ^ n) (b : k * 2 ^ n + 2 ^ n ≤ length h) where
+  pub page-lent : length (take (a + p - a) (drop a h)) ≡ 2 ^ n
+  page-lent = let s : a + p - a ≡ 2 ^ n = omega arith in part-length h a (a + p - a) (omega arith) ∙ s
+
+  pub page-left : (ys : List ℕ) → length ys ≡ 2 ^ n → take a h ++ (ys ++ drop (a + p - a) (drop a h)) ≡ put h (k * 2 ^ n) ys
+  page-left ys l = part-put h a (a + p) ys (omega arith) ∙ ap (λ x. put h x ys) qa
+
 pub page-cleared : (n : ℕ) (h : List ℕ) (k a p : ℕ) (ys : List ℕ) → a ≡ k * 2 ^ n → p ≡ 2 ^ n → k * 2 ^ n + 2 ^ n ≤ length h
     → ys ≡ replicate (length (take (a + p - a) (drop a h))) 0 → take a h ++ (ys ++ drop (a + p - a) (drop a h)) ≡ clearPage n h k
 unfolding clearPage
 page-cleared n h k a p ys qa qp b z =
-    let m = part-length h a (a + p - a) (omega arith) in
-    let s : a + p - a ≡ 2 ^ n = omega arith in
-    let y : ys ≡ replicate (2 ^ n) 0 = z ∙ ap (λ i. replicate i 0) (m ∙ s) in
-    let l : length ys ≡ 2 ^ n = ap length y ∙ length-replicate (2 ^ n) 0 in
-    part-put h a (a + p) ys (omega arith) ∙ ap (λ x. put h x ys) qa ∙ ap (put h (k * 2 ^ n)) y
+    let y : ys ≡ replicate (2 ^ n) 0 = z ∙ ap (λ i. replicate i 0) (page-lent n h k a p qa qp b) in
+    page-left n h k a p qa qp b ys (ap length y ∙ length-replicate (2 ^ n) 0) ∙ ap (put h (k * 2 ^ n)) y
 
 -- free last after a page is taken
 pub last-none : (m l : ℕ) → m ≡ 1 → lastIf (m - 1) l ≡ 0
@@ -60,15 +73,7 @@ pub take-some : (n j : ℕ) (r : Run) → 0 < r .first
       withFree r (set (set (r .heap) ((r .first - 1) * 2 ^ n) 0) ((r .first - 1) * 2 ^ n + 1) (suc j)) (link n (r .heap) (r .first - 1)) (lastIf (r .count - 1) (r .last)) (r .count - 1),
     )
 unfolding takePage
-take-some n j r b = go (r .first) refl
-  where
-    go : (f : ℕ) → r .first ≡ f → takePage n j r
-        ≡ some (
-          r .first - 1,
-          withFree r (set (set (r .heap) ((r .first - 1) * 2 ^ n) 0) ((r .first - 1) * 2 ^ n + 1) (suc j)) (link n (r .heap) (r .first - 1)) (lastIf (r .count - 1) (r .last)) (r .count - 1),
-        )
-    go zero e = absurd (omega arith)
-    go (suc k) e = rw (e, sub-one (suc k))
+take-some n j r b = let e : r .first ≡ suc (r .first - 1) = omega arith in rw (e, sub-one (suc (r .first - 1)))
 
 -- ---- the allocation rule
 

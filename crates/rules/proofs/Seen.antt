@@ -5,7 +5,7 @@ use mathlib.Core.Bool.{Bool, true, false}
 use mathlib.Core.Option.{Option}
 use mathlib.Core.List.{List, [], _∷_}
 use lib.ListN.{length, drop}
-use Rattle.laws.specs.Choice.{_⇒_∣_}
+use Rattle.laws.proofs.Choices.{choice-keeps}
 use Rattle.rules.specs.Words.{isRecord}
 use Rattle.rules.specs.Calls.{headerIn}
 use Rattle.rules.specs.Seen.{masked, Reading, refusal, whole, ofRecord, ofRaw, readValue, ReadsAlike}
@@ -44,19 +44,11 @@ masked-length (w ∷ ws) = ap suc (masked-length ws)
 -- and the parts of a value's
 home-read : (h : ℕ) (v : List ℕ) → homeOf (readValue h v) ≡ h
 unfolding readValue
-home-read h v = go (isRecord (headerIn v)) refl
-  where
-    go : (b : Bool) → isRecord (headerIn v) ≡ b → homeOf (isRecord (headerIn v) ⇒ ofRecord h (masked (drop 1 v)) ∣ ofRaw h (drop 1 v)) ≡ h
-    go true e = rw e
-    go false e = rw e
+home-read h v = choice-keeps (λ r. homeOf r ≡ h) (isRecord (headerIn v)) _ _ (λ e. refl) (λ e. refl)
 
 kind-read : (h : ℕ) (v : List ℕ) → ofKind (readValue h v) ≡ isRecord (headerIn v)
 unfolding readValue
-kind-read h v = go (isRecord (headerIn v)) refl
-  where
-    go : (b : Bool) → isRecord (headerIn v) ≡ b → ofKind (isRecord (headerIn v) ⇒ ofRecord h (masked (drop 1 v)) ∣ ofRaw h (drop 1 v)) ≡ isRecord (headerIn v)
-    go true e = rw e
-    go false e = rw e
+kind-read h v = choice-keeps (λ r. ofKind r ≡ isRecord (headerIn v)) (isRecord (headerIn v)) _ _ (λ e. sym e) (λ e. sym e)
 
 fields-read : (h : ℕ) (v : List ℕ) → isRecord (headerIn v) ≡ true → fieldsOf (readValue h v) ≡ masked (drop 1 v)
 unfolding readValue

@@ -242,6 +242,30 @@ soundings =
     ∷ wants apart 2
     ∷ []
 
-pub soundings-hold : all holds soundings ≡ true
+-- Row by row, so that a wrong definition is refused at the rows that it breaks.
+infixr 5 _and_
+data Rows : List Sounding → Type 0 where
+  no-more : Rows []
+  _and_ : {s : Sounding} {ss : List Sounding} → holds s ≡ true → Rows ss → Rows (s ∷ ss)
+
+rows-hold : Rows soundings
 unfolding put padded all allFrom zeros times lastOr same limits pageWords link origin chain chainEnd regionPages freePages pagesFrom wordOf headOf isRecord fit vals pageVals usedOf standsAt fieldsPass goodOn goodHeap goodConst goodIn ifLast rule2 opens endsWell lastLink rule3 endsAt topFits rule4 filled pageFilled rule5 rule6 rule7 constField rule8 clean rule9 firstFailing brokenRule common linkFits takePage clearPage giveBack giveBackAll join room store place rowFits allocateOn allocateIn allocate audit due freshen wake moveOn moveTo regionAt evacuateAt evacuate evacuateAll scanFields scanValue nextFrom nextScan work workStack leaves ending collected collect digitOf hex hexWords frame trim pageFrames imageText valueOf digits words endFrame readWords readFrame trimmed partFits headFits readFrames layout readText joined programFits collectProgram bytes anyPage freshenFor roomFor moveFor evacuateAtFor evacuateFor rootsFor fieldsFor valueFor workFor stackFor unbounded wanted
-soundings-hold = refl
+rows-hold =
+    refl and refl and refl and refl and refl and
+    refl and
+    refl and
+    refl and
+    refl and refl and
+    refl and refl and
+    refl and
+    refl and refl and
+    refl and
+    refl and refl and refl and refl and refl and refl and refl and no-more
+
+all-hold : {ss : List Sounding} → Rows ss → all holds ss ≡ true
+unfolding all
+all-hold no-more = refl
+all-hold (e and r) = rw (e, all) (all-hold r)
+
+pub soundings-hold : all holds soundings ≡ true
+soundings-hold = all-hold rows-hold

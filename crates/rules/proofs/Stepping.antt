@@ -2,10 +2,9 @@
 -- that value and the values after it; at the end, or where none fits, it is empty.
 use Prim.Native.Nat.{ℕ, zero, suc, _+_, _-_, _/_, _≤_, _<_}
 use mathlib.Core.Path.{_≡_, refl, sym, ap, _∙_}
-use mathlib.Core.Bool.{Bool, true, false, _&&_, false≢true}
+use mathlib.Core.Bool.{Bool, true, false, _&&_}
 use mathlib.Core.List.{List, [], _∷_}
 use native.Mathlib.Omega.{arith}
-use native.Mathlib.Decide.{decLe, ℕ-discrete}
 use native.Mathlib.Nat.{add-zero}
 use native.Mathlib.Numerals.{add-one}
 use borrow.Author.Tests.{eq-eqb, ne-eqb}
@@ -78,30 +77,6 @@ module _ (x : ℕ) (h : List ℕ) (a e : ℕ) where
   pub stands-go : a < e → e ≤ length h → fits (getD h a 0) (e - (a + 1)) ≡ true → (x ≡ a → ⊥) → standsAt x (valsIn h a e) ≡ standsAt x (valsIn h (a + 1 + getD h a 0 / 8) e)
   unfolding standsAt
   stands-go b c f q = rw (vals-step h a e b c f, standsAt, ne-eqb x a q)
-
--- the value landed on fits before the end; f is at least what is left of the words
-pub stands-fits : (f x : ℕ) (h : List ℕ) (a e : ℕ) → e - a ≤ f → e ≤ length h → standsAt x (valsIn h a e) ≡ true
-    → (x < e) × (fits (getD h x 0) (e - (x + 1)) ≡ true)
-stands-fits zero x h a e b c t = absurd (false≢true (sym (stands-end x h a e (omega arith)) ∙ t))
-stands-fits (suc f) x h a e b c t = inside (decLe (suc a) e) (λ a′ l u. stands-fits f x h a′ e l c u)
-  where
-    Fits : Type 0
-    Fits = (x < e) × (fits (getD h x 0) (e - (x + 1)) ≡ true)
-
-    Rest : Type 0
-    Rest = (a′ : ℕ) → e - a′ ≤ f → standsAt x (valsIn h a′ e) ≡ true → Fits
-
-    here : a < e → fits (getD h a 0) (e - (a + 1)) ≡ true → Dec (x ≡ a) → Rest → Fits
-    here l t′ (yes q) rest = rw q (l, t′)
-    here l t′ (no ne) rest = rest (a + 1 + getD h a 0 / 8) (omega arith) (sym (stands-go x h a e l c t′ ne) ∙ t)
-
-    fit-here : a < e → (q : Bool) → fits (getD h a 0) (e - (a + 1)) ≡ q → Rest → Fits
-    fit-here l true t′ rest = here l t′ (ℕ-discrete x a) rest
-    fit-here l false t′ rest = absurd (false≢true (sym (stands-stop x h a e l c t′) ∙ t))
-
-    inside : Dec (suc a ≤ e) → Rest → Fits
-    inside (yes l) rest = fit-here l (fits (getD h a 0) (e - (a + 1))) refl rest
-    inside (no n) rest = absurd (false≢true (sym (stands-end x h a e (omega arith)) ∙ t))
 
 -- ---- the fields of the values
 

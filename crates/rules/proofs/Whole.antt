@@ -4,19 +4,18 @@ use Prim.Native.Nat.{ℕ, zero, suc, _+_, _≤_, _<_}
 use native.Mathlib.Omega.{arith}
 use native.Mathlib.Nat.{le-refl}
 use native.Mathlib.Decide.{ℕ-discrete}
-use mathlib.Core.Path.{_≡_, refl, sym, ap, _∙_}
+use mathlib.Core.Path.{_≡_, refl, ap, _∙_}
 use mathlib.Core.Logic.{_⊎_, inl, inr}
-use mathlib.Core.Bool.{Bool, true, false, _&&_}
+use mathlib.Core.Bool.{Bool, true, false}
 use mathlib.Core.List.{List, [], _∷_, _++_, List·Memᴰ, List·Memᴰ·head, List·Memᴰ·tail, List·Memᴰ·cases-cons, List·Memᴰ·not-nil, List·Memᴰ·append-cases, Memᴰ·append-left, Memᴰ·append-right}
 use lib.ListN.{length}
 use lib.Dec.{ltb, eqb}
 use borrow.Author.Tests.{ltb-true, eqb-true}
 use Rattle.laws.specs.Lists.{all, allBelow, times}
-use Rattle.laws.proofs.Tests.{both, all-in, below-in}
-use Rattle.laws.proofs.Facts.{and-of, same-test}
+use Rattle.laws.proofs.Tests.{all-in, below-in}
 use Rattle.laws.proofs.Once.{Once, once-none, Linked, stop, goes, linked-once, once-append, once-by-count}
-use Rattle.rules.specs.Memory.{Store, pageCount, link, origin, chain, chainEnd, firstLink, regionPages, freePages, pagesFrom, regionOrigin}
-use Rattle.rules.specs.Audit.{endsWell, eachPage, allChains, opens, lastLink, rule3}
+use Rattle.rules.specs.Memory.{pageCount, link, origin, chain, chainEnd, firstLink, regionPages, freePages, pagesFrom, regionOrigin}
+use Rattle.rules.specs.Audit.{endsWell, eachPage, allChains}
 use Rattle.rules.proofs.Chains.{chain-here}
 
 module _ (n : ℕ) (h : List ℕ) where
@@ -84,17 +83,25 @@ module _ (n : ℕ) (h t : List ℕ) where
       go (yes e) rest = Memᴰ·append-left (pagesFrom n h t c (suc i)) (rw e at m)
       go (no ne) rest = Memᴰ·append-right (regionPages n h t i) (rest (omega arith) (omega arith))
 
-  pub pages-there : (m i k : ℕ) → List·Memᴰ k (pagesFrom n h t m i) → k < pageCount n h
+  -- the pages of all of them are pages of the heap
+  pub region-there : (j k : ℕ) → List·Memᴰ k (regionPages n h t j) → k < pageCount n h
   unfolding regionPages
-  pages-there m i k p = let r = pages-of m i k p in chain-there n h (pageCount n h) _ k (r .3)
+  region-there j k m = chain-there n h (pageCount n h) _ k m
+
+  pub free-there : (first k : ℕ) → List·Memᴰ k (freePages n h first) → k < pageCount n h
+  unfolding freePages
+  free-there first k m = chain-there n h (pageCount n h) first k m
 
   pub chains-there : (R first k : ℕ) → List·Memᴰ k (allChains n h t R first) → k < pageCount n h
-  unfolding freePages
   chains-there R first k m = go (List·Memᴰ·append-cases (pagesFrom n h t R 0) m)
     where
       go : List·Memᴰ k (pagesFrom n h t R 0) ⊎ List·Memᴰ k (freePages n h first) → k < pageCount n h
-      go (inl p) = pages-there R 0 k p
-      go (inr p) = chain-there n h (pageCount n h) first k p
+      go (inl p) = let r = pages-of R 0 k p in region-there (r .0) k (r .3)
+      go (inr p) = free-there first k p
+
+  -- a test of each page of each region, at one of them
+  pub each-page-in : (R : ℕ) (q : ℕ → ℕ → Bool) → eachPage q n h t R ≡ true → (j k : ℕ) → j < R → List·Memᴰ k (regionPages n h t j) → q j k ≡ true
+  each-page-in R q e j k b m = all-in (q j) (regionPages n h t j) (below-in (λ j. all (q j) (regionPages n h t j)) R e j b) k m
 
   -- chains that stand once each and bear their own origins stand once together
   module _ (R : ℕ) (once : (j : ℕ) → j < R → Once (regionPages n h t j)) (whose : (j k : ℕ) → j < R → List·Memᴰ k (regionPages n h t j) → origin n h k ≡ suc j) where
@@ -135,8 +142,7 @@ module _ (n : ℕ) (h t : List ℕ) (R first : ℕ)
   free-links = chain-linked n h (pageCount n h) first (eqb-true _ 0 free-ends)
 
   pub chain-origin : (j k : ℕ) → j < R → List·Memᴰ k (regionPages n h t j) → origin n h k ≡ suc j
-  chain-origin j k b m =
-      eqb-true _ _ (all-in (λ k. eqb (origin n h k) (suc j)) (regionPages n h t j) (below-in (λ j. all (λ k. eqb (origin n h k) (suc j)) (regionPages n h t j)) R origins j b) k m)
+  chain-origin j k b m = eqb-true _ _ (each-page-in n h t R (λ j k. eqb (origin n h k) (regionOrigin j)) origins j k b m)
 
   pub free-origin : (k : ℕ) → List·Memᴰ k (freePages n h first) → origin n h k ≡ 0
   free-origin k m = eqb-true _ _ (all-in (λ k. eqb (origin n h k) 0) (freePages n h first) free-origins k m)
@@ -147,43 +153,3 @@ module _ (n : ℕ) (h t : List ℕ) (R first : ℕ)
   -- "every page is in exactly one chain" exactly when the chains have N pages in all
   pub exactly-once : allBelow (λ k. eqb (times k (allChains n h t R first)) 1) (pageCount n h) ≡ eqb (length (allChains n h t R first)) (pageCount n h)
   exactly-once = once-by-count (pageCount n h) (chains-there n h t R first) all-once
-
--- the counting test last, where all that it needs is known
-counted : (a b c d e f b′ : Bool) → (c ≡ true → d ≡ true → e ≡ true → f ≡ true → b ≡ b′) → (a && b && c && d && e && f) ≡ (a && c && d && e && f && b′)
-counted a b c d e f b′ g = same-test _ _ there back
-  where
-    there : (a && b && c && d && e && f) ≡ true → (a && c && d && e && f && b′) ≡ true
-    there t =
-        let (t₁, pf) = both {a = a && b && c && d && e} t in
-        let (t₂, pe) = both {a = a && b && c && d} t₁ in
-        let (t₃, pd) = both {a = a && b && c} t₂ in
-        let (t₄, pc) = both {a = a && b} t₃ in
-        let (pa, pb) = both {a = a} t₄ in
-        and-of (and-of (and-of (and-of (and-of pa pc) pd) pe) pf) (sym (g pc pd pe pf) ∙ pb)
-
-    back : (a && c && d && e && f && b′) ≡ true → (a && b && c && d && e && f) ≡ true
-    back t =
-        let (t₁, pb) = both {a = a && c && d && e && f} t in
-        let (t₂, pf) = both {a = a && c && d && e} t₁ in
-        let (t₃, pe) = both {a = a && c && d} t₂ in
-        let (t₄, pd) = both {a = a && c} t₃ in
-        let (pa, pc) = both {a = a} t₄ in
-        and-of (and-of (and-of (and-of (and-of pa (g pc pd pe pf ∙ pb)) pc) pd) pe) pf
-
-pub rule3-counts : (s : Store)
-    → rule3 s
-    ≡ (allBelow (opens (s .ctl .n) (s .heap) (s .table)) (s .ctl .regions)
-    && allBelow (λ j. endsWell (s .ctl .n) (s .heap) (firstLink (s .ctl .n) (s .table) j)) (s .ctl .regions)
-    && endsWell (s .ctl .n) (s .heap) (s .ctl .first)
-    && eachPage (λ j k. eqb (origin (s .ctl .n) (s .heap) k) (regionOrigin j)) (s .ctl .n) (s .heap) (s .table) (s .ctl .regions)
-    && all (λ k. eqb (origin (s .ctl .n) (s .heap) k) 0) (freePages (s .ctl .n) (s .heap) (s .ctl .first))
-    && eqb (length (allChains (s .ctl .n) (s .heap) (s .table) (s .ctl .regions) (s .ctl .first))) (pageCount (s .ctl .n) (s .heap))
-    && eqb (s .ctl .last) (lastLink (freePages (s .ctl .n) (s .heap) (s .ctl .first)))
-    && eqb (s .ctl .count) (length (freePages (s .ctl .n) (s .heap) (s .ctl .first))))
-unfolding rule3
-rule3-counts s =
-    ap
-    (λ x. x
-    && eqb (s .ctl .last) (lastLink (freePages (s .ctl .n) (s .heap) (s .ctl .first)))
-    && eqb (s .ctl .count) (length (freePages (s .ctl .n) (s .heap) (s .ctl .first))))
-    (counted (allBelow (opens (s .ctl .n) (s .heap) (s .table)) (s .ctl .regions)) _ _ _ _ _ _ (λ c d e f. exactly-once (s .ctl .n) (s .heap) (s .table) (s .ctl .regions) (s .ctl .first) c d e f))

@@ -1,43 +1,23 @@
--- Digits and numbers by places: a byte's value by its range, and one turn of reading a number. A number of m digits is below 16 ^ m,
+-- Digits and numbers by places: whether a byte is a digit, and one turn of reading a number. A number of m digits is below 16 ^ m,
 -- since each digit is below 16.
 use Prim.Native.Nat.{ℕ, zero, suc, _+_, _-_, _*_, _^_, _≤_, _<_}
 use mathlib.Core.Path.{_≡_, refl, sym, ap, _∙_}
 use mathlib.Core.Bool.{Bool, true, false}
-use mathlib.Core.Option.{none, some}
+use mathlib.Core.Option.{Option, none, some}
 use mathlib.Core.List.{List}
 use native.Mathlib.Nat.{pow-succ', mul-le-mul-right, mul-le-mul-left, mul-assoc, mul-one, one-le-pow}
 use native.Mathlib.Numerals.{sub-one}
 use native.Mathlib.Omega.{arith}
-use native.Mathlib.Decide.{decLt}
-use borrow.Author.Tests.{lt-ltb, le-ltb, ltb-true, ltb-false}
+use borrow.Author.Tests.{ltb-true, ltb-false}
 use lib.Dec.{ltb}
 use Rattle.laws.specs.Lists.{at}
 use Rattle.rules.specs.Image.{valueOf}
+use Rattle.rules.proofs.Digits.{a-letter, above-digits, digit-value}
 use Rattle.scanning.specs.Places.{isDigit, digitValue, numberAt}
 
 -- ---- a byte
 
 module _ (b : ℕ) where
-  pub below-digits : b < 48 → valueOf b ≡ none
-  unfolding valueOf
-  below-digits h = rw (lt-ltb b 48 h)
-
-  pub a-digit : 48 ≤ b → b < 58 → valueOf b ≡ some (b - 48)
-  unfolding valueOf
-  a-digit l h = rw (le-ltb b 48 l, lt-ltb b 58 h)
-
-  pub between-digits : 58 ≤ b → b < 97 → valueOf b ≡ none
-  unfolding valueOf
-  between-digits l h = rw (le-ltb b 48 (omega arith), le-ltb b 58 l, lt-ltb b 97 h)
-
-  pub a-letter : 97 ≤ b → b < 103 → valueOf b ≡ some (b - 87)
-  unfolding valueOf
-  a-letter l h = rw (le-ltb b 48 (omega arith), le-ltb b 58 (omega arith), le-ltb b 97 l, lt-ltb b 103 h)
-
-  pub above-digits : 103 ≤ b → valueOf b ≡ none
-  unfolding valueOf
-  above-digits l = rw (le-ltb b 48 (omega arith), le-ltb b 58 (omega arith), le-ltb b 97 (omega arith), le-ltb b 103 l)
-
   pub no-digit : valueOf b ≡ none → (isDigit b ≡ false) × (digitValue b ≡ 0)
   unfolding isDigit digitValue
   no-digit e = (rw (isDigit, e), rw (digitValue, e))
@@ -50,8 +30,8 @@ module _ (b : ℕ) where
   last-digits l = go (ltb b 103) refl
     where
       go : (t : Bool) → ltb b 103 ≡ t → isDigit b ≡ ltb b 103
-      go true q = has-value (b - 87) (a-letter l (ltb-true b 103 q)) .0 ∙ sym q
-      go false q = no-digit (above-digits (ltb-false b 103 q)) .0 ∙ sym q
+      go true q = has-value (b - 87) (a-letter b l (ltb-true b 103 q)) .0 ∙ sym q
+      go false q = no-digit (above-digits b (ltb-false b 103 q)) .0 ∙ sym q
 
 -- ---- a number
 
@@ -86,14 +66,11 @@ number-whole m v bound b h = let q : m ≡ 0 = omega arith in omega (arith, mul-
 -- ---- bounds
 
 pub digit-small : (b : ℕ) → digitValue b < 16
-digit-small b = go (decLt b 48) (decLt b 58) (decLt b 97) (decLt b 103)
+digit-small b = go (valueOf b) refl
   where
-    go : Dec (b < 48) → Dec (b < 58) → Dec (b < 97) → Dec (b < 103) → digitValue b < 16
-    go (yes a) x y z = omega (arith, no-digit b (below-digits b a) .1)
-    go (no a) (yes x) y z = omega (arith, has-value b (b - 48) (a-digit b (omega arith) x) .1)
-    go (no a) (no x) (yes y) z = omega (arith, no-digit b (between-digits b (omega arith) y) .1)
-    go (no a) (no x) (no y) (yes z) = omega (arith, has-value b (b - 87) (a-letter b (omega arith) z) .1)
-    go (no a) (no x) (no y) (no z) = omega (arith, no-digit b (above-digits b (omega arith)) .1)
+    go : (o : Option ℕ) → valueOf b ≡ o → digitValue b < 16
+    go none e = omega (arith, no-digit b e .1)
+    go (some d) e = omega (arith, has-value b d e .1, digit-value b d e .1)
 
 pub number-bound : (m v : ℕ) (text : List ℕ) (i bound : ℕ) → (v + 1) * 16 ^ m ≤ bound → numberAt m v text i < bound
 unfolding numberAt

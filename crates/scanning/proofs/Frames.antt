@@ -19,7 +19,8 @@ use Rattle.laws.proofs.Tests.{from-add, from-end}
 use Rattle.rules.specs.Image.{valueOf, digits, words, endFrame, readWords, readFrame, trimmed, partFits}
 use Rattle.scanning.specs.declared.Step.{Step}
 use Rattle.scanning.specs.Places.{isDigit, allDigits, numberAt, wordsAt, countAt, wordsOf, afterFrame, frameShape, frameFits, cursor}
-use Rattle.scanning.proofs.Digits.{below-digits, no-digit, has-value}
+use Rattle.rules.proofs.Digits.{below-digits}
+use Rattle.scanning.proofs.Digits.{no-digit, has-value}
 
 -- ---- digits
 

@@ -1,36 +1,29 @@
 -- The turn laws of used words: at each value and at each page, what was counted and what is left to count is the whole.
 use Prim.Native.Nat.{ℕ, _+_, _-_, _*_, _/_, _^_, _≤_, _<_}
 use mathlib.Core.Path.{_≡_, ap, _∙_}
-use mathlib.Core.Bool.{true, false}
+use mathlib.Core.Bool.{true}
 use mathlib.Core.List.{List, []}
 use native.Mathlib.Omega.{arith}
 use lib.ListN.{length, getD}
+use Rattle.laws.proofs.Tallies.{sum-done}
 use Rattle.rules.specs.Memory.{chain}
 use Rattle.rules.specs.Words.{fits, valsIn, usedOf}
 use Rattle.rules.specs.Audit.{usedOn}
-use Rattle.rules.proofs.Stepping.{vals-none, vals-stop}
 use Rattle.rules.proofs.Chains.{page-vals}
 use Rattle.rules.proofs.Nests.{next-chain, Over}
 use Rattle.contents.proofs.Turns.{end-step}
 
 -- u words are counted, those of the values from address a up to address e are left, and w is the whole
 module _ (h : List ℕ) (a e u w : ℕ) (i : u + usedOf (valsIn h a e) ≡ w) where
-  used-over : valsIn h a e ≡ [] → u ≡ w
+  pub used-over : valsIn h a e ≡ [] → u ≡ w
   unfolding usedOf
-  used-over q = let z : usedOf (valsIn h a e) ≡ 0 = rw q in omega arith
+  used-over q = sum-done u (usedOf (valsIn h a e)) w i (rw q)
 
-  pub used-end : e ≤ a → u ≡ w
-  used-end b = used-over (vals-none h a e b)
-
-  module _ (b : a < e) (c : e ≤ length h) where
-    pub used-stop : fits (getD h a 0) (e - (a + 1)) ≡ false → u ≡ w
-    used-stop f = used-over (vals-stop h a e b c f)
-
-    -- over code that has the next value's address as d and has counted v words then
-    pub used-step : fits (getD h a 0) (e - (a + 1)) ≡ true → (d v : ℕ) → d ≡ a + (1 + getD h a 0 / 8) → v ≡ u + 1 + getD h a 0 / 8 → v + usedOf (valsIn h d e) ≡ w
-    used-step f d v q r =
-        let s : d ≡ a + 1 + getD h a 0 / 8 = omega arith in
-        rw s (omega (arith, end-step h a e b c f))
+  -- over code that has the next value's address as d and has counted v words then
+  pub used-step : a < e → e ≤ length h → fits (getD h a 0) (e - (a + 1)) ≡ true → (d v : ℕ) → d ≡ a + (1 + getD h a 0 / 8) → v ≡ u + 1 + getD h a 0 / 8 → v + usedOf (valsIn h d e) ≡ w
+  used-step b c f d v q r =
+      let s : d ≡ a + 1 + getD h a 0 / 8 = omega arith in
+      rw s (omega (arith, end-step h a e b c f))
 
 -- u words are counted, and those of the pages from the link k on are left, with fuel f
 module _ (n N : ℕ) (h : List ℕ) (e : N ≡ length h / 2 ^ n) (f k u w : ℕ) (i : u + usedOn n h (chain f n h k) ≡ w) where
@@ -46,4 +39,4 @@ module _ (n N : ℕ) (h : List ℕ) (e : N ≡ length h / 2 ^ n) (f k u w : ℕ)
 
   pub pages-used : Over n N h e f k → u ≡ w
   unfolding usedOn
-  pages-used o = let z : usedOn n h (chain f n h k) ≡ 0 = rw (o .none) in omega arith
+  pages-used o = sum-done u (usedOn n h (chain f n h k)) w i (rw (o .none))

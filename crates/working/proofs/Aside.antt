@@ -14,6 +14,17 @@ use Rattle.rules.specs.Collection.{wake}
 use Rattle.laws.proofs.Lists.{set-elsewhere}
 use Rattle.facts.proofs.Laid.{old≢spare, old≢mine, Owner, old, Like, body-like, Layout, like-kept, link-kept, heap-laid, rows-laid}
 
+-- a region that is woken slept, and is awake and on the stack then, or all stays
+pub wake-by : (n j b : ℕ) (r : Run) (Q : Run → Type 0)
+    → (statusOf (r .table) j ≡ 0 → Q (withStack (withTable r (setStatus (r .table) j 1)) (record { region = j; address = b } ∷ r .stack))) → (statusOf (r .table) j ≢ 0 → Q r)
+    → Q (wake n j b r)
+unfolding wake
+wake-by n j b r Q slept was-awake = go (statusOf (r .table) j) refl
+  where
+    go : (c : ℕ) → statusOf (r .table) j ≡ c → Q (wake n j b r)
+    go zero e = rw (e, wake) (slept e)
+    go (suc c) e = rw (e, wake) (was-awake (λ q. omega arith))
+
 module _ (n N R : ℕ) (own : ℕ → Owner) (fin : ℕ → ℕ) (pages : ℕ → List ℕ) (free : List ℕ) (r : Run) (L : Layout n N R own fin pages free r) where
   pub stack-laid : (stack : List Scan) → Layout n N R own fin pages free (withStack r stack)
   stack-laid stack = rows-laid L R (le-refl R) (r .table) stack (L .rows) (λ i x b lo hi. refl)
@@ -25,12 +36,7 @@ module _ (n N R : ℕ) (own : ℕ → Owner) (fin : ℕ → ℕ) (pages : ℕ �
       (λ i x b lo hi. getD-set-other (r .table) (4 * j + 3) x c 0 (omega arith))
 
   pub wake-laid : (j b : ℕ) → Layout n N R own fin pages free (wake n j b r)
-  unfolding wake
-  wake-laid j b = go (statusOf (r .table) j) refl
-    where
-      go : (c : ℕ) → statusOf (r .table) j ≡ c → Layout n N R own fin pages free (wake n j b r)
-      go zero e = rw (e, wake) (status-laid j 1 (record { region = j; address = b } ∷ r .stack))
-      go (suc c) e = rw (e, wake) L
+  wake-laid j b = wake-by n j b r (Layout n N R own fin pages free) (λ e. status-laid j 1 (record { region = j; address = b } ∷ r .stack)) (λ ne. L)
 
   -- a word of an old page is no part of the layout
   module _ (f a v : ℕ) (o : own f ≡ old) (lo : f * 2 ^ n ≤ a) (hi : a < f * 2 ^ n + 2 ^ n) where

@@ -1,37 +1,34 @@
 -- Demand 3, about the definition of the collection: on a heap that passes it is refused for want of a page, or leaves a heap that passes, on
 -- which every path reads and meets as before, and each region's used words are those of its values that a root reached.
-use Prim.Native.Nat.{ℕ, suc, _+_, _*_, _^_, _≤_, _<_}
+use Prim.Native.Nat.{ℕ, _*_, _≤_, _<_}
 use native.Mathlib.Omega.{arith}
 use native.Mathlib.Decide.{ℕ-discrete}
-use mathlib.Core.Path.{_≡_, ap, _∙_}
-use mathlib.Core.Logic.{_≢_, _↔_, _⊎_, inl, inr}
+use mathlib.Core.Path.{_≡_, refl, sym, ap, _∙_}
+use mathlib.Core.Logic.{_≢_, _↔_}
 use mathlib.Core.List.{List, [], _∷_, List·Memᴰ}
-use borrow.Author.Tests.{ne-eqb}
 use Rattle.laws.specs.Lists.{at}
 use Rattle.laws.specs.Sums.{sumOver}
 use Rattle.laws.proofs.Once.{Once, once-none, once-more}
-use Rattle.rules.specs.declared.Refusal.{Refusal}
 use Rattle.rules.specs.declared.Valued.{Valued}
 use Rattle.rules.specs.Memory.{Store}
 use Rattle.rules.specs.Audit.{usedBy}
 use Rattle.rules.specs.Pages.{Run}
-use Rattle.rules.specs.Refusals.{refused, leaving}
+use Rattle.rules.specs.Refusals.{leaving}
 use Rattle.rules.specs.Calls.{walk, usedWords}
-use Rattle.rules.specs.Collection.{finished, leaves, ending, collected}
+use Rattle.rules.specs.Collection.{finished, leaves, ending}
 use Rattle.rules.specs.Seen.{homeIn, seen, Reached, readAt, Meet, wordsAt}
-use Rattle.facts.proofs.Steps.{Stands, Steps}
 use Rattle.facts.proofs.Alike.{Same, meetings}
 use Rattle.facts.proofs.Copied.{Moved, to, Rel, copied-same, reached-moved}
 use Rattle.facts.proofs.Observing.{reads-alike, meet-is, used-is, used-known}
-use Rattle.facts.proofs.Sound.{Sound, Passes}
+use Rattle.facts.proofs.Sound.{Sound, Passes, good-page}
 use Rattle.facts.proofs.Passing.{meaning}
+use Rattle.facts.proofs.Looked.{words-elsewhere}
 use Rattle.working.proofs.Log.{pointers, olds, in-olds, olds-in, of-pointers}
-use Rattle.working.proofs.Invariant.{Kept}
-use Rattle.working.proofs.Running.{Ran, Refusing, runs}
+use Rattle.working.proofs.Invariant.{Kept, copy-was}
+use Rattle.working.proofs.Running.{Ran}
 use Rattle.working.proofs.Ending.{left-store, left-sound, left-filled}
-use Rattle.working.proofs.Views.{left-copied, home-before}
-use Rattle.working.proofs.Counting.{used-filled, used-bound}
-use Rattle.facts.proofs.Laid.{chain-body}
+use Rattle.working.proofs.Views.{left-copied}
+use Rattle.working.proofs.Counting.{Counts, for-its-words, for-nothing, used-filled, used-bound}
 
 -- each pointer of the log is moved once
 pub once-pointers : (log : List Moved) → Once (olds log) → Once (olds (pointers log))
@@ -82,29 +79,17 @@ module _ (s : Store) (S : Sound s) (roots : List ℕ) (r : Run) (A : Ran s S roo
   left-counts j jR = used-is s′ passes′ j jR ∙ ap (λ u. Valued.Done u (s′ .ctl)) (used′ j jR)
 
   -- a live value is one of a region's pages, or counts nothing for the region
-  where-live : (j : ℕ) → j < R → (w : ℕ) → List·Memᴰ w live
-      → ((k : ℕ) × (a : ℕ) × (l : ℕ) × (w ≡ 4 * a) × List·Memᴰ k (S .pages j) × Steps (s .heap) (k * 2 ^ n + 2 ^ n) (k * 2 ^ n + 2) a × Stands (s .heap) (k * 2 ^ n + 2 ^ n) a l)
-      ⊎ (wordsAt (seen s) j w ≡ 0)
-  unfolding wordsAt
+  where-live : (j : ℕ) → j < R → (w : ℕ) → List·Memᴰ w live → Counts s S j w
   where-live j jR w m =
       let t = in-olds (pointers log) m in
       let u = of-pointers log (t .1) in
       go (u .0) (u .1) (u .2) (u .4) (ℕ-discrete (A .end .inv .logged .copies (u .4) .region) j)
     where
-      go : (a b : ℕ) → w ≡ 4 * a → (q : List·Memᴰ (to a b) log) → Dec (A .end .inv .logged .copies q .region ≡ j)
-          → ((k : ℕ) × (a : ℕ) × (l : ℕ) × (w ≡ 4 * a) × List·Memᴰ k (S .pages j) × Steps (s .heap) (k * 2 ^ n + 2 ^ n) (k * 2 ^ n + 2) a × Stands (s .heap) (k * 2 ^ n + 2 ^ n) a l)
-          ⊎ (wordsAt (seen s) j w ≡ 0)
+      go : (a b : ℕ) → w ≡ 4 * a → (q : List·Memᴰ (to a b) log) → Dec (A .end .inv .logged .copies q .region ≡ j) → Counts s S j w
       go a b e q (yes d) =
           let D = A .end .inv .logged .copies q in
-          let f = A .end .inv .from-space (D .from) .0 (D .from-old) in
-          let x = chain-body (S .laid) (f .0) (D .from) (f .1) (f .2) .whose in
-          let y = D .from-whose in
-          let z : f .0 ≡ j = omega arith in
-          inl (D .from, a, D .len, e, rw z at (f .2), D .from-steps, D .from-stands)
-      go a b e q (no ne) =
-          let D = A .end .inv .logged .copies q in
-          let h = home-before s S roots r A a b q in
-          inr (rw (e, h, ne-eqb (suc (D .region)) (suc j) (λ (t : suc (D .region) ≡ suc j). ne (omega arith))))
+          for-its-words (D .from) a (D .len) e (rw d at (good-page s S a (copy-was (A .end .inv) q))) (D .from-steps) (D .from-stands)
+      go a b e q (no ne) = for-nothing (rw e (words-elsewhere s (S .within .paged) a (copy-was (A .end .inv) q) j (λ t. ne (sym t))))
 
   -- "A collection never raises them"
   pub never-raised : (j : ℕ) → j < R → usedBy n (s′ .heap) (s′ .table) j ≤ usedBy n (s .heap) (s .table) j
@@ -137,23 +122,8 @@ module _ (s : Store) (S : Sound s) (roots : List ℕ) (r : Run) (A : Ran s S roo
       let q = meet-is s′ passes′ i fs j gs in
       (λ x. q .1 (m .0 (p .0 x)), λ x. p .1 (m .1 (q .0 x)))
 
--- ---- the four steps on a sound heap: refused for want of a page, or done
+-- ---- what the call leaves
 
-pub run-ends : (s : Store) (S : Sound s)
-    → ((collected s ≡ refused s Refusal.NoPage) × Refusing s S) ⊎ ((roots : List ℕ) × (r : Run) × (A : Ran s S roots r) × (collected s ≡ leaving (left-store s S roots r A)))
+pub ran-leaves : (s : Store) (S : Sound s) (roots : List ℕ) (r : Run) (A : Ran s S roots r) → ending s roots (finished r) ≡ leaving (left-store s S roots r A)
 unfolding ending leaves
-run-ends s S = go (runs s S)
-  where
-    go : ((collected s ≡ refused s Refusal.NoPage) × Refusing s S) ⊎ ((roots : List ℕ) × (r : Run) × (collected s ≡ ending s roots (finished r)) × Ran s S roots r)
-        → ((collected s ≡ refused s Refusal.NoPage) × Refusing s S) ⊎ ((roots : List ℕ) × (r : Run) × (A : Ran s S roots r) × (collected s ≡ leaving (left-store s S roots r A)))
-    go (inl u) = inl u
-    go (inr u) = inr (u .0, u .1, u .3, u .2)
-
-pub collects : (s : Store) (S : Sound s)
-    → ((collected s ≡ refused s Refusal.NoPage) × Refusing s S) ⊎ ((s′ : Store) × (collected s ≡ leaving s′) × Sound s′)
-collects s S = go (run-ends s S)
-  where
-    go : ((collected s ≡ refused s Refusal.NoPage) × Refusing s S) ⊎ ((roots : List ℕ) × (r : Run) × (A : Ran s S roots r) × (collected s ≡ leaving (left-store s S roots r A)))
-        → ((collected s ≡ refused s Refusal.NoPage) × Refusing s S) ⊎ ((s′ : Store) × (collected s ≡ leaving s′) × Sound s′)
-    go (inl u) = inl u
-    go (inr u) = inr (left-store s S (u .0) (u .1) (u .2), u .3, left-sound s S (u .0) (u .1) (u .2))
+ran-leaves s S roots r A = refl

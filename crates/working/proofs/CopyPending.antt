@@ -8,12 +8,11 @@ use mathlib.Core.Logic.{_≢_, _⊎_, inl, inr}
 use mathlib.Core.Option.{some}
 use mathlib.Core.List.{List, [], _∷_, _++_, append-nil, append-assoc, List·Memᴰ, List·Memᴰ·head, List·Memᴰ·tail, List·Memᴰ·cases-cons, Memᴰ·append-left, Memᴰ·append-right, List·Memᴰ·append-cases, List·Memᴰ·eq-of-singleton}
 use Rattle.laws.specs.Lists.{at}
-use Rattle.laws.proofs.Once.{Last}
 use Rattle.rules.specs.Memory.{Store, statusOf}
 use Rattle.rules.specs.Words.{rec, raw, headOf}
 use Rattle.rules.specs.Pages.{Run}
-use Rattle.facts.proofs.Steps.{Stands, steps-le}
-use Rattle.facts.proofs.Laid.{Owner, spare, upd, upd-same, upd-other}
+use Rattle.rules.proofs.Steps.{Stands, steps-le}
+use Rattle.facts.proofs.Laid.{Owner, upd, upd-same, upd-other}
 use Rattle.facts.proofs.Copied.{Moved, to}
 use Rattle.facts.proofs.Sound.{Sound}
 use Rattle.working.proofs.Owned.{mine-inj, spare≢mine, total-snoc}
@@ -21,7 +20,7 @@ use Rattle.working.proofs.Log.{Evacuated, other-place}
 use Rattle.working.proofs.Next.{Row}
 use Rattle.working.proofs.Rows.{row-same, row-snoc, row-page}
 use Rattle.working.proofs.Invariant.{Ghost, Kept, Pending, Inv, Later}
-use Rattle.working.proofs.Copying.{Uncopied, Made}
+use Rattle.working.proofs.Copying.{Uncopied, Into, last-page, free-page, Made}
 use Rattle.working.proofs.Waking.{woken-stacked, woken-once, woken-at-work, woken-idle, woken-busy, woken-deep}
 
 -- the value at a is copied to b, into region j
@@ -49,15 +48,15 @@ module _ (s : Store) (S : Sound s) (g : Ghost) (r : Run) (I : Inv s S g r) (x : 
   R = s .ctl .regions
 
   abbrev j : ℕ
-  j = x .region
+  j = x .good .region
 
   abbrev a : ℕ
   a = x .address
 
   abbrev pub after : Ghost
-  after = copied g (x .region) (x .address) b own fin pages free
+  after = copied g (x .good .region) (x .address) b own fin pages free
 
-  abbrev E : Evacuated n s (g .own) own (g .fin) fin (r .heap) (r′ .heap) j (x .len) a b (x .page) p
+  abbrev E : Evacuated n s (g .own) own (g .fin) fin (r .heap) (r′ .heap) j (x .good .len) a b (x .good .page) p
   E = M .moved
 
   todo-own : after .todo j ≡ g .todo j ++ b ∷ []
@@ -87,24 +86,21 @@ module _ (s : Store) (S : Sound s) (g : Ghost) (r : Run) (I : Inv s S g r) (x : 
   row-own = rw todo-own (subst (λ vs. Row n (r′ .heap) fin (pages j) vs) (append-assoc (g .past j) (g .todo j) (b ∷ [])) (go (M .pages-own)))
     where
       jR : j < R
-      jR = x .known
+      jR = x .good .known
 
-      go : ((pages j ≡ g .pages j) × Last (g .pages j) p × (b ≡ g .fin p)) ⊎ ((pages j ≡ g .pages j ++ p ∷ []) × (g .own p ≡ spare) × (b ≡ p * 2 ^ n + 2))
-          → Row n (r′ .heap) fin (pages j) ((g .past j ++ g .todo j) ++ b ∷ [])
-      go (inl u) =
-          let e = u .2 in
+      go : Into n g j b p pages → Row n (r′ .heap) fin (pages j) ((g .past j ++ g .todo j) ++ b ∷ [])
+      go (last-page same last e) =
           let end = E .b-end in
           let base : Row n (r′ .heap) (g .fin) (g .pages j) (g .past j ++ g .todo j) = row-same (λ k y m. agree j k y jR m) (λ k m. refl) (I .pending .rows j jR) in
-          let stands : Stands (r′ .heap) (p * 2 ^ n + 2 ^ n) (g .fin p) (x .len) = subst (λ y. Stands (r′ .heap) (p * 2 ^ n + 2 ^ n) y (x .len)) e (E .b-stands) in
-          rw (u .0) (subst (λ y. Row n (r′ .heap) fin (g .pages j) ((g .past j ++ g .todo j) ++ y ∷ [])) (sym e)
-          (row-snoc base (u .1) (I .laid .mine-once j jR) stands (omega arith) (λ k m ne. M .fin-other k j (I .laid .mine-own j k jR m) ne)))
-      go (inr u) =
-          let e = u .2 in
+          let stands : Stands (r′ .heap) (p * 2 ^ n + 2 ^ n) (g .fin p) (x .good .len) = subst (λ y. Stands (r′ .heap) (p * 2 ^ n + 2 ^ n) y (x .good .len)) e (E .b-stands) in
+          rw same (subst (λ y. Row n (r′ .heap) fin (g .pages j) ((g .past j ++ g .todo j) ++ y ∷ [])) (sym e)
+          (row-snoc base last (I .laid .mine-once j jR) stands (omega arith) (λ k m ne. M .fin-other k j (I .laid .mine-own j k jR m) ne)))
+      go (free-page longer free e) =
           let base : Row n (r′ .heap) fin (g .pages j) (g .past j ++ g .todo j)
-          = row-same (λ k y m. agree j k y jR m) (λ k m. let q = I .laid .mine-own j k jR m in M .fin-other k j q (λ z. spare≢mine (u .1) (ap (g .own) (sym z) ∙ q))) (I .pending .rows j jR) in
-          let stands : Stands (r′ .heap) (p * 2 ^ n + 2 ^ n) (p * 2 ^ n + 2) (x .len) = subst (λ y. Stands (r′ .heap) (p * 2 ^ n + 2 ^ n) y (x .len)) e (E .b-stands) in
-          let end : p * 2 ^ n + 2 + suc (x .len) ≡ fin p = ap (λ y. y + suc (x .len)) (sym e) ∙ E .b-end in
-          rw (u .0) (subst (λ y. Row n (r′ .heap) fin (g .pages j ++ p ∷ []) ((g .past j ++ g .todo j) ++ y ∷ [])) (sym e) (row-page base stands end))
+          = row-same (λ k y m. agree j k y jR m) (λ k m. let q = I .laid .mine-own j k jR m in M .fin-other k j q (λ z. spare≢mine free (ap (g .own) (sym z) ∙ q))) (I .pending .rows j jR) in
+          let stands : Stands (r′ .heap) (p * 2 ^ n + 2 ^ n) (p * 2 ^ n + 2) (x .good .len) = subst (λ y. Stands (r′ .heap) (p * 2 ^ n + 2 ^ n) y (x .good .len)) e (E .b-stands) in
+          let end : p * 2 ^ n + 2 + suc (x .good .len) ≡ fin p = ap (λ y. y + suc (x .good .len)) (sym e) ∙ E .b-end in
+          rw longer (subst (λ y. Row n (r′ .heap) fin (g .pages j ++ p ∷ []) ((g .past j ++ g .todo j) ++ y ∷ [])) (sym e) (row-page base stands end))
 
   row-any : (i : ℕ) → i < R → Dec (i ≡ j) → Row n (r′ .heap) fin (pages i) (g .past i ++ after .todo i)
   row-any i iR (yes e) = rw e row-own
@@ -137,7 +133,7 @@ module _ (s : Store) (S : Sound s) (g : Ghost) (r : Run) (I : Inv s S g r) (x : 
   -- a copy of before stands elsewhere, and its header is as it was
   elsewhere : {c d : ℕ} → List·Memᴰ (to c d) (g .log) → d ≢ b
   elsewhere m =
-      other-place n s (Kept s) (g .own) own (g .fin) fin (r .heap) (r′ .heap) (g .log) (g .count) j (x .len) a b (x .page) p (I .logged) E (x .new) (x .reached) (I .logged .copies m)
+      other-place n s (Kept s) (g .own) own (g .fin) fin (r .heap) (r′ .heap) (g .log) (g .count) j (x .good .len) a b (x .good .page) p (I .logged) E (x .new) (x .reached) (I .logged .copies m)
 
   header : {c d : ℕ} → List·Memᴰ (to c d) (g .log) → at (r′ .heap) d ≡ at (r .heap) d
   header {c} {d} m =
@@ -150,7 +146,7 @@ module _ (s : Store) (S : Sound s) (g : Ghost) (r : Run) (I : Inv s S g r) (x : 
   scanned {c} {d} q gone ne m e = go (List·Memᴰ·cases-cons q)
     where
       go : (to c d ≡ to a b) ⊎ List·Memᴰ (to c d) (g .log) → m ≤ after .count d
-      go (inl u) = absurd (gone j (x .known) (rw (ap (λ (y : Moved). y .new) u) waits-now))
+      go (inl u) = absurd (gone j (x .good .known) (rw (ap (λ (y : Moved). y .new) u) waits-now))
       go (inr u) =
           rw (upd-other (g .count) b 0 d (elsewhere u)) (I .pending .scanned u (λ i iR t. gone i iR (still-waits i d t)) ne m (ap headOf (sym (header u)) ∙ e))
 
@@ -168,17 +164,17 @@ module _ (s : Store) (S : Sound s) (g : Ghost) (r : Run) (I : Inv s S g r) (x : 
         untouched = λ i c iR m. untouched i c iR m (ℕ-discrete c b);
         scanned = scanned;
         raws = raws;
-        stacked = woken-stacked n R g after r r′ (I .pending) j b (x .known) refl todo-own todo-other statuses (M .awake) (M .how);
-        once = woken-once n R g after r r′ (I .pending) j b (x .known) refl todo-own todo-other statuses (M .awake) (M .how);
-        at-work = woken-at-work n R g after r r′ (I .pending) j b (x .known) refl todo-own todo-other statuses (M .awake) (M .how);
-        idle = woken-idle n R g after r r′ (I .pending) j b (x .known) refl todo-own todo-other statuses (M .awake) (M .how);
-        busy = woken-busy n R g after r r′ (I .pending) j b (x .known) refl todo-own todo-other statuses (M .awake) (M .how);
+        stacked = woken-stacked n R g after r r′ (I .pending) j b (x .good .known) refl todo-own todo-other statuses (M .awake) (M .how);
+        once = woken-once n R g after r r′ (I .pending) j b (x .good .known) refl todo-own todo-other statuses (M .awake) (M .how);
+        at-work = woken-at-work n R g after r r′ (I .pending) j b (x .good .known) refl todo-own todo-other statuses (M .awake) (M .how);
+        idle = woken-idle n R g after r r′ (I .pending) j b (x .good .known) refl todo-own todo-other statuses (M .awake) (M .how);
+        busy = woken-busy n R g after r r′ (I .pending) j b (x .good .known) refl todo-own todo-other statuses (M .awake) (M .how);
       }
 
   pub copied-later : Later R g r after r′
   copied-later =
-      let deep = woken-deep n R g after r r′ (I .pending) j b (x .known) refl todo-own todo-other statuses (M .awake) (M .how) in
-      let more = total-snoc (g .todo) j b R (x .known) in
+      let deep = woken-deep n R g after r r′ (I .pending) j b (x .good .known) refl todo-own todo-other statuses (M .awake) (M .how) in
+      let more = total-snoc (g .todo) j b R (x .good .known) in
       record {
         log = λ m q. List·Memᴰ·tail q;
         cur = refl;

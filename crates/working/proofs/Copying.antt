@@ -11,59 +11,57 @@ use lib.Seq.{getD-set-other}
 use Rattle.laws.specs.Lists.{at, put}
 use Rattle.laws.proofs.Once.{Last, last-in, last-is}
 use Rattle.rules.specs.Memory.{Store, pageCount, topOf, statusOf}
-use Rattle.rules.specs.Pages.{Run, withHeap, store, room, place}
-use Rattle.rules.specs.Collection.{wake, moveOn, moveTo}
+use Rattle.rules.specs.Pages.{Run, withHeap, store, room}
+use Rattle.rules.specs.Collection.{wake, moveTo}
 use Rattle.rules.specs.Seen.{seen, Reached}
-use Rattle.facts.proofs.Steps.{Stands, Steps, steps-le}
+use Rattle.rules.proofs.Steps.{steps-le}
 use Rattle.facts.proofs.Laid.{Owner, old, spare, mine, Layout, upd, upd-other, words-in}
 use Rattle.facts.proofs.Copied.{to}
-use Rattle.facts.proofs.Sound.{Sound}
+use Rattle.facts.proofs.Sound.{InHeap, Sound}
 use Rattle.working.proofs.Owned.{old≢beyond, Owned, total}
 use Rattle.working.proofs.Log.{Evacuated}
 use Rattle.working.proofs.Placed.{Roomed}
 use Rattle.working.proofs.Aside.{wake-laid, forward-laid}
 use Rattle.working.proofs.Moving.{val, fits, evacuated}
 use Rattle.working.proofs.Stored.{store-laid}
+use Rattle.working.proofs.Wanting.{has-room}
 use Rattle.working.proofs.Invariant.{Ghost, Kept, Inv}
-use Rattle.working.proofs.Waking.{entry, Woken, wakes}
+use Rattle.working.proofs.Waking.{entry, Stacked, slept, was-awake, Woken, wakes}
 
 -- a value of an old page that is not copied yet
 pub record Uncopied (s : Store) (g : Ghost) : Type 0 where
-  pub region : ℕ
-  pub page : ℕ
   pub address : ℕ
-  pub len : ℕ
-  pub known : region < s .ctl .regions
-  pub from-old : g .own page ≡ old
-  pub whose : at (s .heap) (page * 2 ^ s .ctl .n + 1) ≡ suc region
-  pub steps : Steps (s .heap) (page * 2 ^ s .ctl .n + 2 ^ s .ctl .n) (page * 2 ^ s .ctl .n + 2) address
-  pub stands : Stands (s .heap) (page * 2 ^ s .ctl .n + 2 ^ s .ctl .n) address len
+  pub good : InHeap (s .ctl .n) (s .ctl .regions) (s .heap) address
+  pub from-old : g .own (good .page) ≡ old
   pub reached : Reached (seen s) (s .roots) (4 * address)
   pub new : (b : ℕ) → List·Memᴰ (to address b) (g .log) → ⊥
+
+-- the page p that region j's copy at b goes to: it was the region's last page, or was free
+pub data Into (n : ℕ) (g : Ghost) (j b p : ℕ) (pages : ℕ → List ℕ) : Type 0 where
+  last-page : pages j ≡ g .pages j → Last (g .pages j) p → b ≡ g .fin p → Into n g j b p pages
+  free-page : pages j ≡ g .pages j ++ p ∷ [] → g .own p ≡ spare → b ≡ p * 2 ^ n + 2 → Into n g j b p pages
 
 -- it is copied to b, in page p, and the pages are then these
 pub record Made (s : Store) (g : Ghost) (r : Run) (x : Uncopied s g) (b p : ℕ) (own : ℕ → Owner) (fin : ℕ → ℕ) (pages : ℕ → List ℕ) (free : List ℕ) (r′ : Run) : Type 0 where
   pub laid : Layout (s .ctl .n) (pageCount (s .ctl .n) (s .heap)) (s .ctl .regions) own fin pages free r′
-  pub moved : Evacuated (s .ctl .n) s (g .own) own (g .fin) fin (r .heap) (r′ .heap) (x .region) (x .len) (x .address) b (x .page) p
+  pub moved : Evacuated (s .ctl .n) s (g .own) own (g .fin) fin (r .heap) (r′ .heap) (x .good .region) (x .good .len) (x .address) b (x .good .page) p
   pub fin-other : (k i : ℕ) → g .own k ≡ mine i → k ≢ p → g .fin k ≡ fin k
-  pub pages-other : (i : ℕ) → i ≢ x .region → pages i ≡ g .pages i
-  pub pages-own : ((pages (x .region) ≡ g .pages (x .region)) × Last (g .pages (x .region)) p × (b ≡ g .fin p))
-      ⊎ ((pages (x .region) ≡ g .pages (x .region) ++ p ∷ []) × (g .own p ≡ spare) × (b ≡ p * 2 ^ s .ctl .n + 2))
+  pub pages-other : (i : ℕ) → i ≢ x .good .region → pages i ≡ g .pages i
+  pub pages-own : Into (s .ctl .n) g (x .good .region) b p pages
   pub owned : Owned (pageCount (s .ctl .n) (s .heap)) (s .ctl .regions) (g .own) (g .pages) (g .free) → Owned (pageCount (s .ctl .n) (s .heap)) (s .ctl .regions) own pages free
   pub spent : length free + total pages (s .ctl .regions) ≡ length (g .free) + total (g .pages) (s .ctl .regions)
   -- of the table only the region's e, a and status change
   pub width : length (r′ .table) ≡ length (r .table)
-  pub row : (y : ℕ) → y ≢ 4 * x .region → y ≢ 4 * x .region + 2 → y ≢ 4 * x .region + 3 → at (r′ .table) y ≡ at (r .table) y
-  pub awake : statusOf (r′ .table) (x .region) ≢ 0
-  pub how : ((statusOf (r .table) (x .region) ≡ 0) × (r′ .stack ≡ entry (x .region) b ∷ r .stack))
-      ⊎ ((statusOf (r .table) (x .region) ≢ 0) × (r′ .stack ≡ r .stack))
+  pub row : (y : ℕ) → y ≢ 4 * x .good .region → y ≢ 4 * x .good .region + 2 → y ≢ 4 * x .good .region + 3 → at (r′ .table) y ≡ at (r .table) y
+  pub awake : statusOf (r′ .table) (x .good .region) ≢ 0
+  pub how : Stacked (x .good .region) b r r′
 
 -- its words, as the heap has them now
-pub value-length : (s : Store) (S : Sound s) (g : Ghost) (r : Run) (I : Inv s S g r) (x : Uncopied s g) → length (take (suc (x .len)) (drop (x .address) (r .heap))) ≡ suc (x .len)
-value-length s S g r I x = words-in (I .laid) (x .page) (x .address) (x .len) (old≢beyond (x .from-old)) (x .stands)
+pub value-length : (s : Store) (S : Sound s) (g : Ghost) (r : Run) (I : Inv s S g r) (x : Uncopied s g) → length (take (suc (x .good .len)) (drop (x .address) (r .heap))) ≡ suc (x .good .len)
+value-length s S g r I x = words-in (I .laid) (x .good .page) (x .address) (x .good .len) (old≢beyond (x .from-old)) (x .good .stands)
 
 module _ (s : Store) (S : Sound s) (g : Ghost) (r : Run) (I : Inv s S g r) (x : Uncopied s g) (r₁ : Run)
-    (K : Roomed (s .ctl .n) (pageCount (s .ctl .n) (s .heap)) (s .ctl .regions) (g .own) (g .fin) (g .pages) (g .free) r (x .region) (suc (x .len)) r₁) where
+    (K : Roomed (s .ctl .n) (pageCount (s .ctl .n) (s .heap)) (s .ctl .regions) (g .own) (g .fin) (g .pages) (g .free) r (x .good .region) (suc (x .good .len)) r₁) where
   abbrev n : ℕ
   n = s .ctl .n
 
@@ -74,16 +72,16 @@ module _ (s : Store) (S : Sound s) (g : Ghost) (r : Run) (I : Inv s S g r) (x : 
   R = s .ctl .regions
 
   abbrev j : ℕ
-  j = x .region
+  j = x .good .region
 
   abbrev f : ℕ
-  f = x .page
+  f = x .good .page
 
   abbrev a : ℕ
   a = x .address
 
   abbrev l : ℕ
-  l = x .len
+  l = x .good .len
 
   abbrev ws : List ℕ
   ws = take (suc l) (drop a (r .heap))
@@ -94,7 +92,7 @@ module _ (s : Store) (S : Sound s) (g : Ghost) (r : Run) (I : Inv s S g r) (x : 
 
   -- the region's last page
   abbrev pub p : ℕ
-  p = K .laid .mine-top j (x .known) .0
+  p = K .laid .mine-top j (x .good .known) .0
 
   abbrev r₂ : Run
   r₂ = wake n j b (store n j ws r₁)
@@ -110,28 +108,28 @@ module _ (s : Store) (S : Sound s) (g : Ghost) (r : Run) (I : Inv s S g r) (x : 
   laid₂ : Layout n N R (K .own₁) fin₂ (K .pages₁) (K .free₁) r₂
   laid₂ =
       wake-laid n N R (K .own₁) fin₂ (K .pages₁) (K .free₁) (store n j ws r₁)
-      (store-laid n N R (K .own₁) (K .fin₁) (K .pages₁) (K .free₁) r₁ (K .laid) j l ws (x .known)
-      (val n N R s (Kept s) (g .own) (g .fin) (g .pages) (g .free) r (g .log) (g .count) (I .laid) (I .logged) j f a l (x .known) (x .from-old) (x .whose) (x .steps) (x .stands) (x .new) r₁ K)
-      (fits n N R s (Kept s) (g .own) (g .fin) (g .pages) (g .free) r (g .log) (g .count) (I .laid) (I .logged) j f a l (x .known) (x .from-old) (x .whose) (x .steps) (x .stands) (x .new) r₁ K))
+      (store-laid (K .laid) j (x .good .known) ws
+      (fits n N R s (Kept s) (g .own) (g .fin) (g .pages) (g .free) r (g .log) (g .count) (I .laid) (I .logged) j f a l (x .good .known) (x .from-old) (x .good .whose) (x .good .steps) (x .good .stands) (x .new) r₁ K) l
+      (val n N R s (Kept s) (g .own) (g .fin) (g .pages) (g .free) r (g .log) (g .count) (I .laid) (I .logged) j f a l (x .good .known) (x .from-old) (x .good .whose) (x .good .steps) (x .good .stands) (x .new) r₁ K))
       j b
 
   laid : Layout n N R (K .own₁) fin₂ (K .pages₁) (K .free₁) after
   laid =
-      let lo = steps-le (x .steps) in
-      let hi = x .stands .ends in
+      let lo = steps-le (x .good .steps) in
+      let hi = x .good .stands .ends in
       forward-laid n N R (K .own₁) fin₂ (K .pages₁) (K .free₁) r₂ laid₂ f a (4 * b) (K .old-kept f .0 (x .from-old)) (omega arith) (omega arith)
 
   abbrev h′ : List ℕ
   h′ = set (put (r₁ .heap) b ws) a (4 * b)
 
   E : Evacuated n s (g .own) (K .own₁) (g .fin) fin₂ (r .heap) h′ j l a b f p
-  E = evacuated n N R s (Kept s) (g .own) (g .fin) (g .pages) (g .free) r (g .log) (g .count) (I .laid) (I .logged) j f a l (x .known) (x .from-old) (x .whose) (x .steps) (x .stands) (x .new) r₁ K
+  E = evacuated n N R s (Kept s) (g .own) (g .fin) (g .pages) (g .free) r (g .log) (g .count) (I .laid) (I .logged) j f a l (x .good .known) (x .from-old) (x .good .whose) (x .good .steps) (x .good .stands) (x .new) r₁ K
 
   -- ---- the table and the stack
 
   wide : 4 * j + 3 < length (store n j ws r₁ .table)
   unfolding store
-  wide = let q = x .known in let t = I .laid .rows in let y = K .width in rw (length-set (r₁ .table) (4 * j + 2) (b + length ws)) (omega arith)
+  wide = let q = x .good .known in let t = I .laid .rows in let y = K .width in rw (length-set (r₁ .table) (4 * j + 2) (b + length ws)) (omega arith)
 
   W : Woken j b (store n j ws r₁) r₂
   W = wakes n j b (store n j ws r₁) wide
@@ -155,30 +153,29 @@ module _ (s : Store) (S : Sound s) (g : Ghost) (r : Run) (I : Inv s S g r) (x : 
   unfolding store
   same-stack = K .stack-kept
 
-  how : ((statusOf (r .table) j ≡ 0) × (after .stack ≡ entry j b ∷ r .stack)) ⊎ ((statusOf (r .table) j ≢ 0) × (after .stack ≡ r .stack))
+  how : Stacked j b r after
   how = go (W .how)
     where
-      go : ((statusOf (store n j ws r₁ .table) j ≡ 0) × (r₂ .stack ≡ entry j b ∷ store n j ws r₁ .stack)) ⊎ ((statusOf (store n j ws r₁ .table) j ≢ 0) × (r₂ .stack ≡ store n j ws r₁ .stack))
-          → ((statusOf (r .table) j ≡ 0) × (after .stack ≡ entry j b ∷ r .stack)) ⊎ ((statusOf (r .table) j ≢ 0) × (after .stack ≡ r .stack))
-      go (inl u) = inl (sym same-status ∙ u .0, u .1 ∙ ap (λ t. entry j b ∷ t) same-stack)
-      go (inr u) = inr (λ q. u .0 (same-status ∙ q), u .1 ∙ same-stack)
+      go : Stacked j b (store n j ws r₁) r₂ → Stacked j b r after
+      go (slept e q) = slept (sym same-status ∙ e) (q ∙ ap (λ t. entry j b ∷ t) same-stack)
+      go (was-awake e q) = was-awake (λ t. e (same-status ∙ t)) (q ∙ same-stack)
 
   -- ---- the pages
 
   b-is : b ≡ K .fin₁ p
-  b-is = K .laid .mine-top j (x .known) .3
+  b-is = K .laid .mine-top j (x .good .known) .3
 
-  own-pages : ((K .pages₁ j ≡ g .pages j) × Last (g .pages j) p × (b ≡ g .fin p)) ⊎ ((K .pages₁ j ≡ g .pages j ++ p ∷ []) × (g .own p ≡ spare) × (b ≡ p * 2 ^ n + 2))
+  own-pages : Into n g j b p (K .pages₁)
   own-pages = go (K .pages-own)
     where
       go : (K .pages₁ j ≡ g .pages j) ⊎ ((k : ℕ) × (K .pages₁ j ≡ g .pages j ++ k ∷ []) × (g .own k ≡ spare) × (K .fin₁ k ≡ k * 2 ^ n + 2))
-          → ((K .pages₁ j ≡ g .pages j) × Last (g .pages j) p × (b ≡ g .fin p)) ⊎ ((K .pages₁ j ≡ g .pages j ++ p ∷ []) × (g .own p ≡ spare) × (b ≡ p * 2 ^ n + 2))
+          → Into n g j b p (K .pages₁)
       go (inl e) =
-          let last : Last (g .pages j) p = rw e at (K .laid .mine-top j (x .known) .1) in
-          inl (e, last, b-is ∙ K .mine-kept p j (I .laid .mine-own j p (x .known) (last-in last)) .1)
+          let last : Last (g .pages j) p = rw e at (K .laid .mine-top j (x .good .known) .1) in
+          last-page e last (b-is ∙ K .mine-kept p j (I .laid .mine-own j p (x .good .known) (last-in last)) .1)
       go (inr u) =
-          let e : p ≡ u .0 = last-is (g .pages j) (rw (u .1) at (K .laid .mine-top j (x .known) .1)) in
-          inr (u .1 ∙ ap (λ y. g .pages j ++ y ∷ []) (sym e), ap (g .own) e ∙ u .2, b-is ∙ ap (K .fin₁) e ∙ u .3 ∙ ap (λ y. y * 2 ^ n + 2) (sym e))
+          let e : p ≡ u .0 = last-is (g .pages j) (rw (u .1) at (K .laid .mine-top j (x .good .known) .1)) in
+          free-page (u .1 ∙ ap (λ y. g .pages j ++ y ∷ []) (sym e)) (ap (g .own) e ∙ u .2) (b-is ∙ ap (K .fin₁) e ∙ u .3 ∙ ap (λ y. y * 2 ^ n + 2) (sym e))
 
   pub made : Made s g r x b p (K .own₁) fin₂ (K .pages₁) (K .free₁) after
   made =
@@ -197,5 +194,4 @@ module _ (s : Store) (S : Sound s) (g : Ghost) (r : Run) (I : Inv s S g r) (x : 
       }
 
   pub made-moves : room n j (suc l) r ≡ some r₁ → moveTo n j a l r ≡ some (4 * b, after)
-  unfolding moveTo place moveOn
-  made-moves e = let q : place n j ws r ≡ some (b, store n j ws r₁) = rw (ap (λ y. room n j y r) (value-length s S g r I x) ∙ e, place) in rw q
+  made-moves e = has-room n j a l r r₁ (ap (λ y. room n j y r) (value-length s S g r I x) ∙ e)

@@ -8,20 +8,26 @@ use mathlib.Core.Logic.{_⊎_, inl, inr}
 use mathlib.Core.List.{List, [], _∷_, _++_, List·Memᴰ, List·Memᴰ·head, List·Memᴰ·tail, List·Memᴰ·cases-cons, List·Memᴰ·not-nil, Memᴰ·append-left, Memᴰ·append-right}
 use Rattle.laws.specs.Lists.{at}
 use Rattle.laws.specs.Sums.{sumOver}
-use Rattle.laws.proofs.Once.{Once}
-use Rattle.laws.proofs.Sums.{sum-append, once-sum}
+use Rattle.laws.proofs.Once.{Once, once-sum}
+use Rattle.laws.proofs.Sums.{sum-append}
 use Rattle.rules.specs.Memory.{Store}
 use Rattle.rules.specs.Words.{usedOf, pageVals}
 use Rattle.rules.specs.Audit.{usedOn, usedBy}
 use Rattle.rules.specs.Seen.{seen, wordsAt}
-use Rattle.facts.proofs.Steps.{Stands, Steps, here, over, steps-le, steps-then, apart}
-use Rattle.facts.proofs.Laid.{mine, page-in}
+use Rattle.rules.proofs.Steps.{Stands, Steps, here, over, steps-le, steps-then, apart}
+use Rattle.facts.proofs.Laid.{mine}
 use Rattle.facts.proofs.Looked.{words-at-home}
-use Rattle.facts.proofs.Framed.{below-fin}
-use Rattle.facts.proofs.Sound.{Sound, descriptor-fits}
+use Rattle.facts.proofs.Framed.{chain-below}
+use Rattle.facts.proofs.Sound.{Sound}
 use Rattle.facts.proofs.Passing.{pages-are, ends-at}
 use Rattle.working.proofs.Owned.{mine≢beyond}
 use Rattle.working.proofs.Invariant.{filledTo}
+
+-- what the pointer w counts for region j: the words of a value of one of the region's pages, or nothing
+pub data Counts (s : Store) (S : Sound s) (j w : ℕ) : Type 0 where
+  for-its-words : (k a l : ℕ) → w ≡ 4 * a → List·Memᴰ k (S .pages j) → Steps (s .heap) (k * 2 ^ s .ctl .n + 2 ^ s .ctl .n) (k * 2 ^ s .ctl .n + 2) a
+      → Stands (s .heap) (k * 2 ^ s .ctl .n + 2 ^ s .ctl .n) a l → Counts s S j w
+  for-nothing : wordsAt (seen s) j w ≡ 0 → Counts s S j w
 
 module _ (s : Store) (S : Sound s) where
   abbrev n : ℕ
@@ -50,7 +56,9 @@ module _ (s : Store) (S : Sound s) where
   module _ (j : ℕ) (jR : j < R) where
     value-words : (k a l : ℕ) → S .own k ≡ mine j → Steps (s .heap) (k * 2 ^ n + 2 ^ n) (k * 2 ^ n + 2) a → Stands (s .heap) (k * 2 ^ n + 2 ^ n) a l
         → wordsAt (seen s) j (4 * a) ≡ suc l
-    value-words k a l o t st = words-at-home s k a l (descriptor-fits s S) (page-in (S .laid) k (mine≢beyond o)) t st j jR (S .laid .mine-body j k o .whose)
+    value-words k a l o t st =
+        words-at-home s (S .within .paged) a
+        (record { page = k; region = j; len = l; there = S .laid .known k (mine≢beyond o); known = jR; whose = S .laid .mine-body j k o .whose; steps = t; stands = st })
 
     -- pointers to values, what they sum to, and that all values of these pages are there
     record Listed (ks : List ℕ) : Type 0 where
@@ -88,31 +96,26 @@ module _ (s : Store) (S : Sound s) where
         let rest = listed ks (λ x m. sub x (List·Memᴰ·tail m)) in
         let e′ = rest .sum in
         let a = sum-append (wordsAt (seen s) j) (own .0) (rest .all) in
-        record { all = own .0 ++ rest .all; sum = omega arith; there = λ x a m t q. go x a (own .0) (rest .all) (own .2) (rest .there) (List·Memᴰ·cases-cons m) t q }
+        record { all = own .0 ++ rest .all; sum = omega arith; there = λ x a m t q. go x a (own .0) (own .2) rest (List·Memᴰ·cases-cons m) t q }
       where
-        go : (x a : ℕ) (vs ws : List ℕ) → ((b : ℕ) → Steps (s .heap) (k * 2 ^ n + 2 ^ n) (k * 2 ^ n + 2) b → k * 2 ^ n + 2 ≤ b → b < S .fin k → List·Memᴰ (4 * b) vs)
-            → ((y b : ℕ) → List·Memᴰ y ks → Steps (s .heap) (y * 2 ^ n + 2 ^ n) (y * 2 ^ n + 2) b → b < S .fin y → List·Memᴰ (4 * b) ws)
-            → (x ≡ k) ⊎ List·Memᴰ x ks → Steps (s .heap) (x * 2 ^ n + 2 ^ n) (x * 2 ^ n + 2) a → a < S .fin x → List·Memᴰ (4 * a) (vs ++ ws)
-        go x a vs ws p q (inl e) t u = let t′ : Steps (s .heap) (k * 2 ^ n + 2 ^ n) (k * 2 ^ n + 2) a = rw e at t in Memᴰ·append-left ws (p a t′ (steps-le t′) (rw e at u))
-        go x a vs ws p q (inr m) t u = Memᴰ·append-right vs (q x a m t u)
+        go : (x a : ℕ) (vs : List ℕ) → ((b : ℕ) → Steps (s .heap) (k * 2 ^ n + 2 ^ n) (k * 2 ^ n + 2) b → k * 2 ^ n + 2 ≤ b → b < S .fin k → List·Memᴰ (4 * b) vs)
+            → (L : Listed ks) → (x ≡ k) ⊎ List·Memᴰ x ks → Steps (s .heap) (x * 2 ^ n + 2 ^ n) (x * 2 ^ n + 2) a → a < S .fin x → List·Memᴰ (4 * a) (vs ++ L .all)
+        go x a vs p L (inl e) t u = let t′ : Steps (s .heap) (k * 2 ^ n + 2 ^ n) (k * 2 ^ n + 2) a = rw e at t in Memᴰ·append-left (L .all) (p a t′ (steps-le t′) (rw e at u))
+        go x a vs p L (inr m) t u = Memᴰ·append-right vs (L .there x a m t u)
 
-    -- pointers of which each stands once, and which are to values of the region's pages where they count, take no more than the used words
+    -- pointers of which each stands once take no more than the used words
     pub used-bound : (xs : List ℕ) → Once xs
-        → ((w : ℕ) → List·Memᴰ w xs → ((k : ℕ) × (a : ℕ) × (l : ℕ) × (w ≡ 4 * a) × List·Memᴰ k (S .pages j) × Steps (s .heap) (k * 2 ^ n + 2 ^ n) (k * 2 ^ n + 2) a × Stands (s .heap) (k * 2 ^ n + 2 ^ n) a l)
-        ⊎ (wordsAt (seen s) j w ≡ 0))
-        → sumOver (wordsAt (seen s) j) xs ≤ usedBy n (s .heap) (s .table) j
+        → ((w : ℕ) → List·Memᴰ w xs → Counts s S j w) → sumOver (wordsAt (seen s) j) xs ≤ usedBy n (s .heap) (s .table) j
     used-bound xs o f =
         let L = listed (S .pages j) (λ k m. m) in
-        let b = once-sum (wordsAt (seen s) j) o (L .all) (λ w m. go w (L .all) (L .there) (f w m)) in
+        let b = once-sum (wordsAt (seen s) j) o (L .all) (λ w m. go w L (f w m)) in
         let e = L .sum in
         let u = used-filled j jR in
         omega arith
       where
         below : (k a l : ℕ) → List·Memᴰ k (S .pages j) → Steps (s .heap) (k * 2 ^ n + 2 ^ n) (k * 2 ^ n + 2) a → Stands (s .heap) (k * 2 ^ n + 2 ^ n) a l → a < S .fin k
-        below k a l m t st = let e = below-fin (S .laid) j k (S .laid .mine-own j k jR m) t st in omega arith
+        below k a l m t st = let e = chain-below (S .laid) j k jR m t st in omega arith
 
-        go : (w : ℕ) (all : List ℕ) → ((k a : ℕ) → List·Memᴰ k (S .pages j) → Steps (s .heap) (k * 2 ^ n + 2 ^ n) (k * 2 ^ n + 2) a → a < S .fin k → List·Memᴰ (4 * a) all)
-            → ((k : ℕ) × (a : ℕ) × (l : ℕ) × (w ≡ 4 * a) × List·Memᴰ k (S .pages j) × Steps (s .heap) (k * 2 ^ n + 2 ^ n) (k * 2 ^ n + 2) a × Stands (s .heap) (k * 2 ^ n + 2 ^ n) a l)
-            ⊎ (wordsAt (seen s) j w ≡ 0) → List·Memᴰ w all ⊎ (wordsAt (seen s) j w ≡ 0)
-        go w all there (inr z) = inr z
-        go w all there (inl u) = inl (rw (u .3) (there (u .0) (u .1) (u .4) (u .5) (below (u .0) (u .1) (u .2) (u .4) (u .5) (u .6))))
+        go : (w : ℕ) (L : Listed (S .pages j)) → Counts s S j w → List·Memᴰ w (L .all) ⊎ (wordsAt (seen s) j w ≡ 0)
+        go w L (for-nothing z) = inr z
+        go w L (for-its-words k a l e m t st) = inl (rw e (L .there k a m t (below k a l m t st)))

@@ -1,24 +1,34 @@
 -- Once no page is free, none comes: the working with as many pages as it wants leaves the free list empty, and the heap only grows.
 use Prim.Native.Nat.{ℕ, zero, suc, _+_, _-_, _*_, _^_, _≤_}
 use native.Mathlib.Omega.{arith}
-use mathlib.Core.Path.{_≡_, refl}
+use mathlib.Core.Path.{_≡_, refl, ap, _∙_}
 use mathlib.Core.Bool.{Bool, true, false}
 use mathlib.Core.List.{List, [], _∷_}
 use lib.ListN.{length, take, drop, set, replicate, length-append, length-take, length-drop, length-set, length-replicate}
 use lib.Dec.{leb, eqb}
 use Rattle.laws.specs.Lists.{at, put}
-use Rattle.rules.specs.Memory.{endOf, topOf, statusOf, setStatus}
+use Rattle.rules.specs.Memory.{endOf, topOf, setStatus}
 use Rattle.rules.specs.Words.{Word, number, inHeap, inConst, wordOf, Head, rec, raw, moved, wrong, headOf}
 use Rattle.rules.specs.Pages.{Scan, Run, withHeap, withTable, withStack, join, store}
 use Rattle.rules.specs.Collection.{wake, regionAt, nextScan}
 use Rattle.rules.specs.Wanted.{anyPage, freshRow, freshenFor, joined, roomFor, stored, forwarded, moveFor, evacuateAtFor, evacuateFor, rootsFor, fieldSet, fieldsFor, valueFor, workFor, stackFor}
+use Rattle.facts.proofs.Laid.{Owner, Layout, first-none}
 use Rattle.working.proofs.Taken.{takes-none}
+use Rattle.working.proofs.Aside.{wake-by}
 
 -- no page is free, and the heap has at least m words
 pub record Dry (m : ℕ) (r : Run) : Type 0 where
   pub first : r .first ≡ 0
   pub count : r .count ≡ 0
   pub long : m ≤ length (r .heap)
+
+-- a heap whose free list is empty
+pub laid-dry : {n N R m : ℕ} {own : ℕ → Owner} {fin : ℕ → ℕ} {pages : ℕ → List ℕ} {free : List ℕ} {r : Run} → Layout n N R own fin pages free r → free ≡ [] → m ≡ N * 2 ^ n → Dry m r
+laid-dry L e size = let a = L .size in record { first = first-none L e; count = L .free-count ∙ ap length e; long = omega arith }
+
+-- table and scan stack are no part of it
+pub aside-dry : {m : ℕ} {r : Run} {t : List ℕ} {st : List Scan} → Dry m r → Dry m (withStack (withTable r t) st)
+aside-dry d = record { first = d .first; count = d .count; long = d .long }
 
 put-longer : (h : List ℕ) (a : ℕ) (ws : List ℕ) → length h ≤ length (put h a ws)
 unfolding put
@@ -29,12 +39,7 @@ module _ (m : ℕ) where
   set-dry r x v d = record { first = d .first; count = d .count; long = rw (length-set (r .heap) x v) (d .long) }
 
   wake-dry : (n j b : ℕ) (r : Run) → Dry m r → Dry m (wake n j b r)
-  unfolding wake
-  wake-dry n j b r d = go (statusOf (r .table) j) refl
-    where
-      go : (c : ℕ) → statusOf (r .table) j ≡ c → Dry m (wake n j b r)
-      go zero e = rw (e, wake) (record { first = d .first; count = d .count; long = d .long })
-      go (suc c) e = rw (e, wake) d
+  wake-dry n j b r d = wake-by n j b r (Dry m) (λ e. aside-dry d) (λ ne. d)
 
 module _ (n : ℕ) where
   -- a page is taken behind the heap
@@ -61,7 +66,7 @@ module _ (n : ℕ) where
     fresh-dry zero j r d = d
     fresh-dry (suc k) j r d =
         let t = less (2 ^ n) (anyPage n j r .1) (page-dry m j r d) in
-        fresh-dry k (suc j) (freshRow n j (anyPage n j r)) (record { first = t .first; count = t .count; long = t .long })
+        fresh-dry k (suc j) (freshRow n j (anyPage n j r)) (aside-dry t)
 
     pub join-dry : (j : ℕ) (p : ℕ × Run) → Dry m (p .1) → Dry m (joined n j p)
     unfolding join
@@ -137,10 +142,10 @@ module _ (n : ℕ) where
     work-dry (suc f) j s r d = go (eqb s (topOf (r .table) j)) refl (λ i a q t. work-dry f i a q t)
       where
         pop : eqb s (topOf (r .table) j) ≡ true → ((i a : ℕ) (q : Run) → Dry m q → Dry m (workFor n f i a q)) → (st : List Scan) → r .stack ≡ st → Dry m (workFor n (suc f) j s r)
-        pop e rest [] q = rw (e, workFor, q) (record { first = d .first; count = d .count; long = d .long })
+        pop e rest [] q = rw (e, workFor, q) (aside-dry d)
         pop e rest (t ∷ ts) q =
             rw (e, workFor, q)
-            (rest (t .region) (t .address) (withStack (withTable r (setStatus (r .table) j 0)) ts) (record { first = d .first; count = d .count; long = d .long }))
+            (rest (t .region) (t .address) (withStack (withTable r (setStatus (r .table) j 0)) ts) (aside-dry d))
 
         go : (b : Bool) → eqb s (topOf (r .table) j) ≡ b → ((i a : ℕ) (q : Run) → Dry m q → Dry m (workFor n f i a q)) → Dry m (workFor n (suc f) j s r)
         go false e rest = rw (e, workFor) (rest j (nextScan n j s (valueFor n s r)) (valueFor n s r) (value-dry s r d))
@@ -151,7 +156,7 @@ module _ (n : ℕ) where
     stack-dry r d = go (r .stack) refl
       where
         go : (st : List Scan) → r .stack ≡ st → Dry m (stackFor n r)
-        go [] e = rw (e, stackFor) (record { first = d .first; count = d .count; long = d .long })
+        go [] e = rw (e, stackFor) (aside-dry d)
         go (t ∷ ts) e =
             rw (e, stackFor)
-            (work-dry (2 * length (r .heap)) (t .region) (t .address) (withStack r ts) (record { first = d .first; count = d .count; long = d .long }))
+            (work-dry (2 * length (r .heap)) (t .region) (t .address) (withStack r ts) (aside-dry d))

@@ -1,30 +1,30 @@
 -- What the collection leaves: the old pages are given back, so every page is in a region's chain or free; and what stands in the regions'
 -- pages are the copies, whose fields were all scanned.
 use Prim.Native.Nat.{ℕ, suc, _+_, _*_, _/_, _^_, _≤_, _<_, zero-le}
-use native.Mathlib.Nat.{mul-le-mul-right}
+use native.Mathlib.Nat.{add-zero}
 use native.Mathlib.Omega.{arith}
 use mathlib.Core.Path.{_≡_, refl, sym, ap, _∙_, subst}
 use mathlib.Core.Bool.{true}
 use mathlib.Core.Option.{Option·none-ne-some}
-use mathlib.Core.List.{List, [], _++_, List·Memᴰ, Memᴰ·append-left, Memᴰ·append-right}
+use mathlib.Core.List.{List, [], _++_, List·Memᴰ}
 use lib.ListN.{length, length-append}
 use Rattle.laws.specs.Lists.{at}
 use Rattle.laws.specs.Sums.{sumOver}
-use Rattle.laws.proofs.Once.{member?}
 use Rattle.rules.specs.Memory.{Store, lent, pageCount, statusOf}
-use Rattle.rules.specs.Words.{wordOf, rec, headOf, isRecord}
+use Rattle.rules.specs.Words.{rec, headOf, isRecord}
 use Rattle.rules.specs.Pages.{Run, begun, recordAfter, giveBackAll}
 use Rattle.rules.specs.Collection.{fromSpace}
-use Rattle.facts.proofs.Steps.{Stands, Steps, record-length, steps-le, steps-same, stands-same}
-use Rattle.facts.proofs.Laid.{Owner, old, spare, beyond, mine, Like, Layout}
+use Rattle.rules.proofs.Steps.{Stands, Steps, record-length, steps-le, steps-same, stands-same}
+use Rattle.facts.proofs.Laid.{Owner, old, mine, Like, Layout, page-in}
 use Rattle.facts.proofs.Copied.{to, Rel, num, stay, went}
+use Rattle.rules.proofs.Limits.{within-same}
 use Rattle.rules.proofs.Pointers.{pointer, is-number, record-head}
-use Rattle.facts.proofs.Sound.{Within, InHeap, Good, a-number, to-heap, to-const, Chained, in-free, in-region, Sound}
+use Rattle.facts.proofs.Sound.{Within, InHeap, Good, a-number, to-heap, to-const, Chained, Sound}
 use Rattle.facts.proofs.Passing.{from-once, of-from}
 use Rattle.facts.proofs.Framed.{below-fin}
-use Rattle.facts.proofs.Given.{spared, spared-in, spared-out, GivenAll, given-all}
-use Rattle.working.proofs.Owned.{old≢mine, mine≢beyond}
-use Rattle.working.proofs.Log.{pointers, Copy, of-pointers}
+use Rattle.facts.proofs.Given.{spared, spared-out, GivenAll, given-all, given-chained}
+use Rattle.working.proofs.Owned.{old≢mine, mine≢beyond, owned-chained}
+use Rattle.working.proofs.Log.{pointers, Copy, of-each}
 use Rattle.working.proofs.Aside.{stack-laid}
 use Rattle.working.proofs.Invariant.{Ghost, Kept, filledTo, Inv, copy-known, from-old}
 use Rattle.working.proofs.Work.{asleep, none-waits}
@@ -79,7 +79,7 @@ module _ (s : Store) (S : Sound s) (roots : List ℕ) (r : Run) (A : Ran s S roo
   same-size : length (back .heap) ≡ length (s .heap)
   same-size = let a = G .laid .size in let b = S .laid .size in omega arith
 
-  same-count : pageCount n (back .heap) ≡ N
+  pub same-count : pageCount n (back .heap) ≡ N
   same-count = ap (λ x. x / 2 ^ n) same-size
 
   -- ---- the regions' pages
@@ -99,17 +99,20 @@ module _ (s : Store) (S : Sound s) (roots : List ℕ) (r : Run) (A : Ran s S roo
     pub copy-word : (i : ℕ) → i ≤ C .len → at (back .heap) (b + i) ≡ at (r .heap) (b + i)
     copy-word i q = let p = steps-le (C .into-steps) in let t = C .into-stands .ends in sym (word-same (C .into) (C .region) (b + i) (C .into-mine) (omega arith) (omega arith))
 
+    pub copy-head : at (back .heap) b ≡ at (r .heap) b
+    copy-head = simp add-zero at (copy-word 0 zero-le)
+
     pub copy-steps : Steps (back .heap) (C .into * 2 ^ n + 2 ^ n) (C .into * 2 ^ n + 2) b
     copy-steps = let t = C .into-stands .ends in steps-same (λ x p q. word-same (C .into) (C .region) x (C .into-mine) (omega arith) (omega arith)) (C .into-steps)
 
     pub copy-stands : Stands (back .heap) (C .into * 2 ^ n + 2 ^ n) b (C .len)
-    copy-stands = let p = steps-le (C .into-steps) in let t = C .into-stands .ends in stands-same (word-same (C .into) (C .region) b (C .into-mine) (omega arith) (omega arith)) (C .into-stands)
+    copy-stands = stands-same (sym copy-head) (C .into-stands)
 
     pub copy-there : C .into < N
     copy-there = I .laid .known (C .into) (λ q. mine≢beyond (C .into-mine) q)
 
     pub copy-inside : C .into * 2 ^ n + 2 ^ n ≤ length (back .heap)
-    copy-inside = let a = mul-le-mul-right (2 ^ n) copy-there in let e = G .laid .size in omega arith
+    copy-inside = page-in (G .laid) (C .into) (mine≢beyond (own-mine (C .into) (C .region) (C .into-mine)))
 
     pub copy-whose : at (back .heap) (C .into * 2 ^ n + 1) ≡ suc (C .region)
     copy-whose = G .laid .mine-body (C .region) (C .into) (own-mine (C .into) (C .region) (C .into-mine)) .whose
@@ -120,7 +123,7 @@ module _ (s : Store) (S : Sound s) (roots : List ℕ) (r : Run) (A : Ran s S roo
         I .pending .scanned m (λ j jR q. let q′ : List·Memᴰ b [] = subst (List·Memᴰ b) (none-waits s S (A .end) j jR) q in elim q′ [ ])
         (λ q. Option·none-ne-some b (sym (A .end .none-open) ∙ q))
 
-    pub copy-good : InHeap n R (back .heap) b
+    abbrev pub copy-good : InHeap n R (back .heap) b
     copy-good =
         record {
           page = C .into;
@@ -137,10 +140,7 @@ module _ (s : Store) (S : Sound s) (roots : List ℕ) (r : Run) (A : Ran s S roo
   pub rel-good : {v w : ℕ} → Rel (Kept s) (pointers (g .log)) v w → Good n R (back .heap) (s .consts) w
   rel-good {v} (num e) = a-number (is-number v e)
   rel-good (stay k) = to-const (k .address) (k .word) (k .good)
-  rel-good {v} {w} (went m) = let t = of-pointers (g .log) m in go (t .0) (t .1) (t .3) (t .4)
-    where
-      go : (a b : ℕ) → w ≡ 4 * b → List·Memᴰ (to a b) (g .log) → Good n R (back .heap) (s .consts) w
-      go a b q m = to-heap b (ap wordOf q ∙ pointer b) (copy-good a b m)
+  rel-good (went m) = of-each (λ v w. Good n R (back .heap) (s .consts) w) (g .log) m (λ a b t. to-heap b (pointer b) (copy-good a b t))
 
   -- every value of a region's page is a copy
   pub is-copy : (j k b l : ℕ) → g .own k ≡ mine j → Steps (back .heap) (k * 2 ^ n + 2 ^ n) (k * 2 ^ n + 2) b → Stands (back .heap) (k * 2 ^ n + 2 ^ n) b l
@@ -159,44 +159,19 @@ module _ (s : Store) (S : Sound s) (roots : List ℕ) (r : Run) (A : Ran s S roo
   fields-good j k b l i jR m t st kind i-in =
       let c = is-copy j k b l (I .laid .mine-own j k jR m) t st in
       let D = C (c .0) b (c .1) in
-      let w₀ : at (back .heap) b ≡ at (r .heap) b = ap (at (back .heap)) (omega arith) ∙ copy-word (c .0) b (c .1) 0 zero-le ∙ ap (at (r .heap)) (omega arith) in
       let h : headOf (at (back .heap) b) ≡ rec l = record-head (headOf (at (back .heap) b)) l (st .head) kind in
-      let h′ : headOf (at (r .heap) b) ≡ rec l = ap headOf (sym w₀) ∙ h in
+      let h′ : headOf (at (r .heap) b) ≡ rec l = ap headOf (sym (copy-head (c .0) b (c .1))) ∙ h in
       let e : D .len ≡ l = record-length (D .into-stands) h′ in
       let full = copy-scanned (c .0) b (c .1) l h′ in
       rw (copy-word (c .0) b (c .1) (suc i) (omega arith)) (rel-good (D .scanned i (omega arith) (omega arith)))
 
   chained : (k : ℕ) → k < N → Chained R own′ (g .pages) (g .free ++ ks) k
-  chained k b = go (member? k ks)
-    where
-      by : (o : Owner) → g .own k ≡ o → (List·Memᴰ k ks → ⊥) → Chained R own′ (g .pages) (g .free ++ ks) k
-      by old e ne = absurd (ne (of-ks k e))
-      by spare e ne = in-free (spared-out (g .own) ks k ne ∙ e) (Memᴰ·append-left ks (I .owned .spares k e))
-      by beyond e ne = absurd (I .owned .whole k b e)
-      by (mine j) e ne = let t = I .owned .mines k j e in in-region j (t .0) (own-mine k j e) (t .1)
-
-      go : Dec (List·Memᴰ k ks) → Chained R own′ (g .pages) (g .free ++ ks) k
-      go (yes m) = in-free (spared-in (g .own) ks k m) (Memᴰ·append-right (g .free) m)
-      go (no ne) = by (g .own k) refl ne
+  chained k b = given-chained ks k (λ ne. owned-chained (I .owned) k b (λ e. ne (of-ks k e)))
 
   -- ---- it passes
 
   within : Within left-store
-  within =
-      let W = S .within in
-      record {
-        paged =
-            record {
-              low = W .paged .low;
-              high = W .paged .high;
-              size = rw same-size (W .paged .size);
-              whole = rw same-size (W .paged .whole);
-            };
-        two = rw same-size (W .two);
-        table = ap length (G .table) ∙ I .width;
-        roots = rw (← A .count) (W .roots);
-        consts = W .consts;
-      }
+  within = within-same same-size (ap length (G .table) ∙ I .width ∙ sym (S .within .table)) (sym (A .count)) refl (S .within)
 
   pub left-sound : Sound left-store
   left-sound =

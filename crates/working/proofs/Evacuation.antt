@@ -3,8 +3,8 @@
 use Prim.Native.Nat.{ℕ, suc, _+_, _*_, _^_, _<_, zero-le}
 use native.Mathlib.Nat.{add-zero}
 use native.Mathlib.Omega.{arith}
-use mathlib.Core.Path.{_≡_, refl, sym, ap, _∙_, subst}
-use mathlib.Core.Bool.{false, false≢true}
+use mathlib.Core.Path.{_≡_, refl, ap, _∙_}
+use mathlib.Core.Bool.{false}
 use mathlib.Core.Logic.{_⊎_, inl, inr}
 use mathlib.Core.Option.{none, some}
 use mathlib.Core.List.{List, [], List·Memᴰ, List·Memᴰ·head}
@@ -12,24 +12,24 @@ use lib.ListN.{length, take, drop}
 use Rattle.laws.specs.Lists.{at}
 use borrow.Author.Tests.{lt-leb}
 use lib.Dec.{leb}
-use Rattle.laws.proofs.Once.{Linked, linked-none}
-use Rattle.rules.specs.Memory.{Store, pageCount, link, origin, endOf, topOf}
-use Rattle.rules.specs.Words.{Head, rec, raw, moved, wrong, headOf, lengthBy}
-use Rattle.rules.specs.Pages.{Run, room, place}
-use Rattle.rules.specs.Collection.{moveOn, moveTo, regionAt, evacuateAt, evacuate}
-use Rattle.rules.proofs.Chains.{page-of}
+use Rattle.rules.specs.Memory.{Store, pageCount, origin, endOf, topOf}
+use Rattle.rules.specs.Words.{headOf, lengthBy}
+use Rattle.rules.specs.Pages.{Run, room}
+use Rattle.rules.specs.Collection.{moveTo, regionAt, evacuateAt, evacuate}
 use Rattle.rules.specs.Seen.{seen, Reached}
-use Rattle.facts.proofs.Steps.{steps-le}
+use Rattle.rules.proofs.Steps.{steps-le}
 use Rattle.facts.proofs.Laid.{old}
 use Rattle.facts.proofs.Copied.{to, Rel, num, stay, went}
-use Rattle.rules.proofs.Pointers.{pointer, pointer-is, forward-head}
+use Rattle.rules.proofs.Pointers.{pointer, pointer-is, Heads, a-record, raw-words, head-is, forward-head}
+use Rattle.facts.proofs.Goods.{page-at}
 use Rattle.facts.proofs.Sound.{InHeap, Good, a-number, to-heap, to-const, Sound, good-page}
 use Rattle.working.proofs.Log.{pointers, in-log, in-pointers}
 use Rattle.working.proofs.Placed.{Roomed}
 use Rattle.working.proofs.Moving.{still, still-whose}
 use Rattle.rules.specs.Wanted.{anyPage, joined, roomFor, moveFor, evacuateAtFor, evacuateFor}
-use Rattle.working.proofs.Dry.{Dry, page-dry, join-dry, forward-dry}
-use Rattle.working.proofs.Invariant.{lacking-on, Ghost, Kept, Inv, later-refl, Lacking, Became}
+use Rattle.working.proofs.Wanting.{Goes, wants-page, goes-on, lacks-room}
+use Rattle.working.proofs.Dry.{Dry, laid-dry, page-dry, join-dry, forward-dry}
+use Rattle.working.proofs.Invariant.{lacks-as, Ghost, Kept, Inv, later-refl, Became, Evacuates}
 use Rattle.working.proofs.Evacuating.{room-or}
 use Rattle.working.proofs.Copying.{Uncopied, value-length, after, fin₂, made, made-moves}
 use Rattle.working.proofs.CopyPending.{copied, copied-later, copied-count}
@@ -76,15 +76,9 @@ module _ (s : Store) (S : Sound s) (g : Ghost) (r : Run) (I : Inv s S g r) where
       abbrev pub value : Uncopied s g
       value =
           record {
-            region = j;
-            page = f;
             address = a;
-            len = l;
-            known = x .known;
+            good = x;
             from-old = old-page a x;
-            whose = x .whose;
-            steps = x .steps;
-            stands = x .stands;
             reached = reached;
             new = new;
           }
@@ -92,54 +86,47 @@ module _ (s : Store) (S : Sound s) (g : Ghost) (r : Run) (I : Inv s S g r) where
       -- the value's header and its region, as the heap has them now
       pub header : at (r .heap) a ≡ at (s .heap) a
       header =
-          ap (at (r .heap)) (sym (add-zero a)) ∙ still n s (Kept s) (g .own) (g .fin) (r .heap) (g .log) (g .count) (I .logged) f a l (old-page a x) (x .steps) (x .stands) new 0 zero-le
-          ∙ ap (at (s .heap)) (add-zero a)
+          simp add-zero at (still n s (Kept s) (g .own) (g .fin) (r .heap) (g .log) (g .count) (I .logged) f a l (old-page a x) (x .steps) (x .stands) new 0 zero-le)
 
       pub region : regionAt n (r .heap) a ≡ j
       unfolding regionAt origin
       region =
-          let lo = steps-le (x .steps) in
-          let hi = x .stands .ends in
           let e : at (r .heap) (f * 2 ^ n + 1) ≡ suc j
           = still-whose n s (Kept s) (g .own) (g .fin) (r .heap) (g .log) (g .count) (I .logged) f a l (old-page a x) (x .steps) (x .stands) new ∙ x .whose in
-          rw (page-of n f a (omega arith) (omega arith)) (omega arith)
+          rw (page-at n R (s .heap) (S .within .paged) a x) (omega arith)
 
-      by-head : (y : Head) → headOf (at (s .heap) a) ≡ y → lengthBy y ≡ some l → evacuateAt n a r ≡ moveTo n j a l r
-      unfolding evacuateAt
-      by-head (rec m) q t = let e : headOf (at (r .heap) a) ≡ rec m = ap headOf header ∙ q in let d : m ≡ l = cc in rw (e, evacuateAt, region, d)
-      by-head (raw m) q t = let e : headOf (at (r .heap) a) ≡ raw m = ap headOf header ∙ q in let d : m ≡ l = cc in rw (e, evacuateAt, region, d)
-      by-head (moved m) q t = absurd (false≢true cc)
-      by-head wrong q t = absurd (false≢true cc)
+      head-now : Heads (headOf (at (r .heap) a)) l
+      head-now = head-is (headOf (at (r .heap) a)) l (ap (λ w. lengthBy (headOf w)) header ∙ x .stands .head)
 
       pub head : evacuateAt n a r ≡ moveTo n j a l r
-      head = by-head (headOf (at (s .heap) a)) refl (x .stands .head)
+      unfolding evacuateAt
+      head = go head-now
+        where
+          go : Heads (headOf (at (r .heap) a)) l → evacuateAt n a r ≡ moveTo n j a l r
+          go (a-record e) = rw (e, evacuateAt, region)
+          go (raw-words e) = rw (e, evacuateAt, region)
 
       -- and so goes the working with as many pages as it wants
-      by-head-for : (y : Head) → headOf (at (s .heap) a) ≡ y → lengthBy y ≡ some l → evacuateAtFor n a r ≡ moveFor n j a l r
+      head-for : evacuateAtFor n a r ≡ moveFor n j a l r
       unfolding evacuateAtFor
-      by-head-for (rec m) q t = let e : headOf (at (r .heap) a) ≡ rec m = ap headOf header ∙ q in let d : m ≡ l = cc in rw (e, evacuateAtFor, region, d)
-      by-head-for (raw m) q t = let e : headOf (at (r .heap) a) ≡ raw m = ap headOf header ∙ q in let d : m ≡ l = cc in rw (e, evacuateAtFor, region, d)
-      by-head-for (moved m) q t = absurd (false≢true cc)
-      by-head-for wrong q t = absurd (false≢true cc)
+      head-for = go head-now
+        where
+          go : Heads (headOf (at (r .heap) a)) l → evacuateAtFor n a r ≡ moveFor n j a l r
+          go (a-record e) = rw (e, evacuateAtFor, region)
+          go (raw-words e) = rw (e, evacuateAtFor, region)
 
       over : g .free ≡ [] → endOf (r .table) j < topOf (r .table) j + suc l → Dry (length (s .heap) + 2 ^ n) (evacuateAtFor n a r .1)
       unfolding moveFor roomFor
       over e b =
-          let size = I .laid .size in
-          let size₀ = S .laid .size in
-          let links : Linked (link n (r .heap)) (r .first) [] = subst (λ fs. Linked (link n (r .heap)) (r .first) fs) e (I .laid .free-links) in
-          let count = I .laid .free-count in
-          let none-left : length (g .free) ≡ 0 = ap length e in
-          let dry : Dry (length (s .heap)) r = record { first = linked-none links; count = omega arith; long = omega arith } in
+          let dry : Dry (length (s .heap)) r = laid-dry (I .laid) e (S .laid .size) in
           let ws : List ℕ = take (suc l) (drop a (r .heap)) in
           let test : leb (topOf (r .table) j + length (take (suc l) (drop a (r .heap)))) (endOf (r .table) j) ≡ false
           = lt-leb (topOf (r .table) j + length (take (suc l) (drop a (r .heap)))) (endOf (r .table) j) (rw (value-length s S g r I value) b) in
-          rw (by-head-for (headOf (at (s .heap) a)) refl (x .stands .head), test, roomFor)
+          rw (head-for, test, roomFor)
           (forward-dry n (length (s .heap) + 2 ^ n) j a ws (joined n j (anyPage n j r)) (join-dry n (length (s .heap) + 2 ^ n) j (anyPage n j r) (page-dry n (length (s .heap)) j r dry)))
 
       pub no-room : room n j (suc l) r ≡ none → moveTo n j a l r ≡ none
-      unfolding moveTo place moveOn
-      no-room e = let q : place n j (take (suc l) (drop a (r .heap))) r ≡ none = rw (ap (λ y. room n j y r) (value-length s S g r I value) ∙ e, place) in rw q
+      no-room e = lacks-room n j a l r (ap (λ y. room n j y r) (value-length s S g r I value) ∙ e)
 
       -- there is room
       unfoldable pub copied-became : (r₁ : Run) (K : Roomed n N R (g .own) (g .fin) (g .pages) (g .free) r j (suc l) r₁)
@@ -154,38 +141,30 @@ module _ (s : Store) (S : Sound s) (g : Ghost) (r : Run) (I : Inv s S g r) where
             count = copied-count s S g r I value _ _ _ _ _ _ _ M;
           }
 
-      now : ((evacuateAt n a r ≡ none) × Lacking s S (evacuateAtFor n a r .1)) ⊎ ((v : ℕ) × (r′ : Run) × (evacuateAt n a r ≡ some (v, r′)) × Became s S g r (4 * a) v r′)
+      now : Evacuates s S g r (4 * a) (evacuateAt n a r) (evacuateAtFor n a r .1)
       now = go (room-or n N R (g .own) (g .fin) (g .pages) (g .free) r (I .laid) j (suc l) (x .known) (let lo = steps-le (x .steps) in let hi = x .stands .ends in omega arith))
         where
-          go : ((room n j (suc l) r ≡ none) × (g .free ≡ []) × (endOf (r .table) j < topOf (r .table) j + suc l))
-              ⊎ ((r₁ : Run) × (room n j (suc l) r ≡ some r₁) × Roomed n N R (g .own) (g .fin) (g .pages) (g .free) r j (suc l) r₁)
-              → ((evacuateAt n a r ≡ none) × Lacking s S (evacuateAtFor n a r .1)) ⊎ ((v : ℕ) × (r′ : Run) × (evacuateAt n a r ≡ some (v, r′)) × Became s S g r (4 * a) v r′)
-          go (inl u) =
-              inl (head ∙ no-room (u .0), record { ghost = g; run = r; inv = I; none-free = u .1; region = j; words = suc l; known = x .known; wants = u .2; over = over (u .1) (u .2) })
-          go (inr u) = inr (_, _, head ∙ made-moves s S g r I value (u .0) (u .2) (u .1), copied-became (u .0) (u .2))
+          go : Goes none some (room n j (suc l) r) ((g .free ≡ []) × (endOf (r .table) j < topOf (r .table) j + suc l)) (λ r₁. Roomed n N R (g .own) (g .fin) (g .pages) (g .free) r j (suc l) r₁)
+              → Evacuates s S g r (4 * a) (evacuateAt n a r) (evacuateAtFor n a r .1)
+          go (wants-page e (f, w)) =
+              wants-page (head ∙ no-room e) (record { ghost = g; run = r; inv = I; none-free = f; region = j; words = suc l; known = x .known; wants = w; over = over f w })
+          go (goes-on r₁ e K) = goes-on _ (head ∙ made-moves s S g r I value r₁ K e) (copied-became r₁ K)
 
-    pub evacuates-at : ((evacuateAt n a r ≡ none) × Lacking s S (evacuateAtFor n a r .1)) ⊎ ((v : ℕ) × (r′ : Run) × (evacuateAt n a r ≡ some (v, r′)) × Became s S g r (4 * a) v r′)
+    pub evacuates-at : Evacuates s S g r (4 * a) (evacuateAt n a r) (evacuateAtFor n a r .1)
     evacuates-at = go (in-log a (g .log))
       where
         go : ((b : ℕ) × List·Memᴰ (to a b) (g .log)) ⊎ ((b : ℕ) → List·Memᴰ (to a b) (g .log) → ⊥)
-            → ((evacuateAt n a r ≡ none) × Lacking s S (evacuateAtFor n a r .1)) ⊎ ((v : ℕ) × (r′ : Run) × (evacuateAt n a r ≡ some (v, r′)) × Became s S g r (4 * a) v r′)
-        go (inl u) = let t = again (u .0) (u .1) in inr (4 * u .0, r, t .0, t .1)
+            → Evacuates s S g r (4 * a) (evacuateAt n a r) (evacuateAtFor n a r .1)
+        go (inl u) = let t = again (u .0) (u .1) in goes-on (4 * u .0, r) (t .0) (t .1)
         go (inr new) = now new
 
   -- any word
   pub evacuates : (w : ℕ) → Good n R (s .heap) (s .consts) w → Reached (seen s) (s .roots) w
-      → ((evacuate n w r ≡ none) × Lacking s S (evacuateFor n w r .1)) ⊎ ((v : ℕ) × (r′ : Run) × (evacuate n w r ≡ some (v, r′)) × Became s S g r w v r′)
+      → Evacuates s S g r w (evacuate n w r) (evacuateFor n w r .1)
   unfolding evacuate evacuateFor
-  evacuates w (a-number e) q = inr (w, r, rw (e, evacuate), stays w w (num (rw e)))
-  evacuates w (to-const a e k) q = inr (w, r, rw (e, evacuate), stays w w (stay (record { address = a; word = e; good = k })))
+  evacuates w (a-number e) q = goes-on (w, r) (rw (e, evacuate)) (stays w w (num (rw e)))
+  evacuates w (to-const a e k) q = goes-on (w, r) (rw (e, evacuate)) (stays w w (stay (record { address = a; word = e; good = k })))
   evacuates w (to-heap a e x) q =
       let p : w ≡ 4 * a = pointer-is w a e in
-      rw p (go (evacuates-at a x (rw p at q)))
-    where
-      by-for : evacuateFor n (4 * a) r ≡ evacuateAtFor n a r
-      by-for = rw (pointer a, evacuateFor)
-
-      go : ((evacuateAt n a r ≡ none) × Lacking s S (evacuateAtFor n a r .1)) ⊎ ((v : ℕ) × (r′ : Run) × (evacuateAt n a r ≡ some (v, r′)) × Became s S g r (4 * a) v r′)
-          → ((evacuate n (4 * a) r ≡ none) × Lacking s S (evacuateFor n (4 * a) r .1)) ⊎ ((v : ℕ) × (r′ : Run) × (evacuate n (4 * a) r ≡ some (v, r′)) × Became s S g r (4 * a) v r′)
-      go (inl u) = inl (evacuate-pointer n a r ∙ u .0, lacking-on (λ d. rw by-for d) (u .1))
-      go (inr u) = inr (u .0, u .1, evacuate-pointer n a r ∙ u .2, u .3)
+      let f : evacuateFor n (4 * a) r ≡ evacuateAtFor n a r = rw (pointer a, evacuateFor) in
+      rw p (lacks-as (evacuate-pointer n a r) (ap (λ (t : ℕ × Run). t .1) f) (λ t B. B) (evacuates-at a x (rw p at q)))

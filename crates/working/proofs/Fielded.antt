@@ -11,7 +11,7 @@ use lib.Seq.{getD-set-other}
 use Rattle.laws.specs.Lists.{at}
 use Rattle.rules.specs.Memory.{link}
 use Rattle.rules.specs.Pages.{Run, withHeap}
-use Rattle.facts.proofs.Steps.{Stands, Steps, steps-le}
+use Rattle.rules.proofs.Steps.{Stands, Steps, steps-le}
 use Rattle.facts.proofs.Inside.{other-page, no-descriptor, steps-still}
 use Rattle.facts.proofs.Laid.{mine-inj, spare≢mine, Owner, mine, Body, Like, body-like, Layout, heap-laid}
 

@@ -12,7 +12,7 @@ use Rattle.laws.specs.Lists.{at}
 use Rattle.rules.specs.Memory.{Store, pageCount}
 use Rattle.rules.specs.Words.{rec, raw, headOf}
 use Rattle.rules.specs.Pages.{Run, withHeap}
-use Rattle.facts.proofs.Steps.{Stands, Steps}
+use Rattle.rules.proofs.Steps.{Stands, Steps}
 use Rattle.facts.proofs.Inside.{no-header}
 use Rattle.facts.proofs.Laid.{upd, upd-other, page-in}
 use Rattle.facts.proofs.Copied.{to, Rel}

@@ -2,7 +2,7 @@
 -- of theirs changes.
 use Prim.Native.Nat.{ℕ, _+_, _*_, _^_, _≤_, _<_, zero-le}
 use native.Mathlib.Omega.{arith}
-use mathlib.Core.Path.{_≡_, refl, ap}
+use mathlib.Core.Path.{_≡_, refl, ap, _∙_}
 use mathlib.Core.Logic.{_≢_, _↔_}
 use mathlib.Core.List.{List, [], _∷_, List·Memᴰ}
 use lib.ListN.{length}
@@ -11,35 +11,10 @@ use Rattle.rules.specs.Memory.{Store, pageCount, statusOf}
 pub use Rattle.rules.proofs.Rows.{row-width, row-else, row-end, row-first, row-top, row-status}
 use Rattle.rules.specs.Pages.{Run, begun}
 use Rattle.facts.proofs.Laid.{Owner, old, spare, beyond, mine, Layout}
+use Rattle.facts.proofs.Aged.{aged, aged-from, aged-back, aged-mine, aged-laid}
 use Rattle.facts.proofs.Sound.{Chained, in-free, in-region, Sound}
-use Rattle.working.proofs.Owned.{old≢spare, old≢mine, old≢beyond, spare≢mine, mine≢beyond, Owned, sound-owned}
+use Rattle.working.proofs.Owned.{old≢spare, old≢beyond, Owned, sound-owned}
 use Rattle.working.proofs.Taken.{taken}
-
--- ---- the pages of before
-
-abbrev pub aged : Owner → Owner
-aged old = old
-aged spare = spare
-aged beyond = beyond
-aged (mine j) = old
-
-aged-spare : (o : Owner) → aged o ≡ spare → o ≡ spare
-aged-spare old e = e
-aged-spare spare e = e
-aged-spare beyond e = e
-aged-spare (mine j) e = old≢spare refl e
-
-aged-mine : {A : Type 0} {j : ℕ} (o : Owner) → aged o ≡ mine j → A
-aged-mine old e = old≢mine refl e
-aged-mine spare e = spare≢mine refl e
-aged-mine beyond e = mine≢beyond e refl
-aged-mine (mine j) e = old≢mine refl e
-
-aged-beyond : (o : Owner) → aged o ≡ beyond → o ≡ beyond
-aged-beyond old e = e
-aged-beyond spare e = e
-aged-beyond beyond e = e
-aged-beyond (mine j) e = old≢beyond refl e
 
 -- ---- the state
 
@@ -71,46 +46,37 @@ module _ (s : Store) (S : Sound s) where
   abbrev R : ℕ
   R = s .ctl .regions
 
-  chained-old : (k : ℕ) → k < N → aged (S .own k) ≡ old → (i : ℕ) × (i < R) × List·Memᴰ k (S .pages i)
+  chained-old : (k : ℕ) → k < N → aged 0 (S .own k) ≡ old → (i : ℕ) × (i < R) × List·Memᴰ k (S .pages i)
   chained-old k b e = go (S .chained k b)
     where
       go : Chained R (S .own) (S .pages) (S .free) k → (i : ℕ) × (i < R) × List·Memᴰ k (S .pages i)
-      go (in-free o m) = old≢spare e (ap aged o)
+      go (in-free o m) = old≢spare e (ap (aged 0) o)
       go (in-region j jR o m) = (j, jR, m)
 
-  old-known : (k : ℕ) → aged (S .own k) ≡ old → k < N
-  old-known k e = S .laid .known k (λ q. old≢beyond e (ap aged q))
+  old-known : (k : ℕ) → aged 0 (S .own k) ≡ old → k < N
+  old-known k e = S .laid .known k (λ q. old≢beyond e (ap (aged 0) q))
+
+  -- no page is a region's yet
+  none-mine : (k j : ℕ) → aged 0 (S .own k) ≡ mine j → ⊥
+  none-mine k j o = let b = aged-mine 0 (S .own k) j o .1 in omega arith
 
   -- before the first
   pub fresh-start : Fresh s S 0 (begun s)
   fresh-start =
       record {
-        own = λ k. aged (S .own k);
+        own = λ k. aged 0 (S .own k);
         fin = S .fin;
         pages = λ i. [];
         free = S .free;
-        laid =
-            record {
-              size = S .laid .size;
-              big = S .laid .big;
-              rows = zero-le;
-              known = λ k ne. S .laid .known k (λ e. ne (ap aged e));
-              free-own = λ k m. ap aged (S .laid .free-own k m);
-              free-once = S .laid .free-once;
-              free-links = S .laid .free-links;
-              free-last = S .laid .free-last;
-              free-count = S .laid .free-count;
-              free-clean = λ k o. S .laid .free-clean k (aged-spare (S .own k) o);
-              mine-own = λ i k b m. absurd (omega arith);
-              mine-once = λ i b. absurd (omega arith);
-              mine-links = λ i b. absurd (omega arith);
-              mine-body = λ i k o. aged-mine (S .own k) o;
-              mine-top = λ i b. absurd (omega arith);
-            };
-        from-space = λ k. (λ e. chained-old k (old-known k e) e, λ t. ap aged (S .laid .mine-own (t .0) k (t .1) (t .2)));
+        laid = aged-laid 0 (S .laid) zero-le (λ i. []) (λ i b. absurd (omega arith));
+        from-space = λ k. (λ e. chained-old k (old-known k e) e, λ t. ap (aged 0) (S .laid .mine-own (t .0) k (t .1) (t .2)) ∙ aged-from 0 (t .0) zero-le);
         owned =
             let W = sound-owned s S in
-            record { whole = λ k b e. W .whole k b (aged-beyond (S .own k) e); spares = λ k e. W .spares k (aged-spare (S .own k) e); mines = λ k j o. aged-mine (S .own k) o };
+            record {
+              whole = λ k b e. W .whole k b (aged-back 0 (S .own k) beyond (λ q. old≢beyond q refl) e);
+              spares = λ k e. W .spares k (aged-back 0 (S .own k) spare (λ q. old≢spare q refl) e);
+              mines = λ k j o. absurd (none-mine k j o);
+            };
         none-yet = λ i b. refl;
         single = λ i b. absurd (omega arith);
         words = λ k x o p q. refl;
@@ -121,10 +87,9 @@ module _ (s : Store) (S : Sound s) where
         stack = refl;
       }
 
-  -- no page is a region's yet
   pub start-own : (k j : ℕ) → fresh-start .own k ≡ mine j → ⊥
   unfolding fresh-start
-  start-own k j o = aged-mine (S .own k) o
+  start-own k j o = none-mine k j o
 
   pub start-free : S .free ≡ fresh-start .free
   unfolding fresh-start

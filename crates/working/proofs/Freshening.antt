@@ -3,23 +3,22 @@ use Prim.Native.Nat.{ℕ, zero, suc, _+_, _*_, _^_, _≤_, _<_}
 use native.Mathlib.Omega.{arith}
 use native.Mathlib.Decide.{ℕ-discrete}
 use mathlib.Core.Path.{_≡_, refl, sym, ap, _∙_, subst}
-use mathlib.Core.Logic.{_≢_, _⊎_, inl, inr}
+use mathlib.Core.Logic.{_≢_, _↔_, inr}
 use mathlib.Core.Option.{none, some}
 use mathlib.Core.List.{List, [], _∷_, List·Memᴰ·head}
 use lib.ListN.{length}
 use Rattle.laws.specs.Lists.{at}
-use Rattle.laws.proofs.Once.{Linked, linked-none, linked-first}
-use Rattle.rules.specs.Memory.{Store, pageCount, pageEnd, pageAddress, bodyAddress, link, statusOf, setRow}
-use Rattle.rules.specs.Pages.{Run, withTable, takePage}
+use Rattle.rules.specs.Memory.{Store, pageCount, statusOf}
+use Rattle.rules.specs.Pages.{Run, takePage}
 use Rattle.rules.specs.Collection.{freshen}
-use Rattle.facts.proofs.Laid.{Owner, old, spare, mine, Layout, upd, upd-other}
+use Rattle.facts.proofs.Laid.{Owner, old, spare, mine, Layout, upd, upd-other, first-is, first-spare}
 use Rattle.facts.proofs.Sound.{Sound}
-use Rattle.working.proofs.Owned.{old≢spare, spare≢mine, Owned}
+use Rattle.working.proofs.Owned.{old≢spare, spare≢mine, Owned, taken-old}
 use Rattle.working.proofs.Taken.{taken, takes, takes-none, others}
-use Rattle.working.proofs.OneMore.{same-width, else-row, status-new, status-else, fin-new, pages-new, pages-old, region-laid, old-before, region-owned}
+use Rattle.working.proofs.OneMore.{same-width, else-row, status-new, status-else, fin-new, pages-new, pages-old, region-laid, region-owned}
 use Rattle.rules.specs.Wanted.{anyPage, freshRow, freshenFor}
-use Rattle.working.proofs.Wanting.{follows-some, page-follows}
-use Rattle.working.proofs.Dry.{Dry, page-dry, fresh-dry}
+use Rattle.working.proofs.Wanting.{Goes, wants-page, goes-on, goes-as, follows-some, page-follows}
+use Rattle.working.proofs.Dry.{Dry, laid-dry, aside-dry, page-dry, fresh-dry}
 use Rattle.working.proofs.Fresh.{Fresh}
 
 module _ (s : Store) (S : Sound s) (j : ℕ) (r : Run) (F : Fresh s S j r) (jR : j < s .ctl .regions) (k : ℕ) (ks : List ℕ) (free : F .free ≡ k ∷ ks) where
@@ -51,20 +50,17 @@ module _ (s : Store) (S : Sound s) (j : ℕ) (r : Run) (F : Fresh s S j r) (jR :
   pages′ = upd (F .pages) j (k ∷ [])
 
   abbrev pub freshened : Run
-  freshened = withTable r₁ (setRow (r₁ .table) j (pageEnd n k) (pageAddress n k) (bodyAddress n k) 0)
+  freshened = freshRow n j (k, r₁)
 
   same-stack : r₁ .stack ≡ r .stack
   unfolding taken
   same-stack = refl
 
   spare-k : F .own k ≡ spare
-  spare-k = L .free-own k (List·Memᴰ·head refl)
+  spare-k = first-spare L
 
-  not-k : (l : ℕ) → F .own l ≡ old → l ≢ k
-  not-k l o e = old≢spare o (ap (F .own) e ∙ spare-k)
-
-  abbrev back : (l : ℕ) → own′ l ≡ old → F .own l ≡ old
-  back = old-before n N j (F .own) (F .fin) (F .pages) k ks r L wide
+  same-old : (l : ℕ) → (F .own l ≡ old) ↔ (own′ l ≡ old)
+  same-old = taken-old (F .own) k j spare-k
 
   single : (i : ℕ) → i < suc j → Dec (i ≡ j) → (l : ℕ) × (pages′ i ≡ l ∷ []) × (fin′ l ≡ l * 2 ^ n + 2)
   single i b (yes e) = (k, pages-new n N j (F .own) (F .fin) (F .pages) k ks r L wide i e, fin-new n N j (F .own) (F .fin) (F .pages) k ks r L wide)
@@ -76,7 +72,9 @@ module _ (s : Store) (S : Sound s) (j : ℕ) (r : Run) (F : Fresh s S j r) (jR :
 
   same-words : (l x : ℕ) → own′ l ≡ old → l * 2 ^ n ≤ x → x < l * 2 ^ n + 2 ^ n → at (r₁ .heap) x ≡ at (s .heap) x
   unfolding taken
-  same-words l x o p q = others n N j (F .own) (F .fin) (F .pages) k ks r L j l x (not-k l (back l o)) p q ∙ F .words l x (back l o) p q
+  same-words l x o p q =
+      let was = same-old l .1 o in
+      others n N j (F .own) (F .fin) (F .pages) k ks r L j l x (λ e. old≢spare was (ap (F .own) e ∙ spare-k)) p q ∙ F .words l x was p q
 
   asleep : (i : ℕ) → i < R → Dec (i ≡ j) → statusOf (freshened .table) i ≡ 0
   asleep i b (yes e) = status-new n N j (F .own) (F .fin) (F .pages) k ks r L wide i e
@@ -90,10 +88,7 @@ module _ (s : Store) (S : Sound s) (j : ℕ) (r : Run) (F : Fresh s S j r) (jR :
         pages = pages′;
         free = ks;
         laid = region-laid n N j (F .own) (F .fin) (F .pages) k ks r L wide;
-        from-space = λ l. (
-          λ o. F .from-space l .0 (back l o),
-          λ t. let o = F .from-space l .1 t in upd-other (F .own) k (mine j) l (not-k l o) ∙ o,
-        );
+        from-space = λ l. (λ o. F .from-space l .0 (same-old l .1 o), λ t. same-old l .0 (F .from-space l .1 t));
         owned = region-owned n N j (F .own) (F .fin) (F .pages) k ks r L wide (subst (λ fr. Owned N j (F .own) (F .pages) fr) free (F .owned));
         none-yet = λ i b. pages-old n N j (F .own) (F .fin) (F .pages) k ks r L wide i (omega arith) ∙ F .none-yet i (omega arith);
         single = λ i b. single i b (ℕ-discrete i j);
@@ -116,41 +111,33 @@ module _ (s : Store) (S : Sound s) (j : ℕ) (r : Run) (F : Fresh s S j r) (jR :
 
 -- ---- all of them
 
+-- m regions from j on take their pages: there are fewer free pages than regions, or each region has its own
+abbrev pub Freshens : (s : Store) → Sound s → ℕ → ℕ → Run → Type 0
+Freshens s S m j r =
+    Goes none some (freshen (s .ctl .n) m j r) ((s .ctl .count < s .ctl .regions) × Dry (length (s .heap) + 2 ^ s .ctl .n) (freshenFor (s .ctl .n) m j r)) (λ r′. Fresh s S (s .ctl .regions) r′)
+
 module _ (s : Store) (S : Sound s) where
-  -- there are fewer free pages than regions, or each region has its own
   pub freshens : (m j : ℕ) (r : Run) → j + m ≡ s .ctl .regions → Fresh s S j r
-      → ((freshen (s .ctl .n) m j r ≡ none) × (s .ctl .count < s .ctl .regions) × Dry (length (s .heap) + 2 ^ s .ctl .n) (freshenFor (s .ctl .n) m j r)) ⊎ ((r′ : Run) × (freshen (s .ctl .n) m j r ≡ some r′) × Fresh s S (s .ctl .regions) r′)
+      → Freshens s S m j r
   unfolding freshen freshenFor
-  freshens zero j r e F = let q : j ≡ s .ctl .regions = omega arith in inr (r, refl, rw q at F)
+  freshens zero j r e F = let q : j ≡ s .ctl .regions = omega arith in goes-on r refl (rw q at F)
   freshens (suc m) j r e F = go (F .free) refl (λ r′ F′. freshens m (suc j) r′ (omega arith) F′)
     where
-      Result : ℕ → ℕ → Run → Type 0
-      Result m j r = ((freshen (s .ctl .n) m j r ≡ none) × (s .ctl .count < s .ctl .regions) × Dry (length (s .heap) + 2 ^ s .ctl .n) (freshenFor (s .ctl .n) m j r)) ⊎ ((r′ : Run) × (freshen (s .ctl .n) m j r ≡ some r′) × Fresh s S (s .ctl .regions) r′)
-
       up : (k : ℕ) → takePage (s .ctl .n) j r ≡ some (k, taken (s .ctl .n) j k r)
-          → (r′ : Run) → r′ ≡ withTable (taken (s .ctl .n) j k r) (setRow (taken (s .ctl .n) j k r .table) j (pageEnd (s .ctl .n) k) (pageAddress (s .ctl .n) k) (bodyAddress (s .ctl .n) k) 0)
-          → Result m (suc j) r′ → Result (suc m) j r
-      up k t r′ q (inl u) =
+          → (r′ : Run) → r′ ≡ freshRow (s .ctl .n) j (k, taken (s .ctl .n) j k r)
+          → Freshens s S m (suc j) r′ → Freshens s S (suc m) j r
+      up k t r′ q =
           let v : anyPage (s .ctl .n) j r ≡ (k, taken (s .ctl .n) j k r) = follows-some (k, taken (s .ctl .n) j k r) (page-follows (s .ctl .n) j r) t in
-          inl (rw (t, freshen, ← q) (u .0), u .1, rw (v, ← q) (u .2))
-      up k t r′ q (inr u) = inr (u .0, rw (t, freshen, ← q) (u .1), u .2)
+          goes-as (rw (t, freshen, ← q)) (λ u. (u .0, rw (v, ← q) (u .1))) (λ r″ G. G)
 
-      go : (fr : List ℕ) → F .free ≡ fr → ((r′ : Run) → Fresh s S (suc j) r′ → Result m (suc j) r′) → Result (suc m) j r
+      go : (fr : List ℕ) → F .free ≡ fr → ((r′ : Run) → Fresh s S (suc j) r′ → Freshens s S m (suc j) r′) → Freshens s S (suc m) j r
       go [] q rest =
-          let l : Linked (link (s .ctl .n) (r .heap)) (r .first) [] = subst (λ fr. Linked (link (s .ctl .n) (r .heap)) (r .first) fr) q (F .laid .free-links) in
           let t = F .taken in
           let z : length (F .free) ≡ 0 = ap length q in
-          let c = F .laid .free-count in
-          let a = F .laid .size in
-          let b = S .laid .size in
-          let dry : Dry (length (s .heap)) r = record { first = linked-none l; count = omega arith; long = omega arith } in
+          let dry : Dry (length (s .heap)) r = laid-dry (F .laid) q (S .laid .size) in
           let p : ℕ × Run = anyPage (s .ctl .n) j r in
           let d = page-dry (s .ctl .n) (length (s .heap)) j r dry in
-          inl (
-            rw (takes-none (s .ctl .n) j r (linked-none l), freshen),
-            omega arith,
-            fresh-dry (s .ctl .n) (length (s .heap) + 2 ^ s .ctl .n) m (suc j) (freshRow (s .ctl .n) j p) (record { first = d .first; count = d .count; long = d .long }),
-          )
+          wants-page (rw (takes-none (s .ctl .n) j r (dry .first), freshen))
+          (omega arith, fresh-dry (s .ctl .n) (length (s .heap) + 2 ^ s .ctl .n) m (suc j) (freshRow (s .ctl .n) j p) (aside-dry d))
       go (k ∷ ks) q rest =
-          let l : Linked (link (s .ctl .n) (r .heap)) (r .first) (k ∷ ks) = subst (λ fr. Linked (link (s .ctl .n) (r .heap)) (r .first) fr) q (F .laid .free-links) in
-          up k (takes (s .ctl .n) j k r (linked-first l .0)) _ refl (rest _ (fresh-step s S j r F (omega arith) k ks q))
+          up k (takes (s .ctl .n) j k r (first-is (F .laid) q)) _ refl (rest _ (fresh-step s S j r F (omega arith) k ks q))

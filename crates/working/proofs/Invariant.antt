@@ -5,8 +5,8 @@ use native.Mathlib.Nat.{le-refl}
 use native.Mathlib.Omega.{arith}
 use mathlib.Core.Path.{_≡_, refl, sym, ap, _∙_}
 use mathlib.Core.Logic.{_≢_, _↔_, _⊎_}
-use mathlib.Core.Option.{Option, some}
-use mathlib.Core.List.{List, [], _∷_, _++_, append-nil, append-assoc, List·Memᴰ}
+use mathlib.Core.Option.{Option, none, some}
+use mathlib.Core.List.{List, [], _∷_, _++_, append-nil, append-assoc, map, List·Memᴰ}
 use lib.ListN.{length}
 use Rattle.laws.specs.Lists.{at}
 use Rattle.laws.specs.Sums.{sumOver}
@@ -18,11 +18,12 @@ use Rattle.rules.specs.Seen.{seen, wordsAt}
 use Rattle.rules.specs.Collection.{fromSpace}
 use Rattle.facts.proofs.Laid.{Owner, old, Layout, page-in, rows-laid}
 use Rattle.facts.proofs.Copied.{Moved, to, Rel}
-use Rattle.facts.proofs.Sound.{InConst, Sound}
+use Rattle.facts.proofs.Sound.{InHeap, InConst, Sound}
 use Rattle.facts.proofs.Passing.{in-from}
 use Rattle.working.proofs.Owned.{Owned, total, old≢beyond}
 use Rattle.working.proofs.Log.{pointers, olds, Log}
 use Rattle.working.proofs.Next.{Row}
+use Rattle.working.proofs.Wanting.{Goes, goes-as}
 use Rattle.working.proofs.Dry.{Dry}
 
 -- ---- the ghost state
@@ -50,8 +51,7 @@ pub record Kept (s : Store) (w : ℕ) : Type 0 where
   pub good : InConst (s .consts) address
 
 abbrev pub regionsOf : List Scan → List ℕ
-regionsOf [] = []
-regionsOf (t ∷ ts) = t .region ∷ regionsOf ts
+regionsOf = map (λ (t : Scan). t .region)
 
 -- an entry of the scan stack: the region's first copy to be scanned
 pub record Waits (R : ℕ) (g : Ghost) (table : List ℕ) (t : Scan) : Type 0 where
@@ -98,17 +98,38 @@ pub record Inv (s : Store) (S : Sound s) (g : Ghost) (r : Run) : Type 0 where
   pub past-rows : (x : ℕ) → 4 * s .ctl .regions ≤ x → at (r .table) x ≡ at (s .table) x
 
 module _ {s : Store} {S : Sound s} {g : Ghost} {r : Run} (I : Inv s S g r) where
-  -- an old page lies in the heap as it was
-  pub old-in : (k : ℕ) → g .own k ≡ old → k * 2 ^ s .ctl .n + 2 ^ s .ctl .n ≤ length (s .heap)
-  old-in k o = let a = S .laid .size in let b = I .laid .size in let c = page-in (I .laid) k (old≢beyond o) in omega arith
-
   -- the old pages are the regions' pages of before, in their order
   pub from-old : (k : ℕ) → List·Memᴰ k (fromSpace s) → g .own k ≡ old
   from-old k m = I .from-space k .1 (in-from s S k m)
 
+  -- what was copied lay in the heap as it was
+  pub copied-in : {a b : ℕ} (m : List·Memᴰ (to a b) (g .log)) → a + suc (I .logged .copies m .len) ≤ length (s .heap)
+  copied-in m =
+      let C = I .logged .copies m in
+      let ends = C .from-stands .ends in
+      let page = page-in (I .laid) (C .from) (old≢beyond (C .from-old)) in
+      let long = S .laid .size in
+      let long′ = I .laid .size in
+      omega arith
+
   -- a copy's region is one of the heap's
   pub copy-known : {a b : ℕ} (m : List·Memᴰ (to a b) (g .log)) → I .logged .copies m .region < s .ctl .regions
   copy-known m = let C = I .logged .copies m in I .owned .mines (C .into) (C .region) (C .into-mine) .0
+
+  -- and what was copied was good
+  abbrev pub copy-was : {a b : ℕ} → List·Memᴰ (to a b) (g .log) → InHeap (s .ctl .n) (s .ctl .regions) (s .heap) a
+  copy-was m =
+      let C = I .logged .copies m in
+      record {
+        page = C .from;
+        region = C .region;
+        len = C .len;
+        there = I .laid .known (C .from) (old≢beyond (C .from-old));
+        known = copy-known m;
+        whose = C .from-whose;
+        steps = C .from-steps;
+        stands = C .from-stands;
+      }
 
 -- the same copies; what is scanned, what waits and what is being scanned are told anew
 abbrev pub waiting : Ghost → (ℕ → List ℕ) → (ℕ → List ℕ) → Option ℕ → Option ℕ → Ghost
@@ -209,6 +230,11 @@ lacking-on f L =
       over = f (L .over);
     }
 
+-- a step that is another, which with as many pages as it wants comes to the same
+pub lacks-as : {s : Store} {S : Sound s} {E A : Type 0} {none-left : E} {done-with : A → E} {e e′ : E} {x x′ : Run} {D D′ : A → Type 0} → e ≡ e′ → x ≡ x′ → ((a : A) → D′ a → D a)
+    → Goes none-left done-with e′ (Lacking s S x′) D′ → Goes none-left done-with e (Lacking s S x) D
+lacks-as q t = goes-as q (lacking-on (λ d. rw t d))
+
 -- the word w became v
 pub record Became (s : Store) (S : Sound s) (g : Ghost) (r : Run) (w v : ℕ) (r′ : Run) : Type 0 where
   pub ghost : Ghost
@@ -216,6 +242,10 @@ pub record Became (s : Store) (S : Sound s) (g : Ghost) (r : Run) (w v : ℕ) (r
   pub later : Later (s .ctl .regions) g r ghost r′
   pub rel : Rel (Kept s) (pointers (ghost .log)) w v
   pub count : {a b : ℕ} → List·Memᴰ (to a b) (g .log) → ghost .count b ≡ g .count b
+
+-- an evacuation of w that ends in o; x is what it comes to with as many pages as it wants
+abbrev pub Evacuates : (s : Store) → Sound s → Ghost → Run → ℕ → Option (ℕ × Run) → Run → Type 0
+Evacuates s S g r w o x = Goes none some o (Lacking s S x) (λ (p : ℕ × Run). Became s S g r w (p .0) (p .1))
 
 -- f steps are enough: two for each word of the heap that is not yet the header of a copied value, one for each copy to be scanned, one for
 -- each region on the stack, and one

@@ -4,40 +4,36 @@ use Prim.Native.Nat.{ℕ, suc, _+_, _*_, _^_, _≤_, _<_, zero-le}
 use native.Mathlib.Nat.{add-zero}
 use native.Mathlib.Omega.{arith}
 use native.Mathlib.Decide.{ℕ-discrete}
-use mathlib.Core.Path.{_≡_, refl, sym, ap, _∙_}
+use mathlib.Core.Path.{_≡_, refl, sym, ap, _∙_, subst}
 use mathlib.Core.Logic.{_≢_, _↔_, _⊎_, inl, inr}
 use mathlib.Core.Option.{none}
-use mathlib.Core.List.{List, [], _∷_, List·Memᴰ, List·Memᴰ·head, List·Memᴰ·tail, List·Memᴰ·cases-cons, List·Memᴰ·not-nil}
+use mathlib.Core.List.{List, [], _∷_, List·Memᴰ, List·Memᴰ·head, List·Memᴰ·tail, List·Memᴰ·cases-cons, map, Memᴰ·map, Memᴰ·of-map}
 use Rattle.rules.specs.Memory.{Store}
 use Rattle.laws.specs.Lists.{at}
 use Rattle.rules.specs.Seen.{seen, Reached}
 use Rattle.laws.proofs.Lists.{one-part}
-use Rattle.facts.proofs.Steps.{Stands, Steps, steps-le, steps-same, stands-same, apart}
+use Rattle.rules.proofs.Chains.{page-of}
+use Rattle.rules.proofs.Steps.{Stands, Steps, steps-le, steps-same, stands-same, apart}
 use Rattle.laws.proofs.Once.{Once, once-more, member?}
-use Rattle.facts.proofs.Laid.{upd, upd-same, upd-other, Owner, old, mine}
+use Rattle.facts.proofs.Laid.{upd, upd-same, upd-other, spare≢mine, Owner, old, spare, mine}
 use Rattle.facts.proofs.Copied.{Moved, to, Rel, num, stay, went}
 
 -- The log's entries are addresses, `to old new`; its words are the pointers to them.
+abbrev pub pointerTo : Moved → Moved
+pointerTo m = to (4 * m .old) (4 * m .new)
+
 abbrev pub pointers : List Moved → List Moved
-pointers [] = []
-pointers (m ∷ ms) = to (4 * m .old) (4 * m .new) ∷ pointers ms
+pointers = map pointerTo
 
 -- what was moved
 abbrev pub olds : List Moved → List ℕ
-olds [] = []
-olds (m ∷ ms) = m .old ∷ olds ms
+olds = map (λ (m : Moved). m .old)
 
 pub in-olds : {a : ℕ} (log : List Moved) → List·Memᴰ a (olds log) → (b : ℕ) × List·Memᴰ (to a b) log
-in-olds [] m = elim m [ ]
-in-olds {a} (x ∷ xs) m = go (List·Memᴰ·cases-cons m) (λ p. in-olds xs p)
-  where
-    go : (a ≡ x .old) ⊎ List·Memᴰ a (olds xs) → (List·Memᴰ a (olds xs) → (b : ℕ) × List·Memᴰ (to a b) xs) → (b : ℕ) × List·Memᴰ (to a b) (x ∷ xs)
-    go (inl e) rest = (x .new, List·Memᴰ·head (ap (λ y. to y (x .new)) e))
-    go (inr p) rest = let t = rest p in (t .0, List·Memᴰ·tail (t .1))
+in-olds log m = let t = Memᴰ·of-map (λ (x : Moved). x .old) log m in (t .0 .new, subst (λ y. List·Memᴰ (to y (t .0 .new)) log) (t .2) (t .1))
 
 pub olds-in : {a b : ℕ} {log : List Moved} → List·Memᴰ (to a b) log → List·Memᴰ a (olds log)
-olds-in (List·Memᴰ·head e) = List·Memᴰ·head (ap (λ (x : Moved). x .old) e)
-olds-in (List·Memᴰ·tail m) = List·Memᴰ·tail (olds-in m)
+olds-in m = Memᴰ·map (λ (x : Moved). x .old) m
 
 -- the log has an entry of a, or none
 pub in-log : (a : ℕ) (log : List Moved) → ((b : ℕ) × List·Memᴰ (to a b) log) ⊎ ((b : ℕ) → List·Memᴰ (to a b) log → ⊥)
@@ -49,33 +45,22 @@ in-log a log = go (member? a (olds log))
 
 -- the log's words are the pointers to its addresses
 pub in-pointers : {a b : ℕ} (ms : List Moved) → List·Memᴰ (to a b) ms → List·Memᴰ (to (4 * a) (4 * b)) (pointers ms)
-in-pointers [] m = absurd (List·Memᴰ·not-nil m)
-in-pointers {a} {b} (x ∷ ms) m = go (List·Memᴰ·cases-cons m) (λ p. in-pointers ms p)
-  where
-    go : (to a b ≡ x) ⊎ List·Memᴰ (to a b) ms → (List·Memᴰ (to a b) ms → List·Memᴰ (to (4 * a) (4 * b)) (pointers ms)) → List·Memᴰ (to (4 * a) (4 * b)) (pointers (x ∷ ms))
-    go (inl e) rest = List·Memᴰ·head (ap (λ (y : Moved). to (4 * y .old) (4 * y .new)) e)
-    go (inr p) rest = List·Memᴰ·tail (rest p)
+in-pointers ms m = Memᴰ·map pointerTo m
 
 pub of-pointers : {v w : ℕ} (ms : List Moved) → List·Memᴰ (to v w) (pointers ms) → (a : ℕ) × (b : ℕ) × (v ≡ 4 * a) × (w ≡ 4 * b) × List·Memᴰ (to a b) ms
-of-pointers [] m = absurd (List·Memᴰ·not-nil m)
-of-pointers {v} {w} (x ∷ ms) m = go (List·Memᴰ·cases-cons m) (λ p. of-pointers ms p)
-  where
-    go : (to v w ≡ to (4 * x .old) (4 * x .new)) ⊎ List·Memᴰ (to v w) (pointers ms)
-        → (List·Memᴰ (to v w) (pointers ms) → (a : ℕ) × (b : ℕ) × (v ≡ 4 * a) × (w ≡ 4 * b) × List·Memᴰ (to a b) ms)
-        → (a : ℕ) × (b : ℕ) × (v ≡ 4 * a) × (w ≡ 4 * b) × List·Memᴰ (to a b) (x ∷ ms)
-    go (inl e) rest = (x .old, x .new, ap (λ (y : Moved). y .old) e, ap (λ (y : Moved). y .new) e, List·Memᴰ·head refl)
-    go (inr p) rest = let t = rest p in (t .0, t .1, t .2, t .3, List·Memᴰ·tail (t .4))
+of-pointers ms m =
+    let t = Memᴰ·of-map pointerTo ms m in
+    (t .0 .old, t .0 .new, ap (λ (x : Moved). x .old) (sym (t .2)), ap (λ (x : Moved). x .new) (sym (t .2)), t .1)
+
+-- what holds of the pointers of each entry holds of each of the log's words
+pub of-each : (Q : ℕ → ℕ → Type 0) {v w : ℕ} (ms : List Moved) → List·Memᴰ (to v w) (pointers ms) → ((a b : ℕ) → List·Memᴰ (to a b) ms → Q (4 * a) (4 * b)) → Q v w
+of-each Q ms m f = let t = Memᴰ·of-map pointerTo ms m in subst (λ (x : Moved). Q (x .old) (x .new)) (t .2) (f (t .0 .old) (t .0 .new) (t .1))
 
 -- a longer log relates what a shorter one does
 pub rel-grows : {kept : ℕ → Type 0} (log log′ : List Moved) → ((m : Moved) → List·Memᴰ m log → List·Memᴰ m log′) → {v w : ℕ} → Rel kept (pointers log) v w → Rel kept (pointers log′) v w
 rel-grows log log′ grew (num n) = num n
 rel-grows log log′ grew (stay k) = stay k
-rel-grows log log′ grew {v} {w} (went m) =
-    let t = of-pointers log m in
-    went (go (t .0) (t .1) (t .2) (t .3) (t .4))
-  where
-    go : (a b : ℕ) → v ≡ 4 * a → w ≡ 4 * b → List·Memᴰ (to a b) log → List·Memᴰ (to v w) (pointers log′)
-    go a b p q t = rw (p, q) (in-pointers log′ (grew (to a b) t))
+rel-grows log log′ grew (went m) = went (of-each (λ v w. List·Memᴰ (to v w) (pointers log′)) log m (λ a b t. in-pointers log′ (grew (to a b) t)))
 
 -- the entry m: where the value stood, where its copy stands, and what the copy holds. (kept: the pointers that stay.)
 pub record Copy (n : ℕ) (s : Store) (kept : ℕ → Type 0) (own : ℕ → Owner) (fin : ℕ → ℕ) (h : List ℕ) (log : List Moved) (done : ℕ → ℕ) (a b : ℕ) : Type 0 where
@@ -107,6 +92,11 @@ pub record Log (n : ℕ) (s : Store) (kept : ℕ → Type 0) (own : ℕ → Owne
       → (a : ℕ) × List·Memᴰ (to a b) log
   pub once : Once (olds log)
 
+-- the place b in page p of region j is new: it is behind what the page held, or the first of a page that was free
+pub data NewPlace (n : ℕ) (own : ℕ → Owner) (fin : ℕ → ℕ) (j b p : ℕ) : Type 0 where
+  behind-all : own p ≡ mine j → fin p ≡ b → NewPlace n own fin j b p
+  in-new-page : own p ≡ spare → b ≡ p * 2 ^ n + 2 → NewPlace n own fin j b p
+
 -- what one evacuation of the value of l words at a, in page f of region j, to b, in page p, does to the heap
 pub record Evacuated (n : ℕ) (s : Store) (own own′ : ℕ → Owner) (fin fin′ : ℕ → ℕ) (h h′ : List ℕ) (j l a b f p : ℕ) : Type 0 where
   pub old-kept : (k : ℕ) → (own k ≡ old) ↔ (own′ k ≡ old)
@@ -123,7 +113,7 @@ pub record Evacuated (n : ℕ) (s : Store) (own own′ : ℕ → Owner) (fin fin
   pub b-steps : Steps h′ (p * 2 ^ n + 2 ^ n) (p * 2 ^ n + 2) b
   pub b-stands : Stands h′ (p * 2 ^ n + 2 ^ n) b l
   pub b-end : b + suc l ≡ fin′ p
-  pub b-fresh : ((own p ≡ mine j) × (fin p ≡ b)) ⊎ ((b ≡ p * 2 ^ n + 2) × ((i : ℕ) → own p ≢ mine i))
+  pub b-fresh : NewPlace n own fin j b p
   pub words : (i : ℕ) → i ≤ l → at h′ (b + i) ≡ at (s .heap) (a + i)
   pub forward : at h′ a ≡ 4 * b
 
@@ -162,9 +152,9 @@ module _ (n : ℕ) (s : Store) (kept : ℕ → Type 0) (own own′ : ℕ → Own
   pub other-place : {c d : ℕ} → Copy n s kept own fin h log done c d → d ≢ b
   other-place {c} {d} C q = go (ℕ-discrete (C .into) p)
     where
-      here-too : C .into ≡ p → ((own p ≡ mine j) × (fin p ≡ b)) ⊎ ((b ≡ p * 2 ^ n + 2) × ((i : ℕ) → own p ≢ mine i)) → ⊥
-      here-too e (inl t) = let x = C .into-below in let y : fin (C .into) ≡ fin p = ap fin e in let z = t .1 in omega arith
-      here-too e (inr t) = t .1 (C .region) (ap own (sym e) ∙ C .into-mine)
+      here-too : C .into ≡ p → NewPlace n own fin j b p → ⊥
+      here-too e (behind-all o f) = let x = C .into-below in let y : fin (C .into) ≡ fin p = ap fin e in omega arith
+      here-too e (in-new-page o f) = spare≢mine o (ap own (sym e) ∙ C .into-mine)
 
       go : Dec (C .into ≡ p) → ⊥
       go (yes e) = here-too e (E .b-fresh)
@@ -233,9 +223,9 @@ module _ (n : ℕ) (s : Store) (kept : ℕ → Type 0) (own own′ : ℕ → Own
   in-page : (d : ℕ) → Steps h′ (p * 2 ^ n + 2 ^ n) (p * 2 ^ n + 2) d → d < fin′ p → (c : ℕ) × List·Memᴰ (to c d) (to a b ∷ log)
   in-page d t u = go (apart (E .b-steps) (E .b-stands) t) (ℕ-discrete d b)
     where
-      lower : d < b → ((own p ≡ mine j) × (fin p ≡ b)) ⊎ ((b ≡ p * 2 ^ n + 2) × ((i : ℕ) → own p ≢ mine i)) → (c : ℕ) × List·Memᴰ (to c d) (to a b ∷ log)
-      lower q (inl v) = let w = v .1 in before p j d (v .0) t (omega arith)
-      lower q (inr v) = let w = v .0 in let x = steps-le t in absurd (omega arith)
+      lower : d < b → NewPlace n own fin j b p → (c : ℕ) × List·Memᴰ (to c d) (to a b ∷ log)
+      lower q (behind-all o f) = before p j d o t (omega arith)
+      lower q (in-new-page o f) = let x = steps-le t in absurd (omega arith)
 
       go : (d ≤ b) ⊎ (b + suc l ≤ d) → Dec (d ≡ b) → (c : ℕ) × List·Memᴰ (to c d) (to a b ∷ log)
       go (inl q) (yes e) = (a, List·Memᴰ·head (ap (to a) e))
@@ -264,3 +254,20 @@ module _ (n : ℕ) (s : Store) (kept : ℕ → Type 0) (own own′ : ℕ → Own
         every = every-by;
         once = once-more (λ m. let t = in-olds log m in new (t .0) (t .1)) (L .once);
       }
+
+-- ---- what was copied of a page
+
+module _ {n : ℕ} {s : Store} {kept : ℕ → Type 0} {own : ℕ → Owner} {fin : ℕ → ℕ} {h : List ℕ} {log : List Moved} {done : ℕ → ℕ} where
+  -- a value came from the page that it lies in
+  pub copy-page : {a b : ℕ} (C : Copy n s kept own fin h log done a b) (k : ℕ) → k * 2 ^ n ≤ a → a < k * 2 ^ n + 2 ^ n → C .from ≡ k
+  copy-page {a} C k p q = let lo = steps-le (C .from-steps) in let hi = C .from-stands .ends in sym (page-of n (C .from) a (omega arith) (omega arith)) ∙ page-of n k a p q
+
+  -- an old page keeps its descriptor: no value stands there
+  pub descriptor-kept : Log n s kept own fin h log done → 2 ≤ 2 ^ n → (k x : ℕ) → own k ≡ old → k * 2 ^ n ≤ x → x < k * 2 ^ n + 2 → at h x ≡ at (s .heap) x
+  descriptor-kept L big k x o p q =
+      L .unmoved k x o p (omega arith)
+      (λ b m.
+      let C = L .copies m in
+      let e : C .from * 2 ^ n ≡ k * 2 ^ n = ap (λ y. y * 2 ^ n) (copy-page C k p (omega arith)) in
+      let lo = steps-le (C .from-steps) in
+      omega arith)

@@ -13,12 +13,13 @@ use Rattle.rules.specs.Words.{headOf, lengthBy}
 use Rattle.rules.specs.Memory.{Store, endOf, topOf}
 use Rattle.laws.specs.Lists.{at, put}
 use Rattle.rules.specs.Pages.{Run}
-use Rattle.laws.proofs.Lists.{one-part, starts-differ, put-elsewhere, length-put, at-put-below, at-put-in, word-in}
-use Rattle.facts.proofs.Steps.{Stands, Steps, steps-le, steps-same, apart}
-use Rattle.facts.proofs.Laid.{old≢spare, old≢beyond, spare≢mine, mine≢beyond, upd, upd-same, upd-other, Owner, old, spare, mine, Body, Layout, Value, page-in, words-in, old-mine-apart, last-own, last-low, top-in-heap}
+use Rattle.laws.proofs.Lists.{one-part, word-in}
+use Rattle.rules.proofs.Steps.{Stands, Steps, steps-le, steps-same, stands-same, apart}
+use Rattle.facts.proofs.Laid.{old≢spare, old≢beyond, spare≢mine, mine≢beyond, upd, upd-same, upd-other, Owner, old, mine, Layout, Value, page-in, words-in, old-mine-apart, last-own, last-low, one-last}
 use Rattle.facts.proofs.Copied.{Moved, to}
-use Rattle.working.proofs.Log.{Log, Evacuated}
-use Rattle.working.proofs.Placed.{Roomed}
+use Rattle.working.proofs.Log.{Log, NewPlace, behind-all, in-new-page, Evacuated, copy-page, descriptor-kept}
+use Rattle.working.proofs.Placed.{Whence, as-before, just-taken, Roomed}
+use Rattle.working.proofs.Stored.{stored-long, stored-else, stored-kept, stored-word, stored-steps, stored-stands}
 
 -- ---- the value's words are still as they were
 module _ (n : ℕ) (s : Store) (kept : ℕ → Type 0) (own : ℕ → Owner) (fin : ℕ → ℕ) (h : List ℕ) (log : List Moved) (done : ℕ → ℕ) (G : Log n s kept own fin h log done)
@@ -26,11 +27,7 @@ module _ (n : ℕ) (s : Store) (kept : ℕ → Type 0) (own : ℕ → Owner) (fi
     (new : (b : ℕ) → List·Memᴰ (to a b) log → ⊥) where
   -- what the log has of page f stands where stepping comes to
   logged : {x b : ℕ} → List·Memᴰ (to x b) log → f * 2 ^ n ≤ x → x < f * 2 ^ n + 2 ^ n → Steps (s .heap) (f * 2 ^ n + 2 ^ n) (f * 2 ^ n + 2) x
-  logged {x} {b} m p q = let C = G .copies m in go (C .len) (ℕ-discrete (C .from) f) (C .from-steps) (C .from-stands .ends)
-    where
-      go : {k : ℕ} (e : ℕ) → Dec (k ≡ f) → Steps (s .heap) (k * 2 ^ n + 2 ^ n) (k * 2 ^ n + 2) x → x + suc e ≤ k * 2 ^ n + 2 ^ n → Steps (s .heap) (f * 2 ^ n + 2 ^ n) (f * 2 ^ n + 2) x
-      go c (yes e) t u = rw e at t
-      go {k} c (no ne) t u = let w = steps-le t in absurd (one-part (2 ^ n) k f x ne (omega arith) (omega arith) p q)
+  logged {x} {b} m p q = let C = G .copies m in subst (λ k. Steps (s .heap) (k * 2 ^ n + 2 ^ n) (k * 2 ^ n + 2) x) (copy-page C f p q) (C .from-steps)
 
   pub still : (i : ℕ) → i ≤ l → at h (a + i) ≡ at (s .heap) (a + i)
   still i b =
@@ -46,7 +43,7 @@ module _ (n : ℕ) (s : Store) (kept : ℕ → Type 0) (own : ℕ → Owner) (fi
   still-whose =
       let lo = steps-le at-a in
       let hi = st .ends in
-      G .unmoved f (f * 2 ^ n + 1) o (omega arith) (omega arith) (λ c m. let t = steps-le (logged m (omega arith) (omega arith)) in omega arith)
+      descriptor-kept G (omega arith) f (f * 2 ^ n + 1) o (omega arith) (omega arith)
 
 -- ---- one evacuation
 module _ (n N R : ℕ) (s : Store) (kept : ℕ → Type 0) (own : ℕ → Owner) (fin : ℕ → ℕ) (pages : ℕ → List ℕ) (free : List ℕ) (r : Run) (log : List Moved) (done : ℕ → ℕ)
@@ -81,17 +78,11 @@ module _ (n N R : ℕ) (s : Store) (kept : ℕ → Type 0) (own : ℕ → Owner)
   own-p : M .own₁ p ≡ mine j
   own-p = last-own (M .laid) j jR
 
-  body : Body n (r₁ .heap) p j (M .fin₁ p)
-  body = M .laid .mine-body j p own-p
-
   b-lo : p * 2 ^ n + 2 ≤ b
   b-lo = last-low (M .laid) j jR
 
   b-hi : b + suc l ≤ p * 2 ^ n + 2 ^ n
   b-hi = let x = fits in let y = val .size in let z = e-is in omega arith
-
-  b-in : b + length ws ≤ length (r₁ .heap)
-  b-in = top-in-heap (M .laid) j jR (length ws) fits
 
   abbrev h′ : List ℕ
   h′ = set (put (r₁ .heap) b ws) a (4 * b)
@@ -102,9 +93,6 @@ module _ (n N R : ℕ) (s : Store) (kept : ℕ → Type 0) (own : ℕ → Owner)
 
   f≢p : f ≢ p
   f≢p = old-mine-apart (M .own₁) (M .old-kept f .0 o) own-p
-
-  elsewhere : (k x : ℕ) → k ≢ p → k * 2 ^ n ≤ x → x < k * 2 ^ n + 2 ^ n → at (put (r₁ .heap) b ws) x ≡ at (r₁ .heap) x
-  elsewhere k x ne q t = let y = b-lo in let z = b-hi in let w = val .size in put-elsewhere (2 ^ n) (r₁ .heap) p b ws k x b-in (omega arith) (omega arith) ne q t
 
   unset : (x : ℕ) → x ≢ a → at h′ x ≡ at (put (r₁ .heap) b ws) x
   unset x ne = getD-set-other (put (r₁ .heap) b ws) a x (4 * b) 0 ne
@@ -118,28 +106,20 @@ module _ (n N R : ℕ) (s : Store) (kept : ℕ → Type 0) (own : ℕ → Owner)
   abbrev pub fin′ : ℕ → ℕ
   fin′ = upd (M .fin₁) p (M .fin₁ p + length ws)
 
-  one-last : (k : ℕ) → endOf (r₁ .table) j ≡ k * 2 ^ n + 2 ^ n → k ≢ p → ⊥
-  one-last k e ne = let x = e-is in let y = L .big in starts-differ (2 ^ n) k p (omega arith) ne (omega arith)
-
   froms : (k i : ℕ) → M .own₁ k ≡ mine i → k ≢ p → (own k ≡ mine i) × (fin′ k ≡ fin k)
   froms k i q ne = go (M .mine-from k i q)
     where
-      go : (own k ≡ mine i) ⊎ ((own k ≡ spare) × (i ≡ j) × (M .fin₁ k ≡ k * 2 ^ n + 2) × (endOf (r₁ .table) j ≡ k * 2 ^ n + 2 ^ n)) → (own k ≡ mine i) × (fin′ k ≡ fin k)
-      go (inl t) = (t, upd-other (M .fin₁) p (M .fin₁ p + length ws) k ne ∙ M .mine-kept k i t .1)
-      go (inr t) = absurd (one-last k (t .3) ne)
+      go : Whence n own (M .fin₁) r₁ j k i → (own k ≡ mine i) × (fin′ k ≡ fin k)
+      go (as-before o) = (o, upd-other (M .fin₁) p (M .fin₁ p + length ws) k ne ∙ M .mine-kept k i o .1)
+      go (just-taken o ij f e) = absurd (one-last (M .laid) j jR k e ne)
 
   mine-words : (k i x : ℕ) → own k ≡ mine i → k * 2 ^ n + 2 ≤ x → x < fin k → at h′ x ≡ at (r .heap) x
   mine-words k i x q t u =
       let top = L .mine-body i k q .inside in
-      unset x (far k x (λ e. old-mine-apart own o q (sym e)) (omega arith) (omega arith)) ∙ go (ℕ-discrete k p)
+      let kept = M .mine-kept k i q in
+      let same = kept .1 in
+      unset x (far k x (λ e. old-mine-apart own o q (sym e)) (omega arith) (omega arith)) ∙ stored-kept (M .laid) j jR ws fits k i x (kept .0) (omega arith) (omega arith)
       ∙ M .words k x (λ z. spare≢mine z q) (λ z. mine≢beyond q z) (omega arith) (omega arith)
-    where
-      go : Dec (k ≡ p) → at (put (r₁ .heap) b ws) x ≡ at (r₁ .heap) x
-      go (yes e) =
-          let y : fin k ≡ M .fin₁ p = sym (M .mine-kept k i q .1) ∙ ap (M .fin₁) e in
-          let z = b-is in
-          at-put-below (r₁ .heap) b ws x b-in (omega arith)
-      go (no ne) = let top = L .mine-body i k q .inside in elsewhere k x ne (omega arith) (omega arith)
 
   grown : (k i : ℕ) → own k ≡ mine i → fin k ≤ fin′ k
   grown k i q = go (ℕ-discrete k p)
@@ -151,17 +131,16 @@ module _ (n N R : ℕ) (s : Store) (kept : ℕ → Type 0) (own : ℕ → Owner)
           omega arith
       go (no ne) = let y = M .mine-kept k i q .1 in let z = upd-other (M .fin₁) p (M .fin₁ p + length ws) k ne in omega arith
 
-  fresh : ((own p ≡ mine j) × (fin p ≡ b)) ⊎ ((b ≡ p * 2 ^ n + 2) × ((i : ℕ) → own p ≢ mine i))
+  fresh : NewPlace n own fin j b p
   fresh = go (M .mine-from p j own-p)
     where
-      go : (own p ≡ mine j) ⊎ ((own p ≡ spare) × (j ≡ j) × (M .fin₁ p ≡ p * 2 ^ n + 2) × (endOf (r₁ .table) j ≡ p * 2 ^ n + 2 ^ n))
-          → ((own p ≡ mine j) × (fin p ≡ b)) ⊎ ((b ≡ p * 2 ^ n + 2) × ((i : ℕ) → own p ≢ mine i))
-      go (inl t) = inl (t, sym (M .mine-kept p j t .1) ∙ sym b-is)
-      go (inr t) = inr (b-is ∙ t .2, λ i q. spare≢mine (t .0) q)
+      go : Whence n own (M .fin₁) r₁ j p j → NewPlace n own fin j b p
+      go (as-before o) = behind-all o (sym (M .mine-kept p j o .1) ∙ sym b-is)
+      go (just-taken o ij f e) = in-new-page o (b-is ∙ f)
 
   a-in : a < length (put (r₁ .heap) b ws)
   a-in =
-      let x = length-put (r₁ .heap) b ws b-in in
+      let x = stored-long (M .laid) j jR ws fits in
       let y = page-in L f (old≢beyond o) in
       let z = L .size in
       let w = M .laid .size in
@@ -181,7 +160,7 @@ module _ (n N R : ℕ) (s : Store) (kept : ℕ → Type 0) (own : ℕ → Owner)
         mine-kept = λ k i q. M .mine-kept k i q .0;
         mine-from = froms;
         old-words = λ k x q t u ne.
-            unset x ne ∙ elsewhere k x (old-mine-apart (M .own₁) (M .old-kept k .0 q) own-p) t u ∙ own-words k x q t u (ℕ-discrete x (k * 2 ^ n));
+            unset x ne ∙ stored-else (M .laid) j jR ws fits k x (old-mine-apart (M .own₁) (M .old-kept k .0 q) own-p) t u ∙ own-words k x q t u (ℕ-discrete x (k * 2 ^ n));
         mine-words = mine-words;
         grows = grown;
         a-old = o;
@@ -189,19 +168,10 @@ module _ (n N R : ℕ) (s : Store) (kept : ℕ → Type 0) (own : ℕ → Owner)
         a-steps = at-a;
         a-stands = st;
         b-mine = own-p;
-        b-steps =
-            subst (λ y. Steps h′ (p * 2 ^ n + 2 ^ n) (p * 2 ^ n + 2) y) (sym eb)
-            (steps-same (λ x q t. sym (unset x (in-p x (omega arith) (omega arith)) ∙ at-put-below (r₁ .heap) b ws x b-in (omega arith))) (body .filled));
-        b-stands =
-            record {
-              head =
-                  ap (λ w. lengthBy (headOf w))
-                  (unset b (in-p b (omega arith) (omega arith)) ∙ ap (at (put (r₁ .heap) b ws)) (sym (add-zero b)) ∙ at-put-in (r₁ .heap) b ws 0 b-in (omega arith))
-                  ∙ val .head;
-              ends = hi;
-            };
+        b-steps = steps-same (λ x q t. sym (unset x (in-p x (omega arith) (omega arith)))) (stored-steps (M .laid) j jR ws fits);
+        b-stands = stands-same (sym (unset b (in-p b (omega arith) (omega arith)))) (stored-stands (M .laid) j jR ws fits l val);
         b-end = let z = upd-same (M .fin₁) p (M .fin₁ p + length ws) p refl in omega arith;
         b-fresh = fresh;
-        words = λ i q. unset (b + i) (in-p (b + i) (omega arith) (omega arith)) ∙ at-put-in (r₁ .heap) b ws i b-in (omega arith) ∙ word i q;
+        words = λ i q. unset (b + i) (in-p (b + i) (omega arith) (omega arith)) ∙ stored-word (M .laid) j jR ws fits i (omega arith) ∙ word i q;
         forward = getD-set-same (put (r₁ .heap) b ws) a (4 * b) 0 a-in;
       }

@@ -6,7 +6,7 @@ use native.Mathlib.Numerals.{sub-one}
 use native.Mathlib.Omega.{arith}
 use native.Mathlib.Decide.{ℕ-discrete}
 use mathlib.Core.Path.{_≡_, refl, sym, ap, _∙_}
-use mathlib.Core.Logic.{_≢_, _⊎_, inl, inr}
+use mathlib.Core.Logic.{_≢_}
 use mathlib.Core.Bool.{true, false, _||_}
 use mathlib.Core.List.{List, [], _∷_, _++_, append-nil, List·Memᴰ, List·Memᴰ·head, List·Memᴰ·tail}
 use lib.Arith.{digits-mod}
@@ -18,11 +18,10 @@ use Rattle.laws.proofs.Facts.{or-right}
 use Rattle.rules.specs.Memory.{link, topOf}
 use Rattle.rules.specs.Pages.{Run}
 use Rattle.rules.specs.Collection.{nextFrom, nextScan}
-use Rattle.facts.proofs.Steps.{Stands}
+use Rattle.rules.proofs.Steps.{Stands, no-zero}
 use Rattle.laws.proofs.Once.{once-tail, once-head}
-use Rattle.facts.proofs.Laid.{Once, Last, only, later, last-in, Linked, Owner, mine, Layout, not-top}
+use Rattle.facts.proofs.Laid.{Once, Last, only, later, last-in, Linked, Owner, mine, Layout, not-top, below-top}
 use Rattle.rules.proofs.Pointers.{words-of}
-use Rattle.facts.proofs.Framed.{no-zero}
 use Rattle.rules.proofs.Chains.{page-of}
 use Rattle.working.proofs.Taken.{linked-first, last-one}
 
@@ -30,6 +29,9 @@ use Rattle.working.proofs.Taken.{linked-first, last-one}
 pub data Vals (h : List ℕ) (hi : ℕ) : ℕ → ℕ → List ℕ → Type 0 where
   vals-none : {a : ℕ} → Vals h hi a a []
   vals-more : {a b l : ℕ} {vs : List ℕ} → Stands h hi a l → Vals h hi (a + suc l) b vs → Vals h hi a b (a ∷ vs)
+
+pub vals-empty : {h : List ℕ} {hi a b : ℕ} → a ≡ b → Vals h hi a b []
+vals-empty e = rw e vals-none
 
 -- the values of the pages, in order; every page but the first holds one
 pub data Row (n : ℕ) (h : List ℕ) (fin : ℕ → ℕ) : List ℕ → List ℕ → Type 0 where
@@ -53,15 +55,12 @@ module _ (n N R : ℕ) (own : ℕ → Owner) (fin : ℕ → ℕ) (pages : ℕ �
   pub next-here : (m : ℕ) → Stands (r .heap) (k * 2 ^ n + 2 ^ n) (s + suc l) m → s + suc l < fin k → nextScan n j s r ≡ s + suc l
   unfolding nextScan nextFrom
   next-here m st′ below =
-      let e₁ : eqb (s + suc l) (topOf (r .table) j) ≡ false = ne-eqb _ _ (not-it (ℕ-discrete k z)) in
+      let hi = st .ends in
+      let e₁ : eqb (s + suc l) (topOf (r .table) j) ≡ false = ne-eqb _ _ (below-top L j jR k (s + suc l) (omega arith) (omega arith) below) in
       let e₂ : eqb ((s + suc l) % 2 ^ n) 0 ≡ false = ne-eqb _ _ not-end in
       let e₃ : eqb (at (r .heap) (s + suc l)) 0 ≡ false = ne-eqb _ _ (no-zero st′) in
       ap (λ t. nextFrom n j s t r) t-is ∙ rw (e₁, nextFrom, e₂, e₃)
     where
-      not-it : Dec (k ≡ z) → s + suc l ≢ topOf (r .table) j
-      not-it (yes e) = let x = L .mine-top j jR .3 in let y : fin k ≡ fin z = ap fin e in omega arith
-      not-it (no ne) = let hi = st .ends in not-top L j jR k (s + suc l) (omega arith) (omega arith) ne
-
       not-end : (s + suc l) % 2 ^ n ≢ 0
       not-end q =
           let o : ℕ = s + suc l - k * 2 ^ n in
@@ -104,39 +103,44 @@ pub data After : List ℕ → ℕ → List ℕ → Type 0 where
   after-here : {s : ℕ} {ys : List ℕ} → After (s ∷ ys) s ys
   after-there : {x s : ℕ} {xs ys : List ℕ} → After xs s ys → After (x ∷ xs) s ys
 
-pub after-split : (vs : List ℕ) {bs : List ℕ} {s : ℕ} {ys : List ℕ} → After (vs ++ bs) s ys → ((us : List ℕ) × After vs s us × (ys ≡ us ++ bs)) ⊎ After bs s ys
-after-split [] t = inr t
-after-split (v ∷ vs) {bs} {s} {ys} t = go t (λ u. after-split vs u)
+-- s stands in the first of two lists, or in the second
+data Splits (vs bs : List ℕ) (s : ℕ) (ys : List ℕ) : Type 0 where
+  in-front : (us : List ℕ) → After vs s us → ys ≡ us ++ bs → Splits vs bs s ys
+  behind : After bs s ys → Splits vs bs s ys
+
+after-split : (vs : List ℕ) {bs : List ℕ} {s : ℕ} {ys : List ℕ} → After (vs ++ bs) s ys → Splits vs bs s ys
+after-split [] t = behind t
+after-split (v ∷ vs) {bs} {s} {ys} t = go t refl (λ u. after-split vs u)
   where
-    up : ((us : List ℕ) × After vs s us × (ys ≡ us ++ bs)) ⊎ After bs s ys → ((us : List ℕ) × After (v ∷ vs) s us × (ys ≡ us ++ bs)) ⊎ After bs s ys
-    up (inl u) = inl (u .0, after-there (u .1), u .2)
-    up (inr u) = inr u
+    up : Splits vs bs s ys → Splits (v ∷ vs) bs s ys
+    up (in-front us u e) = in-front us (after-there u) e
+    up (behind u) = behind u
 
-    go′ : {xs : List ℕ} → After xs s ys → xs ≡ v ∷ (vs ++ bs) → (After (vs ++ bs) s ys → ((us : List ℕ) × After vs s us × (ys ≡ us ++ bs)) ⊎ After bs s ys)
-        → ((us : List ℕ) × After (v ∷ vs) s us × (ys ≡ us ++ bs)) ⊎ After bs s ys
-    go′ (after-here {s = x} {ys = zs}) e rest = let p : x ≡ v = cc in let q : zs ≡ vs ++ bs = cc in inl (vs, rw p after-here, q)
-    go′ (after-there {xs = zs} u) e rest = let q : zs ≡ vs ++ bs = cc in up (rest (rw q at u))
-
-    go : After (v ∷ (vs ++ bs)) s ys → (After (vs ++ bs) s ys → ((us : List ℕ) × After vs s us × (ys ≡ us ++ bs)) ⊎ After bs s ys)
-        → ((us : List ℕ) × After (v ∷ vs) s us × (ys ≡ us ++ bs)) ⊎ After bs s ys
-    go u rest = go′ u refl rest
+    go : {xs : List ℕ} → After xs s ys → xs ≡ v ∷ (vs ++ bs) → (After (vs ++ bs) s ys → Splits vs bs s ys) → Splits (v ∷ vs) bs s ys
+    go (after-here {s = x} {ys = zs}) e rest = let p : x ≡ v = cc in let q : zs ≡ vs ++ bs = cc in in-front vs (rw p after-here) q
+    go (after-there {xs = zs} u) e rest = let q : zs ≡ vs ++ bs = cc in up (rest (rw q at u))
 
 pub vals-le : {h : List ℕ} {hi a b : ℕ} {vs : List ℕ} → Vals h hi a b vs → a ≤ b
 vals-le (vals-none {a}) = le-refl a
 vals-le (vals-more {a} {l = l} st t) = let k = vals-le t in omega arith
 
+-- the values from c to b: there is none, or one stands at c
+data Begins (h : List ℕ) (hi c b : ℕ) (ys : List ℕ) : Type 0 where
+  with-none : ys ≡ [] → c ≡ b → Begins h hi c b ys
+  with-one : (m : ℕ) (zs : List ℕ) → ys ≡ c ∷ zs → Stands h hi c m → c < b → Begins h hi c b ys
+
+begins : {h : List ℕ} {hi c b : ℕ} {ys : List ℕ} → Vals h hi c b ys → Begins h hi c b ys
+begins vals-none = with-none refl refl
+begins (vals-more {l = m} {vs = zs} st′ u) = with-one m zs refl st′ (let k = vals-le u in omega arith)
+
 -- a value of the list, and what follows it
-pub record Follows (h : List ℕ) (hi a b s : ℕ) (ys : List ℕ) : Type 0 where
+record Follows (h : List ℕ) (hi a b s : ℕ) (ys : List ℕ) : Type 0 where
   pub len : ℕ
   pub low : a ≤ s
   pub stands : Stands h hi s len
-  pub next : ((ys ≡ []) × (s + suc len ≡ b)) ⊎ ((m : ℕ) × (zs : List ℕ) × (ys ≡ (s + suc len) ∷ zs) × Stands h hi (s + suc len) m × (s + suc len < b))
+  pub next : Begins h hi (s + suc len) b ys
 
-begins : {h : List ℕ} {hi c b : ℕ} {ys : List ℕ} → Vals h hi c b ys → ((ys ≡ []) × (c ≡ b)) ⊎ ((m : ℕ) × (zs : List ℕ) × (ys ≡ c ∷ zs) × Stands h hi c m × (c < b))
-begins vals-none = inl (refl, refl)
-begins (vals-more {l = m} {vs = zs} st′ u) = inr (m, zs, refl, st′, (let k = vals-le u in omega arith))
-
-pub vals-after : {h : List ℕ} {hi a b s : ℕ} {vs ys : List ℕ} → Vals h hi a b vs → After vs s ys → Follows h hi a b s ys
+vals-after : {h : List ℕ} {hi a b s : ℕ} {vs ys : List ℕ} → Vals h hi a b vs → After vs s ys → Follows h hi a b s ys
 vals-after (vals-more {a} {b} {l} st t) after-here = record { len = l; low = le-refl a; stands = st; next = begins t }
 vals-after (vals-more st t) (after-there u) =
     let r = vals-after t u in
@@ -148,7 +152,7 @@ vals-head : {h : List ℕ} {hi a b : ℕ} {vs : List ℕ} → Vals h hi a b vs �
 vals-head (vals-none {a}) q = absurd (omega arith)
 vals-head (vals-more {vs = us} st t) q = (us, refl)
 
-pub row-head : {n : ℕ} {h : List ℕ} {fin : ℕ → ℕ} {k : ℕ} {ks bs : List ℕ} → Row n h fin (k ∷ ks) bs → k * 2 ^ n + 2 < fin k → (us : List ℕ) × (bs ≡ (k * 2 ^ n + 2) ∷ us)
+row-head : {n : ℕ} {h : List ℕ} {fin : ℕ → ℕ} {k : ℕ} {ks bs : List ℕ} → Row n h fin (k ∷ ks) bs → k * 2 ^ n + 2 < fin k → (us : List ℕ) × (bs ≡ (k * 2 ^ n + 2) ∷ us)
 row-head (row-last v) q = vals-head v q
 row-head (row-more {bs = bs} v ne t) q = let u = vals-head v q in (u .0 ++ bs, ap (λ xs. xs ++ bs) (u .1))
 
@@ -165,10 +169,9 @@ module _ (n N R : ℕ) (own : ℕ → Owner) (fin : ℕ → ℕ) (pages : ℕ �
       → nextScan n j s r ≡ headOr (topOf (r .table) j) (ys ++ bs)
   on-page k s ys bs o F end = go (F .next)
     where
-      go : ((ys ≡ []) × (s + suc (F .len) ≡ fin k)) ⊎ ((m : ℕ) × (zs : List ℕ) × (ys ≡ (s + suc (F .len)) ∷ zs) × Stands (r .heap) (k * 2 ^ n + 2 ^ n) (s + suc (F .len)) m × (s + suc (F .len) < fin k))
-          → nextScan n j s r ≡ headOr (topOf (r .table) j) (ys ++ bs)
-      go (inl t) = rw (t .0) (end (F .len) (F .stands) (F .low) (t .1))
-      go (inr t) = rw (t .2) (next-here n N R own fin pages free r L j jR k s (F .len) o (F .low) (F .stands) (t .0) (t .3) (t .4))
+      go : Begins (r .heap) (k * 2 ^ n + 2 ^ n) (s + suc (F .len)) (fin k) ys → nextScan n j s r ≡ headOr (topOf (r .table) j) (ys ++ bs)
+      go (with-none e t) = rw e (end (F .len) (F .stands) (F .low) t)
+      go (with-one m zs e st below) = rw e (next-here n N R own fin pages free r L j jR k s (F .len) o (F .low) (F .stands) m st below)
 
   pub next-row : {x : ℕ} {ks : List ℕ} → Linked (link n (r .heap)) x ks → Once ks → Last ks z′ → ((k : ℕ) → List·Memᴰ k ks → own k ≡ mine j)
       → {vs : List ℕ} → Row n (r .heap) fin ks vs → {s : ℕ} {ys : List ℕ} → After vs s ys → nextScan n j s r ≡ headOr (topOf (r .table) j) ys
@@ -191,7 +194,6 @@ module _ (n N R : ℕ) (own : ℕ → Owner) (fin : ℕ → ℕ) (pages : ℕ �
           let u = row-head rest ne in
           next-page n N R own fin pages free r L j jR k s l (own-all k (List·Memᴰ·head refl)) lo st k′ q not-last linked-on ∙ ap (headOr (topOf (r .table) j)) (sym (u .1))
 
-      go : ((us : List ℕ) × After vs s us × (ys ≡ us ++ bs)) ⊎ After bs s ys → (After bs s ys → nextScan n j s r ≡ headOr (topOf (r .table) j) ys)
-          → nextScan n j s r ≡ headOr (topOf (r .table) j) ys
-      go (inl u) up = rw (u .2) (on-page k s (u .0) bs (own-all k (List·Memᴰ·head refl)) (vals-after v (u .1)) at-end)
-      go (inr u) up = up u
+      go : Splits vs bs s ys → (After bs s ys → nextScan n j s r ≡ headOr (topOf (r .table) j) ys) → nextScan n j s r ≡ headOr (topOf (r .table) j) ys
+      go (in-front us u e) up = rw e (on-page k s us bs (own-all k (List·Memᴰ·head refl)) (vals-after v u) at-end)
+      go (behind u) up = up u

@@ -12,8 +12,8 @@ use Rattle.laws.proofs.Once.{Once, once-none, once-more, Last, only, Linked, li
 use Rattle.rules.specs.Memory.{pageEnd, pageAddress, bodyAddress, link, endOf, firstOf, topOf, statusOf, setRow}
 use Rattle.rules.specs.Pages.{Run, withTable}
 use Rattle.rules.proofs.Rows.{row-width, row-else, row-end, row-first, row-top, row-status}
-use Rattle.facts.proofs.Laid.{mine-inj, old≢mine, mine≢beyond, Owner, old, beyond, mine, Layout, upd, upd-same, upd-other, upd-cases, upd-back}
-use Rattle.working.proofs.Owned.{Owned, spares-left}
+use Rattle.facts.proofs.Laid.{Owner, mine, Layout, upd, upd-same, upd-other}
+use Rattle.working.proofs.Owned.{Owned, taken-owned}
 use Rattle.working.proofs.Taken.{taken, taken-laid, k-link, taken-table}
 
 -- region R gets page k
@@ -127,18 +127,5 @@ module _ (n N R : ℕ) (own : ℕ → Owner) (fin : ℕ → ℕ) (pages : ℕ �
 
   -- ---- whose each page is
 
-  pub old-before : (l : ℕ) → own′ l ≡ old → own l ≡ old
-  old-before l = upd-back own k (mine R) l old (old≢mine refl)
-
   pub region-owned : Owned N R own pages (k ∷ ks) → Owned N (suc R) own′ pages′ ks
-  region-owned W = record { whole = whole; spares = spares-left own k R ks (W .spares); mines = mines }
-    where
-      whole : (l : ℕ) → l < N → own′ l ≢ beyond
-      whole l b e = W .whole l b (upd-back own k (mine R) l beyond (λ q. mine≢beyond q refl) e)
-
-      mines : (l j : ℕ) → own′ l ≡ mine j → (j < suc R) × List·Memᴰ l (pages′ j)
-      mines l j e = go (upd-cases own k (mine R) l (mine j) e)
-        where
-          go : ((l ≡ k) × (mine j ≡ mine R)) ⊎ ((l ≢ k) × (own l ≡ mine j)) → (j < suc R) × List·Memᴰ l (pages′ j)
-          go (inl t) = let q : j ≡ R = mine-inj (t .1) in (omega arith, rw (pages-new j q) (List·Memᴰ·head (t .0)))
-          go (inr t) = let u = W .mines l j (t .1) in let b = u .0 in (omega arith, rw (pages-old j (omega arith)) (u .1))
+  region-owned = taken-owned own k R (omega arith) (omega arith) (rw (pages-new R refl) (List·Memᴰ·head refl)) (λ i l b m. rw (pages-old i (omega arith)) m)

@@ -1,22 +1,32 @@
 -- Every page is somebody's, and the numbers of pages and of waiting copies over all regions. A taken page leaves the free list and joins
 -- its region's pages, so what is counted stays.
-use Prim.Native.Nat.{ℕ, zero, suc, _+_, _<_}
+use Prim.Native.Nat.{ℕ, zero, suc, _+_, _≤_, _<_}
 use native.Mathlib.Omega.{arith}
 use native.Mathlib.Decide.{ℕ-discrete}
-use mathlib.Core.Path.{_≡_, refl, sym, ap, _∙_}
-use mathlib.Core.Logic.{_≢_, _⊎_, inl, inr}
-use mathlib.Core.List.{List, [], _∷_, _++_, List·Memᴰ, List·Memᴰ·head, Memᴰ·append-left, Memᴰ·append-right}
+use mathlib.Core.Path.{_≡_, refl, ap, _∙_}
+use mathlib.Core.Logic.{_≢_, _↔_, _⊎_, inl, inr, ⊎-elim}
+use mathlib.Core.List.{List, [], _∷_, _++_, List·Memᴰ}
 use lib.ListN.{length, length-append}
 pub use Rattle.facts.proofs.Laid.{mine-inj, old≢spare, old≢mine, old≢beyond, spare≢mine, spare≢beyond, mine≢beyond}
 use Rattle.laws.proofs.Once.{in-tail}
 use Rattle.rules.specs.Memory.{Store, pageCount}
 use Rattle.facts.proofs.Sound.{Chained, in-free, in-region, Sound, chained-mine, chained-spare}
-use Rattle.facts.proofs.Laid.{upd, upd-same, upd-other, Owner, spare, beyond, mine, upd-cases, upd-back}
+use Rattle.facts.proofs.Laid.{upd, upd-same, upd-other, Owner, old, spare, beyond, mine, upd-cases, upd-back}
 
 pub record Owned (N R : ℕ) (own : ℕ → Owner) (pages : ℕ → List ℕ) (free : List ℕ) : Type 0 where
   pub whole : (k : ℕ) → k < N → own k ≢ beyond
   pub spares : (k : ℕ) → own k ≡ spare → List·Memᴰ k free
   pub mines : (k j : ℕ) → own k ≡ mine j → (j < R) × List·Memᴰ k (pages j)
+
+-- a page that is not from-space is in the chain of its owner
+pub owned-chained : {N R : ℕ} {own : ℕ → Owner} {pages : ℕ → List ℕ} {free : List ℕ} → Owned N R own pages free → (k : ℕ) → k < N → own k ≢ old → Chained R own pages free k
+owned-chained {N} {R} {own} {pages} {free} W k b ne = go (own k) refl
+  where
+    go : (o : Owner) → own k ≡ o → Chained R own pages free k
+    go old e = absurd (ne e)
+    go spare e = in-free e (W .spares k e)
+    go beyond e = absurd (W .whole k b e)
+    go (mine j) e = let t = W .mines k j e in in-region j (t .0) e (t .1)
 
 -- the lengths of the first R lists
 unfoldable pub total : (ℕ → List ℕ) → ℕ → ℕ
@@ -28,68 +38,46 @@ unfolding total
 total-same f g zero e = refl
 total-same f g (suc m) e = rw (e m (omega arith), total-same f g m (λ i b. e i (omega arith)))
 
--- one list has one more
-pub total-snoc : (f : ℕ → List ℕ) (j x m : ℕ) → j < m → total (upd f j (f j ++ x ∷ [])) m ≡ suc (total f m)
+-- one list is another
+total-upd : (f : ℕ → List ℕ) (j : ℕ) (xs : List ℕ) (m : ℕ) → j < m → total (upd f j xs) m + length (f j) ≡ total f m + length xs
 unfolding total
-total-snoc f j x zero b = absurd (omega arith)
-total-snoc f j x (suc m) b = go (ℕ-discrete m j) (λ q. total-snoc f j x m q)
+total-upd f j xs zero b = absurd (omega arith)
+total-upd f j xs (suc m) b = go (ℕ-discrete m j) (λ q. total-upd f j xs m q)
   where
-    go : Dec (m ≡ j) → (j < m → total (upd f j (f j ++ x ∷ [])) m ≡ suc (total f m)) → total (upd f j (f j ++ x ∷ [])) (suc m) ≡ suc (total f (suc m))
+    go : Dec (m ≡ j) → (j < m → total (upd f j xs) m + length (f j) ≡ total f m + length xs) → total (upd f j xs) (suc m) + length (f j) ≡ total f (suc m) + length xs
     go (yes e) rest =
-        let u : upd f j (f j ++ x ∷ []) m ≡ f m ++ x ∷ [] = upd-same f j (f j ++ x ∷ []) m e ∙ ap (λ i. f i ++ x ∷ []) (sym e) in
-        let v : total (upd f j (f j ++ x ∷ [])) m ≡ total f m = total-same _ f m (λ i q. upd-other f j (f j ++ x ∷ []) i (omega arith)) in
-        let l = length-append (f m) (x ∷ []) in
-        rw (u, v) (omega arith)
-    go (no ne) rest =
-        let u : upd f j (f j ++ x ∷ []) m ≡ f m = upd-other f j (f j ++ x ∷ []) m ne in
-        let v = rest (omega arith) in
-        rw (u, v) (omega arith)
+        let u : length (f m) ≡ length (f j) = ap (λ i. length (f i)) e in
+        let v : total (upd f j xs) m ≡ total f m = total-same _ f m (λ i q. upd-other f j xs i (omega arith)) in
+        rw (upd-same f j xs m e, v) (omega arith)
+    go (no ne) rest = let v = rest (omega arith) in rw (upd-other f j xs m ne) (omega arith)
 
--- one list has one less
+-- it has one more
+pub total-snoc : (f : ℕ → List ℕ) (j x m : ℕ) → j < m → total (upd f j (f j ++ x ∷ [])) m ≡ suc (total f m)
+total-snoc f j x m b = let t = total-upd f j (f j ++ x ∷ []) m b in let l = length-append (f j) (x ∷ []) in omega arith
+
+-- it has one less
 pub total-tail : (f : ℕ → List ℕ) (j x : ℕ) (xs : List ℕ) (m : ℕ) → j < m → f j ≡ x ∷ xs → suc (total (upd f j xs) m) ≡ total f m
-unfolding total
-total-tail f j x xs zero b e = absurd (omega arith)
-total-tail f j x xs (suc m) b e = go (ℕ-discrete m j) (λ q. total-tail f j x xs m q e)
-  where
-    go : Dec (m ≡ j) → (j < m → suc (total (upd f j xs) m) ≡ total f m) → suc (total (upd f j xs) (suc m)) ≡ total f (suc m)
-    go (yes q) rest =
-        let u : upd f j xs m ≡ xs = upd-same f j xs m q in
-        let v : total (upd f j xs) m ≡ total f m = total-same _ f m (λ i t. upd-other f j xs i (omega arith)) in
-        let w : f m ≡ x ∷ xs = ap f q ∙ e in
-        rw (u, v, w) (omega arith)
-    go (no ne) rest =
-        let u : upd f j xs m ≡ f m = upd-other f j xs m ne in
-        let v = rest (omega arith) in
-        rw u (omega arith)
+total-tail f j x xs m b e = let t = total-upd f j xs m b in let l : length (f j) ≡ suc (length xs) = ap length e in omega arith
 
--- page k taken: what is free still was behind it in the free list
-pub spares-left : (own : ℕ → Owner) (k j : ℕ) (ks : List ℕ) → ((l : ℕ) → own l ≡ spare → List·Memᴰ l (k ∷ ks)) → (l : ℕ) → upd own k (mine j) l ≡ spare → List·Memᴰ l ks
-spares-left own k j ks free l e = go (upd-cases own k (mine j) l spare e)
-  where
-    go : ((l ≡ k) × (spare ≡ mine j)) ⊎ ((l ≢ k) × (own l ≡ spare)) → List·Memᴰ l ks
-    go (inl t) = spare≢mine refl (t .1)
-    go (inr t) = in-tail (t .0) (free l (t .1))
+-- page k, the first of the free list, becomes region j's
+module _ (own : ℕ → Owner) (k j : ℕ) where
+  -- the old pages are those of before
+  pub taken-old : own k ≡ spare → (l : ℕ) → (own l ≡ old) ↔ (upd own k (mine j) l ≡ old)
+  taken-old o l = (λ e. upd-other own k (mine j) l (λ q. old≢spare e (ap own q ∙ o)) ∙ e, upd-back own k (mine j) l old (old≢mine refl))
 
--- page k taken for region j
-pub taken-owned : (N R : ℕ) (own : ℕ → Owner) (pages : ℕ → List ℕ) (k : ℕ) (ks : List ℕ) (j : ℕ) → j < R → own k ≡ spare → Owned N R own pages (k ∷ ks)
-    → Owned N R (upd own k (mine j)) (upd pages j (pages j ++ k ∷ [])) ks
-taken-owned N R own pages k ks j jR own-k W = record { whole = whole; spares = spares-left own k j ks (W .spares); mines = mines }
-  where
-    whole : (l : ℕ) → l < N → upd own k (mine j) l ≢ beyond
-    whole l b e = W .whole l b (upd-back own k (mine j) l beyond (λ q. mine≢beyond q refl) e)
-
-    mines : (l i : ℕ) → upd own k (mine j) l ≡ mine i → (i < R) × List·Memᴰ l (upd pages j (pages j ++ k ∷ []) i)
-    mines l i e = go (upd-cases own k (mine j) l (mine i) e)
-      where
-        by : (i < R) × List·Memᴰ l (pages i) → Dec (i ≡ j) → (i < R) × List·Memᴰ l (upd pages j (pages j ++ k ∷ []) i)
-        by t (yes q) = (t .0, rw (upd-same pages j (pages j ++ k ∷ []) i q) (Memᴰ·append-left (k ∷ []) (rw q at (t .1))))
-        by t (no ne) = (t .0, rw (upd-other pages j (pages j ++ k ∷ []) i ne) (t .1))
-
-        go : ((l ≡ k) × (mine i ≡ mine j)) ⊎ ((l ≢ k) × (own l ≡ mine i)) → (i < R) × List·Memᴰ l (upd pages j (pages j ++ k ∷ []) i)
-        go (inl t) =
-            let ij : i ≡ j = mine-inj (t .1) in
-            (rw ij jR, rw (upd-same pages j (pages j ++ k ∷ []) i ij) (Memᴰ·append-right (pages j) (List·Memᴰ·head (t .0))))
-        go (inr t) = by (W .mines l i (t .1)) (ℕ-discrete i j)
+  -- the chains of before are part of the chains that there are now, and page k is in region j's
+  pub taken-owned : {N R R′ : ℕ} {pages pages′ : ℕ → List ℕ} {ks : List ℕ} → R ≤ R′ → j < R′ → List·Memᴰ k (pages′ j) → ((i l : ℕ) → i < R → List·Memᴰ l (pages i) → List·Memᴰ l (pages′ i))
+      → Owned N R own pages (k ∷ ks) → Owned N R′ (upd own k (mine j)) pages′ ks
+  taken-owned {R = R} {R′} {pages} {pages′} {ks} more jR there still W =
+      record {
+        whole = λ l b e. W .whole l b (upd-back own k (mine j) l beyond (λ q. mine≢beyond q refl) e);
+        spares = λ l e. ⊎-elim (λ t. spare≢mine refl (t .1)) (λ t. in-tail (t .0) (W .spares l (t .1))) (upd-cases own k (mine j) l spare e);
+        mines = λ l i e. go l i (upd-cases own k (mine j) l (mine i) e);
+      }
+    where
+      go : (l i : ℕ) → ((l ≡ k) × (mine i ≡ mine j)) ⊎ ((l ≢ k) × (own l ≡ mine i)) → (i < R′) × List·Memᴰ l (pages′ i)
+      go l i (inl (q, t)) = rw (q, mine-inj t) (jR, there)
+      go l i (inr t) = let u = W .mines l i (t .1) in let b = u .0 in (omega arith, still i l b (u .1))
 
 -- ---- before a collection
 

@@ -3,11 +3,12 @@
 use Prim.Native.Nat.{ℕ, suc, _+_, _-_, _*_, _^_, _≤_, _<_}
 use native.Mathlib.Nat.{le-refl}
 use native.Mathlib.Omega.{arith}
+use native.Mathlib.Decide.{ℕ-discrete}
 use mathlib.Core.Path.{_≡_, refl, sym, ap, _∙_}
-use mathlib.Core.Logic.{_≢_, _↔_, _⊎_, inl, inr}
+use mathlib.Core.Logic.{_≢_, _↔_, _⊎_, inl, inr, ⊎-elim}
 use mathlib.Core.Bool.{true, false}
 use mathlib.Core.Option.{some}
-use mathlib.Core.List.{List, [], _∷_, _++_, List·Memᴰ, List·Memᴰ·head}
+use mathlib.Core.List.{List, [], _∷_, _++_, List·Memᴰ, List·Memᴰ·head, Memᴰ·append-left, Memᴰ·append-right}
 use lib.ListN.{length, set, length-set}
 use lib.Dec.{leb}
 use borrow.Author.Tests.{leb-true}
@@ -16,9 +17,14 @@ use Rattle.working.proofs.Roomy as Q
 use Rattle.rules.specs.Memory.{link, endOf, topOf}
 use Rattle.laws.specs.Lists.{at}
 use Rattle.rules.specs.Pages.{Run, join, room}
-use Rattle.facts.proofs.Laid.{upd, upd-same, upd-other, Owner, old, spare, beyond, mine, Like, Layout, upd-cases, upd-back}
+use Rattle.facts.proofs.Laid.{upd, upd-same, upd-other, Owner, old, spare, beyond, mine, Like, Layout, upd-cases, first-is, first-spare}
 use Rattle.working.proofs.Taken.{taken, last-is}
-use Rattle.working.proofs.Owned.{mine-inj, old≢spare, old≢mine, spare≢mine, Owned, total, total-snoc, taken-owned}
+use Rattle.working.proofs.Owned.{mine-inj, old≢spare, old≢mine, spare≢mine, Owned, total, total-snoc, taken-old, taken-owned}
+
+-- page k of region i, after region j was given room: it was region i's before, or is the page that region j took
+pub data Whence (n : ℕ) (own : ℕ → Owner) (fin₁ : ℕ → ℕ) (r : Run) (j k i : ℕ) : Type 0 where
+  as-before : own k ≡ mine i → Whence n own fin₁ r j k i
+  just-taken : own k ≡ spare → i ≡ j → fin₁ k ≡ k * 2 ^ n + 2 → endOf (r .table) j ≡ k * 2 ^ n + 2 ^ n → Whence n own fin₁ r j k i
 
 -- what giving region j room for m words does
 pub record Roomed (n N R : ℕ) (own : ℕ → Owner) (fin : ℕ → ℕ) (pages : ℕ → List ℕ) (free : List ℕ) (r₀ : Run) (j m : ℕ) (r : Run) : Type 0 where
@@ -30,7 +36,7 @@ pub record Roomed (n N R : ℕ) (own : ℕ → Owner) (fin : ℕ → ℕ) (pages
   pub fits : topOf (r .table) j + m ≤ endOf (r .table) j
   pub old-kept : (k : ℕ) → (own k ≡ old) ↔ (own₁ k ≡ old)
   pub mine-kept : (k i : ℕ) → own k ≡ mine i → (own₁ k ≡ mine i) × (fin₁ k ≡ fin k)
-  pub mine-from : (k i : ℕ) → own₁ k ≡ mine i → (own k ≡ mine i) ⊎ ((own k ≡ spare) × (i ≡ j) × (fin₁ k ≡ k * 2 ^ n + 2) × (endOf (r .table) j ≡ k * 2 ^ n + 2 ^ n))
+  pub mine-from : (k i : ℕ) → own₁ k ≡ mine i → Whence n own fin₁ r j k i
   pub words : (k x : ℕ) → own k ≢ spare → own k ≢ beyond → k * 2 ^ n < x → x < k * 2 ^ n + 2 ^ n → at (r .heap) x ≡ at (r₀ .heap) x
   pub old-links : (k : ℕ) → own k ≡ old → at (r .heap) (k * 2 ^ n) ≡ at (r₀ .heap) (k * 2 ^ n)
   pub owned : Owned N R own pages free → Owned N R own₁ pages₁ free₁
@@ -61,7 +67,7 @@ module _ (n N R : ℕ) (own : ℕ → Owner) (fin : ℕ → ℕ) (pages : ℕ �
       fits = leb-true _ _ e;
       old-kept = λ k. (λ q. q, λ q. q);
       mine-kept = λ k i q. (q, refl);
-      mine-from = λ k i q. inl q;
+      mine-from = λ k i q. as-before q;
       words = λ k x a b p q. refl;
       old-links = λ k o. refl;
       owned = λ W. W;
@@ -84,7 +90,7 @@ module _ (n N R : ℕ) (own : ℕ → Owner) (fin : ℕ → ℕ) (pages : ℕ �
     L₀ = T.taken-laid n N R own fin pages k ks r L j
 
     spare-k : own k ≡ spare
-    spare-k = L .free-own k (List·Memᴰ·head refl)
+    spare-k = first-spare L
 
     k-new : List·Memᴰ k (pages j) → ⊥
     k-new p = spare≢mine spare-k (L .mine-own j k jR p)
@@ -114,19 +120,11 @@ module _ (n N R : ℕ) (own : ℕ → Owner) (fin : ℕ → ℕ) (pages : ℕ �
     not-k : (l : ℕ) → own l ≢ spare → l ≢ k
     not-k l ne e = ne (ap own e ∙ spare-k)
 
-    from : (l i : ℕ) → upd own k (mine j) l ≡ mine i
-        → (own l ≡ mine i) ⊎ ((own l ≡ spare) × (i ≡ j) × (upd fin k (k * 2 ^ n + 2) l ≡ l * 2 ^ n + 2) × (endOf (join n j k r₀ .table) j ≡ l * 2 ^ n + 2 ^ n))
-    from l i e = go (upd-cases own k (mine j) l (mine i) e)
-      where
-        go : ((l ≡ k) × (mine i ≡ mine j)) ⊎ ((l ≢ k) × (own l ≡ mine i)) → (own l ≡ mine i) ⊎ ((own l ≡ spare) × (i ≡ j) × (upd fin k (k * 2 ^ n + 2) l ≡ l * 2 ^ n + 2) × (endOf (join n j k r₀ .table) j ≡ l * 2 ^ n + 2 ^ n))
-        go (inl (q, t)) =
-            inr (
-              ap own q ∙ spare-k,
-              mine-inj t,
-              upd-same fin k (k * 2 ^ n + 2) l q ∙ ap (λ t. t * 2 ^ n + 2) (sym q),
-              end-is ∙ ap (λ t. t * 2 ^ n + 2 ^ n) (sym q),
-            )
-        go (inr t) = inl (t .1)
+    from : (l i : ℕ) → upd own k (mine j) l ≡ mine i → Whence n own (upd fin k (k * 2 ^ n + 2)) (join n j k r₀) j l i
+    from l i e =
+        ⊎-elim
+        (λ (q, t). just-taken (ap own q ∙ spare-k) (mine-inj t) (upd-same fin k (k * 2 ^ n + 2) l q ∙ ap (λ t. t * 2 ^ n + 2) (sym q)) (end-is ∙ ap (λ t. t * 2 ^ n + 2 ^ n) (sym q)))
+        (λ t. as-before (t .1)) (upd-cases own k (mine j) l (mine i) e)
 
     abbrev QL : (l : ℕ) → Like n (r₀ .heap) (set (r₀ .heap) (endOf (r₀ .table) j - 2 ^ n) (suc k)) l
     QL = Q.like n N R (upd own k (mine j)) (upd fin k (k * 2 ^ n + 2)) pages ks r₀ L₀ j k jR own-new k-new taken-link fin-new
@@ -152,6 +150,13 @@ module _ (n N R : ℕ) (own : ℕ → Owner) (fin : ℕ → ℕ) (pages : ℕ �
     unfolding taken join
     same-row = Q.row n N R (upd own k (mine j)) (upd fin k (k * 2 ^ n + 2)) pages ks r₀ L₀ j k jR own-new k-new taken-link fin-new
 
+    still : (i l : ℕ) → i < R → List·Memᴰ l (pages i) → List·Memᴰ l (upd pages j (pages j ++ k ∷ []) i)
+    still i l b m = go (ℕ-discrete i j)
+      where
+        go : Dec (i ≡ j) → List·Memᴰ l (upd pages j (pages j ++ k ∷ []) i)
+        go (yes q) = rw (upd-same pages j (pages j ++ k ∷ []) i q) (Memᴰ·append-left (k ∷ []) (rw q at m))
+        go (no ne) = rw (upd-other pages j (pages j ++ k ∷ []) i ne) m
+
     same-stack : join n j k r₀ .stack ≡ r .stack
     unfolding taken join
     same-stack = refl
@@ -159,7 +164,7 @@ module _ (n N R : ℕ) (own : ℕ → Owner) (fin : ℕ → ℕ) (pages : ℕ �
     pub room-made : leb (topOf (r .table) j + m) (endOf (r .table) j) ≡ false → (room n j m r ≡ some (join n j k r₀)) × Roomed n N R own fin pages (k ∷ ks) r j m (join n j k r₀)
     unfolding room
     room-made e = (
-      rw (e, room, T.takes n j k r (T.linked-first (L .free-links) .0)),
+      rw (e, room, T.takes n j k r (first-is L refl)),
       record {
         own₁ = upd own k (mine j);
         fin₁ = upd fin k (k * 2 ^ n + 2);
@@ -167,14 +172,14 @@ module _ (n N R : ℕ) (own : ℕ → Owner) (fin : ℕ → ℕ) (pages : ℕ �
         free₁ = ks;
         laid = L₁;
         fits = let a = end-is in let b = top-is in omega arith;
-        old-kept = λ l. (λ o. upd-other own k (mine j) l (not-k l (λ q. old≢spare o q)) ∙ o, upd-back own k (mine j) l old (old≢mine refl));
+        old-kept = taken-old own k j spare-k;
         mine-kept = λ l i o.
             let ne : l ≢ k = not-k l (λ q. spare≢mine q o) in
             (upd-other own k (mine j) l ne ∙ o, upd-other fin k (k * 2 ^ n + 2) l ne);
         mine-from = from;
         words = same-words;
         old-links = same-links;
-        owned = taken-owned N R own pages k ks j jR spare-k;
+        owned = taken-owned own k j (le-refl R) jR (rw (upd-same pages j (pages j ++ k ∷ []) j refl) (Memᴰ·append-right (pages j) (List·Memᴰ·head refl))) still;
         pages-other = λ i ne. upd-other pages j (pages j ++ k ∷ []) i ne;
         pages-own = inr (k, upd-same pages j (pages j ++ k ∷ []) j refl, spare-k, fin-new);
         spent = let t = total-snoc pages j k R jR in omega arith;

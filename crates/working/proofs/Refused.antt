@@ -4,7 +4,7 @@ use Prim.Native.Nat.{ℕ, zero, suc, _+_, _*_, _/_, _^_, _≤_, _<_}
 use native.Mathlib.Nat.{le-div-iff-mul-le}
 use native.Mathlib.Omega.{arith}
 use mathlib.Core.Path.{_≡_, refl, sym, ap, _∙_}
-use mathlib.Core.Logic.{_↔_, _⊎_, inl, inr}
+use mathlib.Core.Logic.{_↔_}
 use mathlib.Core.List.{List}
 use mathlib.Core.Bool.{false≢true}
 use lib.ListN.{length, length-append}
@@ -12,14 +12,14 @@ use Rattle.rules.specs.declared.Refusal.{Refusal}
 use Rattle.rules.specs.declared.Plain.{Plain}
 use Rattle.rules.specs.Memory.{Store, pageCount, regionPages, pagesFrom}
 use Rattle.rules.specs.Pages.{Run}
-use Rattle.rules.specs.Collection.{finished, leaves, ending, collected, fromSpace}
+use Rattle.rules.specs.Collection.{leaves, ending, collected, fromSpace}
 use Rattle.rules.specs.Refusals.{Outcome, refused}
 use Rattle.facts.proofs.Sound.{Sound}
 use Rattle.facts.proofs.Passing.{pages-are}
 use Rattle.rules.specs.Wanted.{unbounded, wanted}
 use Rattle.working.proofs.Owned.{total, total-same}
 use Rattle.working.proofs.Dry.{Dry}
-use Rattle.working.proofs.Running.{Refusing, few, out, Ran, runs}
+use Rattle.working.proofs.Running.{Refusing, few, out, Ran, Collects, runs-dry, runs-through, collects}
 use Rattle.working.proofs.Ending.{left-store, left-sound, left-pages, left-count}
 
 -- the pages of all regions
@@ -83,24 +83,15 @@ module _ (s : Store) (S : Sound s) where
 
   pub refused-wants : (collected s ≡ refused s Refusal.NoPage) ↔ (s .ctl .count < wanted s)
   unfolding ending leaves
-  refused-wants = (λ e. there e (runs s S), λ b. back b (runs s S))
+  refused-wants = (λ e. there e (collects s S), λ b. back b (collects s S))
     where
-      there : collected s ≡ refused s Refusal.NoPage
-          → ((collected s ≡ refused s Refusal.NoPage) × Refusing s S) ⊎ ((roots : List ℕ) × (r : Run) × (collected s ≡ ending s roots (finished r)) × Ran s S roots r)
-          → s .ctl .count < wanted s
-      there e (inl u) = refusing-more (u .1)
-      there e (inr u) =
-          let q = ap (λ (o : Outcome Plain). o .answer) (sym e ∙ u .2) in
-          absurd (false≢true cc)
+      there : collected s ≡ refused s Refusal.NoPage → Collects s S → s .ctl .count < wanted s
+      there e (runs-dry q R) = refusing-more R
+      there e (runs-through roots r q A) = let t = ap (λ (o : Outcome Plain). o .answer) (sym e ∙ q) in absurd (false≢true cc)
 
-      back : s .ctl .count < wanted s
-          → ((collected s ≡ refused s Refusal.NoPage) × Refusing s S) ⊎ ((roots : List ℕ) × (r : Run) × (collected s ≡ ending s roots (finished r)) × Ran s S roots r)
-          → collected s ≡ refused s Refusal.NoPage
-      back b (inl u) = u .0
-      back b (inr u) =
-          let w = done-wanted (u .0) (u .1) (u .3) in
-          let t = u .3 .end .inv .taken in
-          absurd (omega arith)
+      back : s .ctl .count < wanted s → Collects s S → collected s ≡ refused s Refusal.NoPage
+      back b (runs-dry q R) = q
+      back b (runs-through roots r q A) = let w = done-wanted roots r A in let t = A .end .inv .taken in absurd (omega arith)
 
 -- ---- the pages of a collection that is done
 

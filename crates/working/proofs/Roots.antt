@@ -1,13 +1,11 @@
 -- The roots evacuated in order, then the scan stack worked: from a fresh state to one in which all is scanned.
 use Prim.Native.Nat.{ℕ, zero, suc, _+_, _*_, _≤_, _<_, zero-le, suc-le-suc}
 use native.Mathlib.Omega.{arith}
-use mathlib.Core.Path.{_≡_, refl, sym, ap, _∙_}
-use mathlib.Core.Logic.{_⊎_, inl, inr}
-use mathlib.Core.Option.{none, some, Option·none-ne-some}
-use mathlib.Core.List.{List, [], _∷_, List·Memᴰ, List·Memᴰ·head, List·Memᴰ·tail}
+use mathlib.Core.Path.{_≡_, refl, ap}
+use mathlib.Core.Option.{none, some}
+use mathlib.Core.List.{List, [], _∷_}
 use lib.ListN.{length}
 use Rattle.laws.specs.Lists.{at}
-use Rattle.laws.proofs.Once.{once-tail}
 use Rattle.rules.specs.Memory.{Store, topOf}
 use Rattle.rules.specs.Pages.{Scan, Run, withStack}
 use Rattle.rules.specs.Collection.{finished, lacksPage, evacuate, evacuateAll, work, workStack}
@@ -18,11 +16,11 @@ use Rattle.working.proofs.Owned.{total}
 use Rattle.working.proofs.Log.{pointers, rel-grows}
 use Rattle.working.proofs.Next.{headOr}
 use Rattle.rules.specs.Wanted.{evacuateFor, rootsFor, workFor, stackFor}
-use Rattle.working.proofs.Wanting.{follows-some, evacuate-follows}
+use Rattle.working.proofs.Wanting.{Goes, wants-page, goes-on, follows-some, evacuate-follows}
 use Rattle.working.proofs.Dry.{roots-dry}
-use Rattle.working.proofs.Invariant.{waiting-inv, lacking-on, Ghost, Kept, regionsOf, Waits, Pending, Inv, Later, later-refl, later-trans, Lacking, Became, Enough}
+use Rattle.working.proofs.Invariant.{lacking-on, lacks-as, Ghost, Kept, Inv, Later, later-refl, later-trans, Lacking, Became, Evacuates, Enough}
 use Rattle.working.proofs.Evacuation.{evacuates}
-use Rattle.working.proofs.Leaving.{top-or-rest, scanning, top-once}
+use Rattle.working.proofs.Leaving.{scanning, entered, top-begins}
 use Rattle.working.proofs.Work.{Finished, finished-from, works}
 
 -- the words ws became the words vs
@@ -52,6 +50,15 @@ all-more {s} {w = w} {v} {ws} {vs} B A =
     each zero b = rel-grows (B .ghost .log) (A .ghost .log) (A .later .log) (B .rel)
     each (suc i) b = A .rels i (omega arith)
 
+-- the words evacuated one after the other
+abbrev pub EvacuatesAll : (s : Store) → Sound s → Ghost → Run → List ℕ → Type 0
+EvacuatesAll s S g r ws =
+    Goes none some (evacuateAll (s .ctl .n) ws r) (Lacking s S (rootsFor (s .ctl .n) ws r)) (λ (p : List ℕ × Run). AllBecame s S g r ws (p .0) (p .1))
+
+-- the scan stack worked
+abbrev pub WorksStack : (s : Store) → Sound s → Ghost → Run → Type 0
+WorksStack s S g r = Goes lacksPage finished (workStack (s .ctl .n) r) (Lacking s S (stackFor (s .ctl .n) r)) (λ r′. Finished s S g r′)
+
 module _ (s : Store) (S : Sound s) where
   abbrev n : ℕ
   n = s .ctl .n
@@ -61,71 +68,32 @@ module _ (s : Store) (S : Sound s) where
 
   pub evacuates-all : (ws : List ℕ) (g : Ghost) (r : Run) → Inv s S g r → ((i : ℕ) → i < length ws → Good n R (s .heap) (s .consts) (at ws i))
       → ((i : ℕ) → i < length ws → Reached (seen s) (s .roots) (at ws i))
-      → ((evacuateAll n ws r ≡ none) × Lacking s S (rootsFor n ws r)) ⊎ ((vs : List ℕ) × (r′ : Run) × (evacuateAll n ws r ≡ some (vs, r′)) × AllBecame s S g r ws vs r′)
+      → EvacuatesAll s S g r ws
   unfolding evacuateAll rootsFor
-  evacuates-all [] g r I good reached = inr ([], r, refl, all-none s S g r I)
+  evacuates-all [] g r I good reached = goes-on ([], r) refl (all-none s S g r I)
   evacuates-all (w ∷ ws) g r I good reached =
       go (λ g′ r′ I′. evacuates-all ws g′ r′ I′ (λ i b. good (suc i) (suc-le-suc b)) (λ i b. reached (suc i) (suc-le-suc b)))
       (evacuates s S g r I w (good 0 (suc-le-suc zero-le)) (reached 0 (suc-le-suc zero-le)))
     where
-      Result : List ℕ → Ghost → Run → Type 0
-      Result xs h q = ((evacuateAll n xs q ≡ none) × Lacking s S (rootsFor n xs q)) ⊎ ((vs : List ℕ) × (r′ : Run) × (evacuateAll n xs q ≡ some (vs, r′)) × AllBecame s S h q xs vs r′)
-
-      then : (v : ℕ) (r₁ : Run) → evacuate n w r ≡ some (v, r₁) → (B : Became s S g r w v r₁) → Result ws (B .ghost) r₁ → Result (w ∷ ws) g r
-      then v r₁ e B (inl u) =
+      then : (v : ℕ) (r₁ : Run) → evacuate n w r ≡ some (v, r₁) → (B : Became s S g r w v r₁) → EvacuatesAll s S (B .ghost) r₁ ws → EvacuatesAll s S g r (w ∷ ws)
+      then v r₁ e B (wants-page q L) =
           let t : evacuateFor n w r ≡ (v, r₁) = follows-some (v, r₁) (evacuate-follows n w r) e in
-          inl (rw (e, evacuateAll, u .0), lacking-on (λ y. rw t y) (u .1))
-      then v r₁ e B (inr u) = inr (v ∷ u .0, u .1, rw (e, evacuateAll, u .2), all-more B (u .3))
+          wants-page (rw (e, evacuateAll, q)) (lacking-on (λ y. rw t y) L)
+      then v r₁ e B (goes-on (vs, r₂) q A) = goes-on (v ∷ vs, r₂) (rw (e, evacuateAll, q)) (all-more B A)
 
-      go : ((g′ : Ghost) (r′ : Run) → Inv s S g′ r′ → Result ws g′ r′)
-          → ((evacuate n w r ≡ none) × Lacking s S (evacuateFor n w r .1)) ⊎ ((v : ℕ) × (r₁ : Run) × (evacuate n w r ≡ some (v, r₁)) × Became s S g r w v r₁) → Result (w ∷ ws) g r
-      go rest (inl u) = inl (rw (u .0, evacuateAll), lacking-on (λ y. roots-dry n _ ws _ y) (u .1))
-      go rest (inr u) = then (u .0) (u .1) (u .2) (u .3) (rest (u .3 .ghost) (u .1) (u .3 .inv))
+      go : ((g′ : Ghost) (r′ : Run) → Inv s S g′ r′ → EvacuatesAll s S g′ r′ ws) → Evacuates s S g r w (evacuate n w r) (evacuateFor n w r .1) → EvacuatesAll s S g r (w ∷ ws)
+      go rest (wants-page q L) = wants-page (rw (q, evacuateAll)) (lacking-on (λ y. roots-dry n _ ws _ y) L)
+      go rest (goes-on (v, r₁) q B) = then v r₁ q B (rest (B .ghost) r₁ (B .inv))
 
   -- ---- the scan begins
 
   module _ (g : Ghost) (r : Run) (I : Inv s S g r) (none-cur : g .cur ≡ none) (t : Scan) (ts : List Scan) (e : r .stack ≡ t ∷ ts) where
-    abbrev P : Pending n R g r
-    P = I .pending
-
-    top : Waits R g (r .table) t
-    top = P .stacked t (rw e (List·Memᴰ·head refl))
-
-    entered-pending : Pending n R (scanning g (some (t .region))) (withStack r ts)
-    entered-pending =
-        record {
-          rows = P .rows;
-          untouched = P .untouched;
-          scanned = P .scanned;
-          raws = P .raws;
-          stacked = λ u m.
-              let W = P .stacked u (rw e (List·Memᴰ·tail m)) in
-              record {
-                known = W .known;
-                awake = W .awake;
-                other = top-once t ts (rw e at (P .once)) u m;
-                rest = W .rest;
-                begins = W .begins;
-              };
-          once = once-tail (rw e at (P .once));
-          at-work = λ i q. let z : t .region ≡ i = cc in rw (← z) (top .known, top .awake);
-          idle = P .idle;
-          busy = λ i iR ne. go i (P .busy i iR ne);
-        }
-      where
-        go : (i : ℕ) → List·Memᴰ i (regionsOf (r .stack)) ⊎ (g .cur ≡ some i) → List·Memᴰ i (regionsOf ts) ⊎ (some (t .region) ≡ some i)
-        go i (inl m) = top-or-rest t ts i (rw e at m)
-        go i (inr q) = absurd (Option·none-ne-some i (sym none-cur ∙ q))
-
-    pub entered-inv : Inv s S (scanning g (some (t .region))) (withStack r ts)
-    entered-inv = waiting-inv ts I entered-pending
-
     -- the scan of the top's region begins at what waits in it
     abbrev pub begin : ℕ
     begin = headOr (topOf (r .table) (t .region)) (g .todo (t .region))
 
     pub begins-at : t .address ≡ begin
-    begins-at = rw (top .begins)
+    begins-at = top-begins I t ts e _
 
     pub begins-work : workStack n r ≡ work n (2 * length (r .heap)) (t .region) begin (withStack r ts)
     unfolding workStack
@@ -150,14 +118,15 @@ module _ (s : Store) (S : Sound s) where
 
   -- the whole scan, from a state in which no region is being scanned and what waits costs no more than the log pays
   pub works-stack : (g : Ghost) (r : Run) → Inv s S g r → g .cur ≡ none → g .half ≡ none → total (g .todo) R + length (r .stack) ≤ 2 * length (g .log)
-      → ((workStack n r ≡ lacksPage) × Lacking s S (stackFor n r)) ⊎ ((r′ : Run) × (workStack n r ≡ finished r′) × Finished s S g r′)
+      → WorksStack s S g r
   unfolding workStack stackFor
   works-stack g r I none-cur none-open cost = go (r .stack) refl
     where
-      go : (st : List Scan) → r .stack ≡ st → ((workStack n r ≡ lacksPage) × Lacking s S (stackFor n r)) ⊎ ((r′ : Run) × (workStack n r ≡ finished r′) × Finished s S g r′)
-      go [] e = inr (r, ends-work g r I none-cur none-open e, ends-finished g r I none-cur none-open e)
+      go : (st : List Scan) → r .stack ≡ st → WorksStack s S g r
+      go [] e = goes-on r (ends-work g r I none-cur none-open e) (ends-finished g r I none-cur none-open e)
       go (t ∷ ts) e =
-          by (works s S f (scanning g (some (t .region))) (withStack r ts) (t .region) (entered-inv g r I none-cur t ts e) refl none-open (entered-enough g r I none-cur t ts e cost))
+          lacks-as (begins-work g r I none-cur t ts e) is-for (λ r′. finished-from (λ x m. m))
+          (works s S f (scanning g (some (t .region))) (withStack r ts) (t .region) (entered s S g r I none-cur t ts e) refl none-open (entered-enough g r I none-cur t ts e cost))
         where
           f : ℕ
           f = 2 * length (r .heap)
@@ -167,9 +136,3 @@ module _ (s : Store) (S : Sound s) where
 
           is-for : stackFor n r ≡ workFor n f (t .region) a (withStack r ts)
           is-for = rw (e, stackFor) (ap (λ x. workFor n f (t .region) x (withStack r ts)) (begins-at g r I none-cur t ts e))
-
-          by : ((work n f (t .region) a (withStack r ts) ≡ lacksPage) × Lacking s S (workFor n f (t .region) a (withStack r ts)))
-              ⊎ ((r′ : Run) × (work n f (t .region) a (withStack r ts) ≡ finished r′) × Finished s S (scanning g (some (t .region))) r′)
-              → ((workStack n r ≡ lacksPage) × Lacking s S (stackFor n r)) ⊎ ((r′ : Run) × (workStack n r ≡ finished r′) × Finished s S g r′)
-          by (inl u) = inl (begins-work g r I none-cur t ts e ∙ u .0, lacking-on (λ y. rw is-for y) (u .1))
-          by (inr u) = inr (u .0, begins-work g r I none-cur t ts e ∙ u .1, finished-from (λ x m. m) (u .2))

@@ -1,6 +1,5 @@
 -- A region's values in order, when a value is added or a word inside one changes.
 use Prim.Native.Nat.{ℕ, suc, _+_, _*_, _^_, _≤_, _<_}
-use native.Mathlib.Nat.{le-refl}
 use native.Mathlib.Omega.{arith}
 use native.Mathlib.Decide.{ℕ-discrete}
 use mathlib.Core.Path.{_≡_, refl, sym, ap, subst}
@@ -9,15 +8,9 @@ use mathlib.Core.List.{List, [], _∷_, _++_, append-assoc, List·Memᴰ, List·
 use Rattle.laws.specs.Lists.{at}
 use Rattle.laws.proofs.Lists.{one-part}
 use Rattle.laws.proofs.Once.{once-none, once-append}
-use Rattle.facts.proofs.Steps.{Stands, Steps, here, over, steps-le, stands-same}
+use Rattle.rules.proofs.Steps.{Stands, Steps, here, over, steps-le, stands-same}
 use Rattle.facts.proofs.Laid.{Once, once-more, Last, only, later, last-in}
-use Rattle.working.proofs.Next.{Vals, vals-none, vals-more, vals-le, Row, row-last, row-more}
-
-pub vals-same : {g h : List ℕ} {hi a b : ℕ} {vs : List ℕ} → ((x : ℕ) → a ≤ x → x < b → at g x ≡ at h x) → Vals g hi a b vs → Vals h hi a b vs
-vals-same agree vals-none = vals-none
-vals-same agree (vals-more {a} {b} {l} st t) =
-    let k = vals-le t in
-    vals-more (stands-same (agree a (le-refl a) (omega arith)) st) (vals-same (λ x p q. agree x (omega arith) q) t)
+use Rattle.working.proofs.Next.{Vals, vals-none, vals-empty, vals-more, vals-le, Row, row-last, row-more}
 
 vals-to : {h : List ℕ} {hi a b b′ : ℕ} {vs : List ℕ} → b ≡ b′ → Vals h hi a b vs → Vals h hi a b′ vs
 vals-to e t = rw e at t
@@ -26,18 +19,9 @@ row-as : {n : ℕ} {h : List ℕ} {fin : ℕ → ℕ} {ks xs ys : List ℕ} → 
 row-as e t = rw e at t
 
 -- one value more at the end
-pub vals-snoc : {h : List ℕ} {hi a b c l : ℕ} {vs : List ℕ} → Vals h hi a b vs → Stands h hi b l → b + suc l ≡ c → Vals h hi a c (vs ++ b ∷ [])
-vals-snoc {h} {hi} {c = c} (vals-none {a}) st e = vals-more st (subst (λ b. Vals h hi b c []) (sym e) vals-none)
+vals-snoc : {h : List ℕ} {hi a b c l : ℕ} {vs : List ℕ} → Vals h hi a b vs → Stands h hi b l → b + suc l ≡ c → Vals h hi a c (vs ++ b ∷ [])
+vals-snoc vals-none st e = vals-more st (vals-empty e)
 vals-snoc (vals-more st′ t) st e = vals-more st′ (vals-snoc t st e)
-
--- the same words below each page's end, and the same ends
-pub row-same : {n : ℕ} {g h : List ℕ} {fin fin′ : ℕ → ℕ} {ks vs : List ℕ}
-    → ((k x : ℕ) → List·Memᴰ k ks → k * 2 ^ n + 2 ≤ x → x < fin k → at g x ≡ at h x) → ((k : ℕ) → List·Memᴰ k ks → fin k ≡ fin′ k) → Row n g fin ks vs → Row n h fin′ ks vs
-row-same {n} {g} {h} {fin} {fin′} agree ends (row-last {k} v) =
-    row-last (vals-to (ends k (List·Memᴰ·head refl)) (vals-same (λ x p q. agree k x (List·Memᴰ·head refl) p q) v))
-row-same {n} {g} {h} {fin} {fin′} agree ends (row-more {k} {k′} v ne t) =
-    row-more (vals-to (ends k (List·Memᴰ·head refl)) (vals-same (λ x p q. agree k x (List·Memᴰ·head refl) p q) v))
-    (subst (λ b. k′ * 2 ^ n + 2 < b) (ends k′ (List·Memᴰ·tail (List·Memᴰ·head refl))) ne) (row-same (λ m x p. agree m x (List·Memᴰ·tail p)) (λ m p. ends m (List·Memᴰ·tail p)) t)
 
 -- only the headers matter
 vals-headers : {g h : List ℕ} {hi a b : ℕ} {vs : List ℕ} → ((x : ℕ) → List·Memᴰ x vs → at g x ≡ at h x) → Vals g hi a b vs → Vals h hi a b vs
@@ -68,7 +52,7 @@ row-snoc {n} {h} {fin} {fin′} {z = z} {l} (row-more {k} {k′} {vs = vs} {bs =
 pub row-page : {n : ℕ} {h : List ℕ} {fin : ℕ → ℕ} {ks vs : List ℕ} {k l : ℕ} → Row n h fin ks vs → Stands h (k * 2 ^ n + 2 ^ n) (k * 2 ^ n + 2) l → k * 2 ^ n + 2 + suc l ≡ fin k
     → Row n h fin (ks ++ k ∷ []) (vs ++ (k * 2 ^ n + 2) ∷ [])
 row-page {n} {h} {fin} {k = k} {l} (row-last v) st e =
-    let one : Vals h (k * 2 ^ n + 2 ^ n) (k * 2 ^ n + 2) (fin k) ((k * 2 ^ n + 2) ∷ []) = vals-more st (subst (λ b. Vals h (k * 2 ^ n + 2 ^ n) b (fin k) []) (sym e) vals-none) in
+    let one : Vals h (k * 2 ^ n + 2 ^ n) (k * 2 ^ n + 2) (fin k) ((k * 2 ^ n + 2) ∷ []) = vals-more st (vals-empty e) in
     let more : k * 2 ^ n + 2 < fin k = omega arith in
     row-more v more (row-last one)
 row-page {n} {h} {fin} {k = k} (row-more {vs = vs} {bs = bs} v ne t) st e =
@@ -100,6 +84,18 @@ row-in {n} {h} {fin} {b = b} (row-more {k} {k′} {ks} {vs} {bs} v ne t) m = go 
     go (inr q) rest =
         let r = rest q in
         record { page = r .page; here = List·Memᴰ·tail (r .here); len = r .len; steps = r .steps; stands = r .stands; below = r .below }
+
+-- the pages end where they did
+row-ends : {n : ℕ} {h : List ℕ} {fin fin′ : ℕ → ℕ} {ks vs : List ℕ} → ((k : ℕ) → List·Memᴰ k ks → fin k ≡ fin′ k) → Row n h fin ks vs → Row n h fin′ ks vs
+row-ends ends (row-last {k} v) = row-last (vals-to (ends k (List·Memᴰ·head refl)) v)
+row-ends {n} ends (row-more {k} {k′} v ne t) =
+    row-more (vals-to (ends k (List·Memᴰ·head refl)) v) (subst (λ b. k′ * 2 ^ n + 2 < b) (ends k′ (List·Memᴰ·tail (List·Memᴰ·head refl))) ne) (row-ends (λ m p. ends m (List·Memᴰ·tail p)) t)
+
+-- the same words below each page's end, and the same ends
+pub row-same : {n : ℕ} {g h : List ℕ} {fin fin′ : ℕ → ℕ} {ks vs : List ℕ}
+    → ((k x : ℕ) → List·Memᴰ k ks → k * 2 ^ n + 2 ≤ x → x < fin k → at g x ≡ at h x) → ((k : ℕ) → List·Memᴰ k ks → fin k ≡ fin′ k) → Row n g fin ks vs → Row n h fin′ ks vs
+row-same agree ends t =
+    row-ends ends (row-headers (λ x m. let F = row-in t m in let b = F .below in agree (F .page) x (F .here) (steps-le (F .steps)) (omega arith)) t)
 
 vals-once : {h : List ℕ} {hi a e : ℕ} {vs : List ℕ} → Vals h hi a e vs → Once vs
 vals-once vals-none = once-none

@@ -2,9 +2,8 @@
 use Prim.Native.Nat.{ℕ, zero, suc, _+_, _-_, _*_, _^_, _<_, _≤_}
 use native.Mathlib.Omega.{arith}
 use mathlib.Core.Path.{_≡_, refl, sym, ap, _∙_, subst}
-use mathlib.Core.Logic.{_⊎_, inl, inr}
 use mathlib.Core.Option.{none, some}
-use mathlib.Core.List.{List, [], _∷_, List·Memᴰ, List·Memᴰ·eq-of-singleton}
+use mathlib.Core.List.{List, [], List·Memᴰ, List·Memᴰ·eq-of-singleton}
 use mathlib.Core.Bool.{false≢true}
 use lib.ListN.{length}
 use Rattle.laws.specs.Lists.{at}
@@ -13,34 +12,30 @@ use Rattle.laws.proofs.Once.{once-none}
 use Rattle.rules.specs.declared.Refusal.{Refusal}
 use Rattle.rules.specs.Memory.{Store}
 use Rattle.rules.specs.Pages.{Run, begun}
-use Rattle.rules.specs.Collection.{finished, lacksPage, freshen, evacuateAll, workStack, ending, collected}
+use Rattle.rules.specs.Collection.{finished, freshen, evacuateAll, workStack, ending, collected}
 use Rattle.rules.specs.Refusals.{refused}
 use Rattle.rules.specs.Seen.{root}
-use Rattle.facts.proofs.Steps.{steps-le}
+use Rattle.rules.proofs.Steps.{steps-le}
 use Rattle.facts.proofs.Laid.{mine}
 use Rattle.facts.proofs.Copied.{Rel}
 use Rattle.facts.proofs.Sound.{Sound}
 use Rattle.working.proofs.Owned.{total}
 use Rattle.working.proofs.Log.{pointers, Log, rel-grows}
-use Rattle.working.proofs.Next.{Row, row-last, Vals, vals-none}
-use Rattle.rules.specs.Wanted.{freshenFor, rootsFor, stackFor, unbounded}
-use Rattle.working.proofs.Wanting.{follows-some, ends-finished, fresh-follows, roots-follow, stack-ends}
+use Rattle.working.proofs.Next.{Row, row-last, vals-empty}
+use Rattle.rules.specs.Wanted.{freshenFor, rootsFor, unbounded}
+use Rattle.working.proofs.Wanting.{wants-page, goes-on, follows-some, ends-finished, fresh-follows, roots-follow, stack-ends}
 use Rattle.working.proofs.Dry.{Dry, roots-dry, stack-dry}
 use Rattle.working.proofs.Invariant.{lacking-on, Ghost, Kept, Pending, Inv, Lacking}
 use Rattle.working.proofs.Fresh.{Fresh, fresh-start}
-use Rattle.working.proofs.Freshening.{freshens}
-use Rattle.working.proofs.Roots.{AllBecame, evacuates-all, works-stack}
+use Rattle.working.proofs.Freshening.{Freshens, freshens}
+use Rattle.working.proofs.Roots.{AllBecame, EvacuatesAll, WorksStack, evacuates-all, works-stack}
 use Rattle.working.proofs.Work.{Finished}
 
-total-ones : (f : ℕ → List ℕ) (m : ℕ) → ((i : ℕ) → i < m → (k : ℕ) × (f i ≡ k ∷ [])) → total f m ≡ m
+-- lists of the same length
+total-each : (f : ℕ → List ℕ) (c m : ℕ) → ((i : ℕ) → i < m → length (f i) ≡ c) → total f m ≡ m * c
 unfolding total
-total-ones f zero e = refl
-total-ones f (suc m) e = let t = e m (omega arith) in let u = total-ones f m (λ i b. e i (omega arith)) in rw (t .1) (omega arith)
-
-pub none-total : (m : ℕ) → total (λ j. []) m ≡ 0
-unfolding total
-none-total zero = refl
-none-total (suc m) = let e = none-total m in omega arith
+total-each f c zero e = omega arith
+total-each f c (suc m) e = let t = e m (omega arith) in let u = total-each f c m (λ i b. e i (omega arith)) in omega arith
 
 -- ---- nothing is copied yet
 
@@ -95,9 +90,7 @@ module _ (s : Store) (S : Sound s) (r : Run) (F : Fresh s S (s .ctl .regions) r)
   rows : (j : ℕ) → j < R → Row n (r .heap) (F .fin) (F .pages j) []
   rows j jR =
       let t = F .single j jR in
-      let v : Vals (r .heap) (t .0 * 2 ^ n + 2 ^ n) (t .0 * 2 ^ n + 2) (F .fin (t .0)) []
-      = subst (λ x. Vals (r .heap) (t .0 * 2 ^ n + 2 ^ n) (t .0 * 2 ^ n + 2) x []) (sym (t .2)) vals-none in
-      subst (λ ks. Row n (r .heap) (F .fin) ks []) (sym (t .1)) (row-last v)
+      subst (λ ks. Row n (r .heap) (F .fin) ks []) (sym (t .1)) (row-last (vals-empty (sym (t .2))))
 
   pending : Pending n R first r
   pending =
@@ -129,7 +122,7 @@ module _ (s : Store) (S : Sound s) (r : Run) (F : Fresh s S (s .ctl .regions) r)
         tallied = tallied;
         taken =
             let t = F .taken in
-            let u = total-ones (F .pages) R (λ i b. let v = F .single i b in (v .0, v .1)) in
+            let u = total-each (F .pages) 1 R (λ i b. ap length (F .single i b .1)) in
             omega arith;
         width = F .width;
         past-rows = F .past-rows;
@@ -160,7 +153,7 @@ module _ (s : Store) (S : Sound s) (r : Run) (F : Fresh s S (s .ctl .regions) r)
     pub rooted-cost : total (A .ghost .todo) (s .ctl .regions) + length (r₁ .stack) ≤ 2 * length (A .ghost .log)
     rooted-cost =
         let cost = A .later .cost in
-        let z = none-total (s .ctl .regions) in
+        let z = total-each (λ j. []) 0 (s .ctl .regions) (λ i b. refl) in
         let d : length (r .stack) ≡ 0 = ap length (F .stack) in
         omega arith
 
@@ -175,41 +168,33 @@ module _ (s : Store) (S : Sound s) (r : Run) (F : Fresh s S (s .ctl .regions) r)
           rels = λ i b. rel-grows (A .ghost .log) (G .ghost .log) (G .log) (A .rels i b);
         }
 
-module _ (s : Store) (S : Sound s) where
-  pub runs : ((collected s ≡ refused s Refusal.NoPage) × Refusing s S)
-      ⊎ ((roots : List ℕ) × (r : Run) × (collected s ≡ ending s roots (finished r)) × Ran s S roots r)
-  unfolding collected ending unbounded
-  runs = freshened (freshens s S (s .ctl .regions) 0 (begun s) (omega arith) (fresh-start s S))
-    where
-      Result : Type 0
-      Result = ((collected s ≡ refused s Refusal.NoPage) × Refusing s S) ⊎ ((roots : List ℕ) × (r : Run) × (collected s ≡ ending s roots (finished r)) × Ran s S roots r)
+-- how the four steps end on a sound heap: for want of a page, or done
+pub data Collects (s : Store) (S : Sound s) : Type 0 where
+  runs-dry : collected s ≡ refused s Refusal.NoPage → Refusing s S → Collects s S
+  runs-through : (roots : List ℕ) (r : Run) → collected s ≡ ending s roots (finished r) → Ran s S roots r → Collects s S
 
+module _ (s : Store) (S : Sound s) where
+  pub collects : Collects s S
+  unfolding collected ending unbounded
+  collects = freshened (freshens s S (s .ctl .regions) 0 (begun s) (omega arith) (fresh-start s S))
+    where
       scanned : (r : Run) (F : Fresh s S (s .ctl .regions) r) → freshen (s .ctl .n) (s .ctl .regions) 0 (begun s) ≡ some r
           → (roots : List ℕ) (r₁ : Run) → evacuateAll (s .ctl .n) (s .roots) r ≡ some (roots, r₁) → (A : AllBecame s S (first s S r F) r (s .roots) roots r₁)
-          → ((workStack (s .ctl .n) r₁ ≡ lacksPage) × Lacking s S (stackFor (s .ctl .n) r₁)) ⊎ ((r₂ : Run) × (workStack (s .ctl .n) r₁ ≡ finished r₂) × Finished s S (A .ghost) r₂) → Result
-      scanned r F e roots r₁ e₁ A (inl u) = inl (rw (e, collected, e₁, u .0), out (lacking-on (λ y. rw (fresh-is s S r F e, roots-follow (s .ctl .n) (s .roots) roots r r₁ e₁) y) (u .1)))
-      scanned r F e roots r₁ e₁ A (inr u) =
-          inr (roots, u .0, rw (e, collected, e₁, u .1), ran s S r F e roots r₁ A e₁ (u .0) (u .1) (u .2))
+          → WorksStack s S (A .ghost) r₁ → Collects s S
+      scanned r F e roots r₁ e₁ A (wants-page q L) = runs-dry (rw (e, collected, e₁, q)) (out (lacking-on (λ y. rw (fresh-is s S r F e, roots-follow (s .ctl .n) (s .roots) roots r r₁ e₁) y) L))
+      scanned r F e roots r₁ e₁ A (goes-on r₂ q G) = runs-through roots r₂ (rw (e, collected, e₁, q)) (ran s S r F e roots r₁ A e₁ r₂ q G)
 
       rooted : (r : Run) (F : Fresh s S (s .ctl .regions) r) → freshen (s .ctl .n) (s .ctl .regions) 0 (begun s) ≡ some r
-          → ((evacuateAll (s .ctl .n) (s .roots) r ≡ none) × Lacking s S (rootsFor (s .ctl .n) (s .roots) r))
-          ⊎ ((roots : List ℕ) × (r₁ : Run) × (evacuateAll (s .ctl .n) (s .roots) r ≡ some (roots, r₁)) × AllBecame s S (first s S r F) r (s .roots) roots r₁) → Result
-      rooted r F e (inl u) = inl (rw (e, collected, u .0), out (lacking-on (λ y. rw (fresh-is s S r F e) (stack-dry (s .ctl .n) (length (s .heap) + 2 ^ s .ctl .n) (rootsFor (s .ctl .n) (s .roots) r) y)) (u .1)))
-      rooted r F e (inr u) =
-          let A = u .3 in
-          scanned r F e (u .0) (u .1) (u .2) A (works-stack s S (A .ghost) (u .1) (A .inv) (A .later .cur) (A .later .half) (rooted-cost s S r F e (u .0) (u .1) A))
+          → EvacuatesAll s S (first s S r F) r (s .roots) → Collects s S
+      rooted r F e (wants-page q L) = runs-dry (rw (e, collected, q)) (out (lacking-on (λ y. rw (fresh-is s S r F e) (stack-dry (s .ctl .n) (length (s .heap) + 2 ^ s .ctl .n) (rootsFor (s .ctl .n) (s .roots) r) y)) L))
+      rooted r F e (goes-on (roots, r₁) q A) =
+          scanned r F e roots r₁ q A (works-stack s S (A .ghost) r₁ (A .inv) (A .later .cur) (A .later .half) (rooted-cost s S r F e roots r₁ A))
 
-      freshened : ((freshen (s .ctl .n) (s .ctl .regions) 0 (begun s) ≡ none) × (s .ctl .count < s .ctl .regions)
-          × Dry (length (s .heap) + 2 ^ s .ctl .n) (freshenFor (s .ctl .n) (s .ctl .regions) 0 (begun s)))
-          ⊎ ((r : Run) × (freshen (s .ctl .n) (s .ctl .regions) 0 (begun s) ≡ some r) × Fresh s S (s .ctl .regions) r) → Result
-      freshened (inl u) =
-          inl (
-            rw (u .0, collected),
-            few (u .1)
-                (stack-dry (s .ctl .n) (length (s .heap) + 2 ^ s .ctl .n) (rootsFor (s .ctl .n) (s .roots) (freshenFor (s .ctl .n) (s .ctl .regions) 0 (begun s)))
-                (roots-dry (s .ctl .n) (length (s .heap) + 2 ^ s .ctl .n) (s .roots) (freshenFor (s .ctl .n) (s .ctl .regions) 0 (begun s)) (u .2))),
-          )
-      freshened (inr u) =
-          let r = u .0 in
-          let F = u .2 in
-          rooted r F (u .1) (evacuates-all s S (s .roots) (first s S r F) r (first-inv s S r F) (S .roots) (λ i b. root i b))
+      freshened : Freshens s S (s .ctl .regions) 0 (begun s) → Collects s S
+      freshened (wants-page q (b, dry)) =
+          runs-dry (rw (q, collected))
+          (few b
+          (stack-dry (s .ctl .n) (length (s .heap) + 2 ^ s .ctl .n) (rootsFor (s .ctl .n) (s .roots) (freshenFor (s .ctl .n) (s .ctl .regions) 0 (begun s)))
+          (roots-dry (s .ctl .n) (length (s .heap) + 2 ^ s .ctl .n) (s .roots) (freshenFor (s .ctl .n) (s .ctl .regions) 0 (begun s)) dry)))
+      freshened (goes-on r q F) =
+          rooted r F q (evacuates-all s S (s .roots) (first s S r F) r (first-inv s S r F) (S .roots) (λ i b. root i b))

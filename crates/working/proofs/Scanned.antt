@@ -10,7 +10,7 @@ use lib.ListN.{length, set}
 use lib.Seq.{getD-set-same, getD-set-other}
 use Rattle.rules.specs.Memory.{Store}
 use Rattle.laws.specs.Lists.{at}
-use Rattle.facts.proofs.Steps.{Stands, Steps, steps-le, stands-same, apart}
+use Rattle.rules.proofs.Steps.{Stands, Steps, steps-le, stands-same, apart}
 use Rattle.facts.proofs.Inside.{other-page, steps-still}
 use Rattle.facts.proofs.Laid.{upd, upd-same, upd-other, Owner, old, mine, old-mine-apart}
 use Rattle.facts.proofs.Copied.{Moved, to, Rel}

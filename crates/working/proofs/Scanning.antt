@@ -3,7 +3,6 @@
 use Prim.Native.Nat.{ℕ, zero, suc, _+_, _*_, _^_, _<_}
 use native.Mathlib.Omega.{arith}
 use mathlib.Core.Path.{_≡_, refl, ap, _∙_, subst}
-use mathlib.Core.Logic.{_⊎_, inl, inr}
 use mathlib.Core.Bool.{true}
 use mathlib.Core.Option.{none, some}
 use mathlib.Core.List.{List·Memᴰ}
@@ -16,16 +15,16 @@ use Rattle.rules.specs.Pages.{Run, withHeap}
 use Rattle.rules.specs.Collection.{evacuate, scanFields}
 use Rattle.rules.specs.Calls.{lookIn, headerIn, fieldsIn}
 use Rattle.rules.specs.Seen.{seen, Reached, field}
-use Rattle.facts.proofs.Steps.{record-length}
+use Rattle.rules.proofs.Steps.{record-length}
 use Rattle.facts.proofs.Laid.{upd-same}
 use Rattle.facts.proofs.Copied.{to}
-use Rattle.facts.proofs.Looked.{look-at, words-head}
-use Rattle.facts.proofs.Sound.{Good, Sound, descriptor-fits}
+use Rattle.facts.proofs.Looked.{heap-seen, words-head}
+use Rattle.facts.proofs.Sound.{Good, Sound}
 use Rattle.working.proofs.Log.{Copy}
 use Rattle.rules.specs.Wanted.{evacuateFor, fieldSet, fieldsFor}
-use Rattle.working.proofs.Wanting.{follows-some, evacuate-follows}
+use Rattle.working.proofs.Wanting.{Goes, wants-page, goes-on, follows-some, evacuate-follows}
 use Rattle.working.proofs.Dry.{Dry, field-dry, fields-dry}
-use Rattle.working.proofs.Invariant.{lacking-on, Ghost, Kept, Inv, old-in, copy-known, Later, later-trans, Lacking, Became}
+use Rattle.working.proofs.Invariant.{lacking-on, lacks-as, Ghost, Kept, Inv, copied-in, copy-was, Later, later-trans, Lacking, Became, Evacuates}
 use Rattle.working.proofs.Evacuation.{evacuates}
 use Rattle.working.proofs.Fielding.{counted, field-inv}
 
@@ -43,7 +42,7 @@ module _ (s : Store) (S : Sound s) (g : Ghost) (r : Run) (I : Inv s S g r) (c d 
   C = I .logged .copies m
 
   pub seen-old : lookIn s (4 * c) ≡ take (suc (C .len)) (drop c (s .heap))
-  seen-old = look-at s (C .from) c (C .len) (descriptor-fits s S) (old-in I (C .from) (C .from-old)) (C .from-steps) (C .from-stands) (C .region) (copy-known I m) (C .from-whose)
+  seen-old = heap-seen s (S .within .paged) c (copy-was I m)
 
   module _ (kind : isRecord (at (s .heap) c) ≡ true) (f : ℕ) (f-in : f < C .len) where
     pub field-good : Good n R (s .heap) (s .consts) (at (s .heap) (c + suc f))
@@ -53,9 +52,7 @@ module _ (s : Store) (S : Sound s) (g : Ghost) (r : Run) (I : Inv s S g r) (c d 
 
     pub field-reached : Reached (seen s) (s .roots) (at (s .heap) (c + suc f))
     field-reached =
-        let inside = old-in I (C .from) (C .from-old) in
-        let ends = C .from-stands .ends in
-        let len = part-length (s .heap) c (suc (C .len)) (omega arith) in
+        let len = part-length (s .heap) c (suc (C .len)) (copied-in I m) in
         let e : at (lookIn s (4 * c)) (suc f) ≡ at (s .heap) (c + suc f) = ap (λ v. at v (suc f)) seen-old ∙ word-in (s .heap) c (suc (C .len)) (suc f) (omega arith) in
         let k : isRecord (headerIn (lookIn s (4 * c))) ≡ true
         = ap (λ v. isRecord (headerIn v)) seen-old ∙ ap isRecord (words-head (s .heap) c (C .len)) ∙ kind in
@@ -123,11 +120,11 @@ module _ (s : Store) (S : Sound s) (g₀ : Ghost) (r₀ : Run) (c d l : ℕ) whe
         }
 
     abbrev Result : Run → ℕ → ℕ → Type 0
-    Result r m i = ((scanFields (s .ctl .n) m (d + suc i) r ≡ none) × Lacking s S (fieldsFor (s .ctl .n) m (d + suc i) r)) ⊎ ((r′ : Run) × (scanFields (s .ctl .n) m (d + suc i) r ≡ some r′) × Ready r′ l)
+    Result r m i = Goes none some (scanFields (s .ctl .n) m (d + suc i) r) (Lacking s S (fieldsFor (s .ctl .n) m (d + suc i) r)) (λ r′. Ready r′ l)
 
     pub scans-fields : (m : ℕ) (r : Run) (i : ℕ) → i + m ≡ l → Ready r i → Result r m i
     unfolding scanFields fieldsFor
-    scans-fields zero r i e Q = let q : i ≡ l = omega arith in inr (r, refl, rw q at Q)
+    scans-fields zero r i e Q = let q : i ≡ l = omega arith in goes-on r refl (rw q at Q)
     scans-fields (suc m) r i e Q =
         let I = Q .inv in
         let z = len-is Q in
@@ -146,11 +143,6 @@ module _ (s : Store) (S : Sound s) (g₀ : Ghost) (r₀ : Run) (c d l : ℕ) whe
             let t : suc (d + suc i) ≡ d + suc (suc i) = omega arith in
             rw (w-is, e) (ap (λ x. fieldsFor (s .ctl .n) m x (withHeap r′ (set (r′ .heap) (d + suc i) v))) t)
 
-        up : (r′ : Run) → scanFields (s .ctl .n) (suc m) (d + suc i) r ≡ scanFields (s .ctl .n) m (d + suc (suc i)) r′
-            → fieldsFor (s .ctl .n) (suc m) (d + suc i) r ≡ fieldsFor (s .ctl .n) m (d + suc (suc i)) r′ → Result r′ m (suc i) → Result r (suc m) i
-        up r′ q t (inl u) = inl (q ∙ u .0, lacking-on (λ y. rw t y) (u .1))
-        up r′ q t (inr u) = inr (u .0, q ∙ u .1, u .2)
-
         long : ℕ
         long = length (s .heap) + 2 ^ s .ctl .n
 
@@ -161,10 +153,8 @@ module _ (s : Store) (S : Sound s) (g₀ : Ghost) (r₀ : Run) (c d l : ℕ) whe
             (field-dry (s .ctl .n) long (d + suc i) (evacuateFor (s .ctl .n) (at (r .heap) (d + suc i)) r) y′)
 
         go : ((r′ : Run) → Ready r′ (suc i) → Result r′ m (suc i))
-            → ((evacuate (s .ctl .n) (at (s .heap) (c + suc i)) r ≡ none) × Lacking s S (evacuateFor (s .ctl .n) (at (s .heap) (c + suc i)) r .1))
-            ⊎ ((v : ℕ) × (r′ : Run) × (evacuate (s .ctl .n) (at (s .heap) (c + suc i)) r ≡ some (v, r′)) × Became s S (Q .ghost) r (at (s .heap) (c + suc i)) v r′)
+            → Evacuates s S (Q .ghost) r (at (s .heap) (c + suc i)) (evacuate (s .ctl .n) (at (s .heap) (c + suc i)) r) (evacuateFor (s .ctl .n) (at (s .heap) (c + suc i)) r .1)
             → Result r (suc m) i
-        go rest (inl q) =
-            inl (field-lacks m (omega arith) Q (q .0), lacking-on on (q .1))
-        go rest (inr u) =
-            up _ (field-scans m (omega arith) Q (u .0) (u .1) (u .2)) (step-for (u .0) (u .1) (u .2)) (rest (withHeap (u .1) (set (u .1 .heap) (d + suc i) (u .0))) (stepped (omega arith) Q (u .0) (u .1) (u .3)))
+        go rest (wants-page q L) = wants-page (field-lacks m (omega arith) Q q) (lacking-on on L)
+        go rest (goes-on (v, r′) q B) =
+            lacks-as (field-scans m (omega arith) Q v r′ q) (step-for v r′ q) (λ r″ R. R) (rest (withHeap r′ (set (r′ .heap) (d + suc i) v)) (stepped (omega arith) Q v r′ B))

@@ -7,7 +7,7 @@ use native.Mathlib.Decide.{ℕ-discrete}
 use mathlib.Core.Path.{_≡_, refl, sym, _∙_}
 use mathlib.Core.Logic.{_≢_}
 use mathlib.Core.Option.{none, some}
-use mathlib.Core.List.{List, [], _∷_, List·Memᴰ, List·Memᴰ·head, List·Memᴰ·tail}
+use mathlib.Core.List.{List, [], _∷_, List·Memᴰ, List·Memᴰ·tail}
 use lib.ListN.{length, set, length-set}
 use lib.Seq.{getD-set-same, getD-set-other}
 pub use Rattle.laws.proofs.Once.{linked-first, linked-none, linked-snoc, last-snoc, last-one, last-is, in-snoc, once-snoc}
@@ -16,9 +16,9 @@ use Rattle.laws.specs.Lists.{at, lastOr}
 use Rattle.rules.specs.Audit.{lastLink}
 use Rattle.rules.specs.Pages.{Run, takePage, withFree, lastIf}
 use Rattle.laws.proofs.Lists.{set-elsewhere}
-use Rattle.facts.proofs.Steps.{here}
+use Rattle.rules.proofs.Steps.{here}
 use Rattle.laws.proofs.Once.{once-tail, once-head}
-use Rattle.facts.proofs.Laid.{mine-inj, spare≢mine, spare≢beyond, upd, upd-same, upd-other, last-in, linked-same, Owner, spare, mine, Body, Clean, Like, body-like, clean-like, Layout, page-in, like-kept, link-kept, chain-apart, upd-known}
+use Rattle.facts.proofs.Laid.{mine-inj, spare≢mine, spare≢beyond, upd, upd-same, upd-other, last-in, linked-same, Owner, spare, mine, Body, Clean, Like, body-like, clean-like, Layout, page-in, like-kept, link-kept, chain-apart, upd-known, first-spare}
 
 -- the run after page k is taken
 unfoldable pub taken : ℕ → ℕ → ℕ → Run → Run
@@ -44,7 +44,7 @@ takes-none n j r e = rw (e, takePage)
 
 module _ (n N R : ℕ) (own : ℕ → Owner) (fin : ℕ → ℕ) (pages : ℕ → List ℕ) (k : ℕ) (ks : List ℕ) (r : Run) (L : Layout n N R own fin pages (k ∷ ks) r) (j : ℕ) where
   own-k : own k ≡ spare
-  own-k = L .free-own k (List·Memᴰ·head refl)
+  own-k = first-spare L
 
   abbrev pub P : ℕ
   P = 2 ^ n

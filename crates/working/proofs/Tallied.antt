@@ -5,8 +5,8 @@ use mathlib.Core.Path.{_≡_, sym, ap, _∙_}
 use mathlib.Core.Logic.{_≢_}
 use mathlib.Core.List.{List, [], _∷_, _++_, List·Memᴰ}
 use Rattle.laws.specs.Sums.{sumOver}
-use Rattle.laws.proofs.Once.{Once}
-use Rattle.laws.proofs.Sums.{sum-same, sum-append, sum-more}
+use Rattle.laws.proofs.Once.{Once, sum-more}
+use Rattle.laws.proofs.Sums.{sum-same, sum-append}
 use Rattle.working.proofs.Invariant.{filledTo}
 
 module _ (n : ℕ) (fin fin₂ : ℕ → ℕ) (ks : List ℕ) where

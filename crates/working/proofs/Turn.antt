@@ -4,7 +4,7 @@ use Prim.Native.Nat.{ℕ, suc, _+_, _*_, _≤_, _<_}
 use native.Mathlib.Omega.{arith}
 use native.Mathlib.Decide.{ℕ-discrete}
 use mathlib.Core.Path.{_≡_, refl, sym, ap, _∙_, subst}
-use mathlib.Core.Logic.{_≢_, _⊎_, inl, inr}
+use mathlib.Core.Logic.{_≢_}
 use mathlib.Core.Option.{none, some, Option·none-ne-some}
 use mathlib.Core.List.{List, [], _∷_, _++_, append-assoc, List·Memᴰ, List·Memᴰ·head, List·Memᴰ·tail, Memᴰ·append-right}
 use mathlib.Core.Bool.{false≢true}
@@ -12,8 +12,9 @@ use lib.ListN.{length}
 use Rattle.laws.specs.Lists.{at}
 use Rattle.laws.proofs.Once.{Once, once-more, once-tail, in-tail}
 use Rattle.rules.specs.Memory.{Store, statusOf}
-use Rattle.rules.specs.Words.{Head, rec, raw, moved, wrong, headOf, lengthBy}
+use Rattle.rules.specs.Words.{rec, raw, headOf}
 use Rattle.rules.specs.Pages.{Scan, Run}
+use Rattle.rules.proofs.Pointers.{Heads, a-record, raw-words, head-is}
 use Rattle.rules.specs.Collection.{scanFields, scanValue}
 use Rattle.facts.proofs.Laid.{mine, upd, upd-same, upd-other}
 use Rattle.facts.proofs.Copied.{Moved, to}
@@ -22,7 +23,8 @@ use Rattle.working.proofs.Owned.{mine-inj, total, total-tail}
 use Rattle.working.proofs.Next.{Row}
 use Rattle.working.proofs.Rows.{InRow, row-in, row-once, pages-differ}
 use Rattle.rules.specs.Wanted.{fieldsFor, valueFor}
-use Rattle.working.proofs.Invariant.{waits-still, waiting, waiting-inv, lacking-on, Ghost, Waits, Pending, Inv, Later, later-refl, Lacking}
+use Rattle.working.proofs.Wanting.{Goes, goes-on}
+use Rattle.working.proofs.Invariant.{waits-still, waiting, waiting-inv, lacks-as, Ghost, Waits, Pending, Inv, Later, later-refl, Lacking}
 use Rattle.working.proofs.Scanning.{Ready, scans-fields}
 
 -- the copy at b, the first that waits in region j, is being scanned; ts wait behind it
@@ -158,6 +160,9 @@ pub record Turned (s : Store) (S : Sound s) (g : Ghost) (r : Run) (j b : ℕ) (r
   pub log : (x : Moved) → List·Memᴰ x (g .log) → List·Memᴰ x (ghost .log)
   pub cost : total (ghost .todo) (s .ctl .regions) + length (r′ .stack) + suc (2 * length (g .log)) ≤ total (g .todo) (s .ctl .regions) + length (r .stack) + 2 * length (ghost .log)
 
+abbrev pub Turns : (s : Store) → Sound s → Ghost → Run → ℕ → ℕ → Type 0
+Turns s S g r j b = Goes none some (scanValue (s .ctl .n) b r) (Lacking s S (valueFor (s .ctl .n) b r)) (λ r′. Turned s S g r j b r′)
+
 module _ (s : Store) (S : Sound s) (g : Ghost) (r : Run) (I : Inv s S g r) (j b : ℕ) (ts : List ℕ) (cur : g .cur ≡ some j) (todo : g .todo j ≡ b ∷ ts) (none-open : g .half ≡ none) where
   abbrev pub c : ℕ
   c = b-entry s S g r I j b ts cur todo none-open .0
@@ -212,21 +217,19 @@ module _ (s : Store) (S : Sound s) (g : Ghost) (r : Run) (I : Inv s S g r) (j b 
         let w = Q .next in
         omega arith
 
-  by-head : (y : Head) → headOf (at (r .heap) b) ≡ y → ((scanValue (s .ctl .n) b r ≡ none) × Lacking s S (valueFor (s .ctl .n) b r)) ⊎ ((r′ : Run) × (scanValue (s .ctl .n) b r ≡ some r′) × Turned s S g r j b r′)
+  abbrev l : ℕ
+  l = I .logged .copies m .len
+
+  by-head : Heads (headOf (at (r .heap) b)) l → Turns s S g r j b
   unfolding scanValue valueFor
-  by-head (raw l) e =
-      inr (r, rw (e, scanValue), turned start (later-refl _ _ _) (λ k q. let z : raw l ≡ rec k = sym e ∙ q in absurd (false≢true cc)))
-  by-head (rec l) e = go (scans-fields s S (opened g j b ts) r c b l (ap headOf (sym header) ∙ e) l r 0 (omega arith) (ready l e))
+  by-head (raw-words e) =
+      goes-on r (rw (e, scanValue)) (turned start (later-refl _ _ _) (λ k q. let z : raw l ≡ rec k = sym e ∙ q in absurd (false≢true cc)))
+  by-head (a-record e) =
+      lacks-as (scan-is l e) is-for (λ r′ Q. turned (Q .inv) (Q .later) (full l e r′ Q))
+      (scans-fields s S (opened g j b ts) r c b l (ap headOf (sym header) ∙ e) l r 0 (omega arith) (ready l e))
     where
       is-for : valueFor (s .ctl .n) b r ≡ fieldsFor (s .ctl .n) l (b + suc 0) r
       is-for = let q : suc b ≡ b + suc 0 = omega arith in rw (e, valueFor) (ap (λ x. fieldsFor (s .ctl .n) l x r) q)
 
-      go : ((scanFields (s .ctl .n) l (b + suc 0) r ≡ none) × Lacking s S (fieldsFor (s .ctl .n) l (b + suc 0) r)) ⊎ ((r′ : Run) × (scanFields (s .ctl .n) l (b + suc 0) r ≡ some r′) × Ready s S (opened g j b ts) r c b l r′ l)
-          → ((scanValue (s .ctl .n) b r ≡ none) × Lacking s S (valueFor (s .ctl .n) b r)) ⊎ ((r′ : Run) × (scanValue (s .ctl .n) b r ≡ some r′) × Turned s S g r j b r′)
-      go (inl u) = inl (scan-is l e ∙ u .0, lacking-on (λ y. rw is-for y) (u .1))
-      go (inr u) = inr (u .0, scan-is l e ∙ u .1, turned (u .2 .inv) (u .2 .later) (full l e (u .0) (u .2)))
-  by-head (moved k) e = absurd (Option·none-ne-some _ (sym (ap lengthBy e) ∙ I .logged .copies m .into-stands .head))
-  by-head wrong e = absurd (Option·none-ne-some _ (sym (ap lengthBy e) ∙ I .logged .copies m .into-stands .head))
-
-  pub scans-value : ((scanValue (s .ctl .n) b r ≡ none) × Lacking s S (valueFor (s .ctl .n) b r)) ⊎ ((r′ : Run) × (scanValue (s .ctl .n) b r ≡ some r′) × Turned s S g r j b r′)
-  scans-value = by-head (headOf (at (r .heap) b)) refl
+  pub scans-value : Turns s S g r j b
+  scans-value = by-head (head-is (headOf (at (r .heap) b)) l (I .logged .copies m .into-stands .head))

@@ -1,6 +1,6 @@
 -- The views before and after: the collection leaves a copy. A constant is what it was; a moved value has its old header and length, its raw
 -- words are the old ones, and each field of a record stands for the old field.
-use Prim.Native.Nat.{ℕ, zero, suc, _+_, _*_, _≤_, _<_, zero-le}
+use Prim.Native.Nat.{ℕ, zero, suc, _+_, _*_, _≤_, _<_}
 use native.Mathlib.Omega.{arith}
 use mathlib.Core.Path.{_≡_, refl, sym, ap, _∙_, subst}
 use mathlib.Core.Logic.{_≢_}
@@ -14,17 +14,16 @@ use Rattle.rules.specs.Memory.{Store}
 use Rattle.rules.specs.Words.{wordOf, rec, raw, headOf, recordBy, isRecord}
 use Rattle.rules.specs.Pages.{Run}
 use Rattle.rules.specs.Calls.{lookIn, isNumber}
-use Rattle.rules.specs.Seen.{homeIn, seen}
+use Rattle.rules.specs.Seen.{homeIn, seen, Reached}
 use Rattle.facts.proofs.Copied.{Moved, to, Rel, num, stay, OneValue, Copied}
 use Rattle.rules.proofs.Pointers.{pointer, record-head, raw-head}
-use Rattle.facts.proofs.Looked.{look-at, home-at, seen-plain, words-head}
-use Rattle.facts.proofs.Sound.{GoodConst, number-there, const-there, Sound, descriptor-fits}
-use Rattle.facts.proofs.Goods.{const-seen, const-home}
-use Rattle.working.proofs.Log.{pointers, Copy, of-pointers}
-use Rattle.working.proofs.Invariant.{Kept, old-in, copy-known}
+use Rattle.facts.proofs.Looked.{heap-seen, heap-home, const-seen, const-home, seen-plain, words-head}
+use Rattle.facts.proofs.Sound.{GoodConst, number-there, const-there, Sound}
+use Rattle.working.proofs.Log.{pointers, Copy, of-pointers, of-each}
+use Rattle.working.proofs.Invariant.{Kept, copied-in, copy-was}
 use Rattle.working.proofs.Scanning.{seen-old}
 use Rattle.working.proofs.Running.{Ran}
-use Rattle.working.proofs.Ending.{back, left-store, copy-word, copy-steps, copy-stands, copy-inside, copy-whose, copy-scanned}
+use Rattle.working.proofs.Ending.{back, left-store, left-sound, copy-word, copy-head, copy-inside, copy-good, copy-scanned}
 
 module _ (s : Store) (S : Sound s) (roots : List ℕ) (r : Run) (A : Ran s S roots r) where
   abbrev n : ℕ
@@ -86,19 +85,13 @@ module _ (s : Store) (S : Sound s) (roots : List ℕ) (r : Run) (A : Ran s S roo
     value-before = seen-old s S (A .end .ghost) r (A .end .inv) a b m
 
     value-after : lookIn s′ (4 * b) ≡ take (suc (D .len)) (drop b (back s S roots r A .heap))
-    value-after =
-        look-at s′ (D .into) b (D .len) (descriptor-fits s S) (copy-inside s S roots r A a b m) (copy-steps s S roots r A a b m) (copy-stands s S roots r A a b m)
-        (D .region) (copy-known (A .end .inv) m) (copy-whose s S roots r A a b m)
+    value-after = heap-seen s′ (left-sound s S roots r A .within .paged) b (copy-good s S roots r A a b m)
 
-    pub home-before : homeIn s (4 * a) ≡ suc (D .region)
-    home-before =
-        home-at s (D .from) a (D .len) (descriptor-fits s S) (old-in (A .end .inv) (D .from) (D .from-old)) (D .from-steps) (D .from-stands)
-        (D .region) (copy-known (A .end .inv) m) (D .from-whose)
+    home-before : homeIn s (4 * a) ≡ suc (D .region)
+    home-before = heap-home s (S .within .paged) a (copy-was (A .end .inv) m)
 
     home-after : homeIn s′ (4 * b) ≡ suc (D .region)
-    home-after =
-        home-at s′ (D .into) b (D .len) (descriptor-fits s S) (copy-inside s S roots r A a b m) (copy-steps s S roots r A a b m) (copy-stands s S roots r A a b m)
-        (D .region) (copy-known (A .end .inv) m) (copy-whose s S roots r A a b m)
+    home-after = heap-home s′ (left-sound s S roots r A .within .paged) b (copy-good s S roots r A a b m)
 
     abbrev h : List ℕ
     h = s .heap
@@ -106,14 +99,11 @@ module _ (s : Store) (S : Sound s) (roots : List ℕ) (r : Run) (A : Ran s S roo
     abbrev h′ : List ℕ
     h′ = back s S roots r A .heap
 
-    in-before : a + suc (D .len) ≤ length h
-    in-before = let x = old-in (A .end .inv) (D .from) (D .from-old) in let y = D .from-stands .ends in omega arith
-
     in-after : b + suc (D .len) ≤ length h′
     in-after = let x = copy-inside s S roots r A a b m in let y = D .into-stands .ends in omega arith
 
     same-head : at h′ b ≡ at h a
-    same-head = ap (at h′) (omega arith) ∙ copy-word s S roots r A a b m 0 zero-le ∙ ap (at (r .heap)) (omega arith) ∙ D .head
+    same-head = copy-head s S roots r A a b m ∙ D .head
 
     fields : isRecord (at h a) ≡ true → (f : ℕ) → f < D .len → R (at h (a + suc f)) (at h′ (b + suc f))
     unfolding isRecord
@@ -133,7 +123,7 @@ module _ (s : Store) (S : Sound s) (roots : List ℕ) (r : Run) (A : Ran s S roo
 
     text : isRecord (at h a) ≡ false → take (suc (D .len)) (drop a h) ≡ take (suc (D .len)) (drop b h′)
     text kind =
-        let x = part-length h a (suc (D .len)) in-before in
+        let x = part-length h a (suc (D .len)) (copied-in (A .end .inv) m) in
         let y = part-length h′ b (suc (D .len)) in-after in
         ext-getD 0 _ _ (x ∙ sym y)
         (λ i q. word-in h a (suc (D .len)) i (omega arith) ∙ each i (omega arith) ∙ sym (word-in h′ b (suc (D .len)) i (omega arith)))
@@ -144,7 +134,7 @@ module _ (s : Store) (S : Sound s) (roots : List ℕ) (r : Run) (A : Ran s S roo
 
     moved-same : OneValue (seen s) (seen s′) R (4 * a) (4 * b)
     moved-same =
-        let x = part-length h a (suc (D .len)) in-before in
+        let x = part-length h a (suc (D .len)) (copied-in (A .end .inv) m) in
         let y = part-length h′ b (suc (D .len)) in-after in
         let p = words-head h a (D .len) in
         let q = words-head h′ b (D .len) in
@@ -173,10 +163,7 @@ module _ (s : Store) (S : Sound s) (roots : List ℕ) (r : Run) (A : Ran s S roo
   four e = omega arith
 
   moves : {v w : ℕ} → List·Memᴰ (to v w) log → OneValue (seen s) (seen s′) R v w × (homeIn s v ≢ 0)
-  moves {v} {w} m = let t = of-pointers (A .end .ghost .log) m in go (t .0) (t .1) (t .2) (t .3) (t .4)
-    where
-      go : (a b : ℕ) → v ≡ 4 * a → w ≡ 4 * b → List·Memᴰ (to a b) (A .end .ghost .log) → OneValue (seen s) (seen s′) R v w × (homeIn s v ≢ 0)
-      go a b p q t = rw (p, q) (moved-same a b t, has-home a b t)
+  moves m = of-each (λ v w. OneValue (seen s) (seen s′) R v w × (homeIn s v ≢ 0)) (A .end .ghost .log) m (λ a b t. (moved-same a b t, has-home a b t))
 
   one-new : {v w w′ : ℕ} → List·Memᴰ (to v w) log → List·Memᴰ (to v w′) log → w ≡ w′
   one-new m m′ =
@@ -203,5 +190,5 @@ module _ (s : Store) (S : Sound s) (roots : List ℕ) (r : Run) (A : Ran s S roo
         moving = moves;
         one-new = one-new;
         one-old = one-old;
-        live = λ m. let t = of-pointers (A .end .ghost .log) m in rw (t .2) (A .end .inv .logged .live (t .4));
+        live = λ m. of-each (λ v w. Reached (seen s) (s .roots) v) (A .end .ghost .log) m (λ a b t. A .end .inv .logged .live t);
       }

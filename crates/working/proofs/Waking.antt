@@ -1,12 +1,12 @@
 -- A copy put into region j: its region is woken, or was awake; what waits stays in order. Only the region's status and the top of the
 -- stack change, and the copy is the last of its region's copies to be scanned.
-use Prim.Native.Nat.{ℕ, zero, suc, _+_, _*_, _≤_, _<_}
+use Prim.Native.Nat.{ℕ, suc, _+_, _*_, _≤_, _<_}
 use native.Mathlib.Omega.{arith}
 use native.Mathlib.Decide.{ℕ-discrete}
 use mathlib.Core.Path.{_≡_, refl, sym, ap, _∙_}
 use mathlib.Core.Logic.{_≢_, _⊎_, inl, inr}
 use mathlib.Core.Option.{some}
-use mathlib.Core.List.{List, [], _∷_, _++_, List·Memᴰ, List·Memᴰ·head, List·Memᴰ·tail, List·Memᴰ·cases-cons, List·Memᴰ·not-nil}
+use mathlib.Core.List.{List, [], _∷_, _++_, List·Memᴰ, List·Memᴰ·head, List·Memᴰ·tail, List·Memᴰ·cases-cons, Memᴰ·map, Memᴰ·of-map}
 use lib.ListN.{length, length-set}
 use lib.Seq.{getD-set-same, getD-set-other}
 use Rattle.laws.specs.Lists.{at}
@@ -14,10 +14,16 @@ use Rattle.laws.proofs.Once.{Once, once-more}
 use Rattle.rules.specs.Memory.{statusOf}
 use Rattle.rules.specs.Pages.{Scan, Run}
 use Rattle.rules.specs.Collection.{wake}
+use Rattle.working.proofs.Aside.{wake-by}
 use Rattle.working.proofs.Invariant.{Ghost, regionsOf, Waits, Pending}
 
 abbrev pub entry : ℕ → ℕ → Scan
 entry j b = record { region = j; address = b }
+
+-- the region slept and is on top of the stack now, or was awake and the stack is as it was
+pub data Stacked (j b : ℕ) (r r′ : Run) : Type 0 where
+  slept : statusOf (r .table) j ≡ 0 → r′ .stack ≡ entry j b ∷ r .stack → Stacked j b r r′
+  was-awake : statusOf (r .table) j ≢ 0 → r′ .stack ≡ r .stack → Stacked j b r r′
 
 -- region j woken for the copy at b
 pub record Woken (j b : ℕ) (r r′ : Run) : Type 0 where
@@ -25,43 +31,32 @@ pub record Woken (j b : ℕ) (r r′ : Run) : Type 0 where
   pub width : length (r′ .table) ≡ length (r .table)
   pub row : (x : ℕ) → x ≢ 4 * j + 3 → at (r′ .table) x ≡ at (r .table) x
   pub awake : statusOf (r′ .table) j ≢ 0
-  pub how : ((statusOf (r .table) j ≡ 0) × (r′ .stack ≡ entry j b ∷ r .stack)) ⊎ ((statusOf (r .table) j ≢ 0) × (r′ .stack ≡ r .stack))
+  pub how : Stacked j b r r′
 
 pub wakes : (n j b : ℕ) (r : Run) → 4 * j + 3 < length (r .table) → Woken j b r (wake n j b r)
-unfolding wake
-wakes n j b r inside = go (statusOf (r .table) j) refl
-  where
-    go : (c : ℕ) → statusOf (r .table) j ≡ c → Woken j b r (wake n j b r)
-    go zero e =
-        rw (e, wake)
-        (record {
-          heap = refl;
-          width = length-set (r .table) (4 * j + 3) 1;
-          row = λ x ne. getD-set-other (r .table) (4 * j + 3) x 1 0 ne;
-          awake = λ q. let t = getD-set-same (r .table) (4 * j + 3) 1 0 inside in omega arith;
-          how = inl (e, refl);
-        })
-    go (suc c) e =
-        rw (e, wake)
-        (record { heap = refl; width = refl; row = λ x ne. refl; awake = λ q. omega arith; how = inr (λ q. omega arith, refl) })
+wakes n j b r inside =
+    wake-by n j b r (Woken j b r)
+    (λ e.
+    record {
+      heap = refl;
+      width = length-set (r .table) (4 * j + 3) 1;
+      row = λ x ne. getD-set-other (r .table) (4 * j + 3) x 1 0 ne;
+      awake = λ q. let t = getD-set-same (r .table) (4 * j + 3) 1 0 inside in omega arith;
+      how = slept e refl;
+    })
+    (λ ne. record { heap = refl; width = refl; row = λ x f. refl; awake = ne; how = was-awake ne refl })
 
 pub in-regions : {t : Scan} {ts : List Scan} → List·Memᴰ t ts → List·Memᴰ (t .region) (regionsOf ts)
-in-regions (List·Memᴰ·head e) = List·Memᴰ·head (ap (λ (t : Scan). t .region) e)
-in-regions (List·Memᴰ·tail m) = List·Memᴰ·tail (in-regions m)
+in-regions m = Memᴰ·map (λ (t : Scan). t .region) m
 
 pub of-regions : {j : ℕ} (ts : List Scan) → List·Memᴰ j (regionsOf ts) → (t : Scan) × List·Memᴰ t ts × (j ≡ t .region)
-of-regions [] m = absurd (List·Memᴰ·not-nil m)
-of-regions {j} (t ∷ ts) m = go (List·Memᴰ·cases-cons m) (λ q. of-regions ts q)
-  where
-    go : (j ≡ t .region) ⊎ List·Memᴰ j (regionsOf ts) → (List·Memᴰ j (regionsOf ts) → (u : Scan) × List·Memᴰ u ts × (j ≡ u .region)) → (u : Scan) × List·Memᴰ u (t ∷ ts) × (j ≡ u .region)
-    go (inl e) rest = (t, List·Memᴰ·head refl, e)
-    go (inr q) rest = let u = rest q in (u .0, List·Memᴰ·tail (u .1), u .2)
+of-regions ts m = let t = Memᴰ·of-map (λ (t : Scan). t .region) ts m in (t .0, t .1, sym (t .2))
 
 -- the scan stack after it: g′ has the copy b behind region j's copies to be scanned
 module _ (n R : ℕ) (g g′ : Ghost) (r r′ : Run) (P : Pending n R g r) (j b : ℕ) (jR : j < R)
     (same-cur : g′ .cur ≡ g .cur) (todo-own : g′ .todo j ≡ g .todo j ++ b ∷ []) (todo-other : (i : ℕ) → i ≢ j → g′ .todo i ≡ g .todo i)
     (rows : (i : ℕ) → i ≢ j → statusOf (r′ .table) i ≡ statusOf (r .table) i) (awake : statusOf (r′ .table) j ≢ 0)
-    (how : ((statusOf (r .table) j ≡ 0) × (r′ .stack ≡ entry j b ∷ r .stack)) ⊎ ((statusOf (r .table) j ≢ 0) × (r′ .stack ≡ r .stack))) where
+    (how : Stacked j b r r′) where
   -- an entry of before
   old-entry : (t : Scan) → List·Memᴰ t (r .stack) → Waits R g′ (r′ .table) t
   old-entry t m = go (ℕ-discrete (t .region) j)
@@ -102,16 +97,16 @@ module _ (n R : ℕ) (g g′ : Ghost) (r r′ : Run) (P : Pending n R g r) (j b 
       by e (inl q) = rw q (new-entry e)
       by e (inr q) = old-entry t q
 
-      go : ((statusOf (r .table) j ≡ 0) × (r′ .stack ≡ entry j b ∷ r .stack)) ⊎ ((statusOf (r .table) j ≢ 0) × (r′ .stack ≡ r .stack)) → Waits R g′ (r′ .table) t
-      go (inl u) = by (u .0) (List·Memᴰ·cases-cons (rw (u .1) at m))
-      go (inr u) = old-entry t (rw (u .1) at m)
+      go : Stacked j b r r′ → Waits R g′ (r′ .table) t
+      go (slept e q) = by e (List·Memᴰ·cases-cons (rw q at m))
+      go (was-awake e q) = old-entry t (rw q at m)
 
   pub woken-once : Once (regionsOf (r′ .stack))
   woken-once = go how
     where
-      go : ((statusOf (r .table) j ≡ 0) × (r′ .stack ≡ entry j b ∷ r .stack)) ⊎ ((statusOf (r .table) j ≢ 0) × (r′ .stack ≡ r .stack)) → Once (regionsOf (r′ .stack))
-      go (inl u) = rw (u .1) (once-more (not-stacked (u .0)) (P .once))
-      go (inr u) = rw (u .1) (P .once)
+      go : Stacked j b r r′ → Once (regionsOf (r′ .stack))
+      go (slept e q) = rw q (once-more (not-stacked e) (P .once))
+      go (was-awake e q) = rw q (P .once)
 
   pub woken-at-work : (i : ℕ) → g′ .cur ≡ some i → (i < R) × (statusOf (r′ .table) i ≢ 0)
   woken-at-work i e = go (ℕ-discrete i j)
@@ -138,17 +133,17 @@ module _ (n R : ℕ) (g g′ : Ghost) (r r′ : Run) (P : Pending n R g r) (j b 
       up f (inl m) = inl (f i m)
       up f (inr q) = inr (same-cur ∙ q)
 
-      go : ((statusOf (r .table) j ≡ 0) × (r′ .stack ≡ entry j b ∷ r .stack)) ⊎ ((statusOf (r .table) j ≢ 0) × (r′ .stack ≡ r .stack)) → Dec (i ≡ j)
+      go : Stacked j b r r′ → Dec (i ≡ j)
           → List·Memᴰ i (regionsOf (r′ .stack)) ⊎ (g′ .cur ≡ some i)
-      go (inl u) (yes q) = inl (rw (u .1) (List·Memᴰ·head q))
-      go (inl u) (no nq) = up (λ x m. rw (u .1) (List·Memᴰ·tail m)) (P .busy i iR (λ e. ne (rows i nq ∙ e)))
-      go (inr u) (yes q) = up (λ x m. rw (u .1) m) (P .busy i iR (λ e. u .0 (ap (statusOf (r .table)) (sym q) ∙ e)))
-      go (inr u) (no nq) = up (λ x m. rw (u .1) m) (P .busy i iR (λ e. ne (rows i nq ∙ e)))
+      go (slept f t) (yes q) = inl (rw t (List·Memᴰ·head q))
+      go (slept f t) (no nq) = up (λ x m. rw t (List·Memᴰ·tail m)) (P .busy i iR (λ e. ne (rows i nq ∙ e)))
+      go (was-awake f t) (yes q) = up (λ x m. rw t m) (P .busy i iR (λ e. f (ap (statusOf (r .table)) (sym q) ∙ e)))
+      go (was-awake f t) (no nq) = up (λ x m. rw t m) (P .busy i iR (λ e. ne (rows i nq ∙ e)))
 
   -- one entry more at most
   pub woken-deep : length (r′ .stack) ≤ suc (length (r .stack))
   woken-deep = go how
     where
-      go : ((statusOf (r .table) j ≡ 0) × (r′ .stack ≡ entry j b ∷ r .stack)) ⊎ ((statusOf (r .table) j ≢ 0) × (r′ .stack ≡ r .stack)) → length (r′ .stack) ≤ suc (length (r .stack))
-      go (inl u) = rw (u .1) (omega arith)
-      go (inr u) = rw (u .1) (omega arith)
+      go : Stacked j b r r′ → length (r′ .stack) ≤ suc (length (r .stack))
+      go (slept e q) = rw q (omega arith)
+      go (was-awake e q) = rw q (omega arith)

@@ -12,7 +12,20 @@ use Rattle.rules.specs.Memory.{endOf, topOf, setStatus}
 use Rattle.rules.specs.Words.{Word, number, inHeap, inConst, wordOf, Head, rec, raw, moved, wrong, headOf}
 use Rattle.rules.specs.Pages.{Scan, Run, withTable, withStack, takePage, room, place}
 use Rattle.rules.specs.Collection.{Ended, finished, lacksPage, unfinished, freshen, moveOn, moveTo, regionAt, evacuateAt, evacuate, evacuateAll, scanFields, scanValue, nextScan, work, workStack}
-use Rattle.rules.specs.Wanted.{pageOr, anyPage, freshRow, freshenFor, roomFor, stored, moveFor, evacuateAtFor, evacuateFor, rootsFor, fieldSet, fieldsFor, valueFor, workFor, stackFor}
+use Rattle.rules.specs.Wanted.{pageOr, anyPage, freshRow, freshenFor, roomFor, stored, forwarded, moveFor, evacuateAtFor, evacuateFor, rootsFor, fieldSet, fieldsFor, valueFor, workFor, stackFor}
+
+-- ---- how a step ends
+
+-- a step e of the working: it wants a page and there is none, of which L tells, or it is done with a, of which D tells
+pub data Goes {E A : Type 0} (none-left : E) (done-with : A → E) (e : E) (L : Type 0) (D : A → Type 0) : Type 0 where
+  wants-page : e ≡ none-left → L → Goes none-left done-with e L D
+  goes-on : (a : A) → e ≡ done-with a → D a → Goes none-left done-with e L D
+
+-- it ends as another that it is
+pub goes-as : {E A : Type 0} {none-left : E} {done-with : A → E} {e e′ : E} {L L′ : Type 0} {D D′ : A → Type 0} → e ≡ e′ → (L′ → L) → ((a : A) → D′ a → D a)
+    → Goes none-left done-with e′ L′ D′ → Goes none-left done-with e L D
+goes-as q f g (wants-page t l) = wants-page (q ∙ t) (f l)
+goes-as q f g (goes-on a t d) = goes-on a (q ∙ t) (g a d)
 
 -- ---- as long as there are pages
 
@@ -66,15 +79,18 @@ module _ (n : ℕ) where
       go true e = gives (rw (e, room, roomFor))
       go false e = follows-then (page-follows j r) (λ q. rw (e, room, q)) (λ q. rw (e, room, roomFor, q)) (gives refl)
 
+  -- a value moves when there is room for its words
+  pub lacks-room : (j a l : ℕ) (r : Run) → room n j (length (take (suc l) (drop a (r .heap)))) r ≡ none → moveTo n j a l r ≡ none
+  unfolding moveTo place moveOn
+  lacks-room j a l r e = let q : place n j (take (suc l) (drop a (r .heap))) r ≡ none = rw (e, place) in ap (moveOn n j a) q
+
+  pub has-room : (j a l : ℕ) (r r₁ : Run) → room n j (length (take (suc l) (drop a (r .heap)))) r ≡ some r₁ → moveTo n j a l r ≡ some (forwarded n j a (stored n j (take (suc l) (drop a (r .heap))) r₁))
+  unfolding moveTo place moveOn
+  has-room j a l r r₁ e = let q : place n j (take (suc l) (drop a (r .heap))) r ≡ some (stored n j (take (suc l) (drop a (r .heap))) r₁) = rw (e, place) in ap (moveOn n j a) q
+
   move-follows : (j a l : ℕ) (r : Run) → Follows (moveTo n j a l r) (moveFor n j a l r)
-  unfolding moveTo moveFor place moveOn
-  move-follows j a l r = go (room-follows j (length (take (suc l) (drop a (r .heap)))) r)
-    where
-      go : Follows (room n j (length (take (suc l) (drop a (r .heap)))) r) (roomFor n j (length (take (suc l) (drop a (r .heap)))) r) → Follows (moveTo n j a l r) (moveFor n j a l r)
-      go (lacks e) = let q : place n j (take (suc l) (drop a (r .heap))) r ≡ none = rw (e, place) in lacks (ap (moveOn n j a) q)
-      go (gives e) =
-          let q : place n j (take (suc l) (drop a (r .heap))) r ≡ some (stored n j (take (suc l) (drop a (r .heap))) (roomFor n j (length (take (suc l) (drop a (r .heap)))) r)) = rw (e, place) in
-          gives (ap (moveOn n j a) q)
+  unfolding moveFor
+  move-follows j a l r = follows-then (room-follows j (length (take (suc l) (drop a (r .heap)))) r) (lacks-room j a l r) (has-room j a l r _) (gives refl)
 
   evacuate-at-follows : (a : ℕ) (r : Run) → Follows (evacuateAt n a r) (evacuateAtFor n a r)
   unfolding evacuateAt evacuateAtFor

@@ -8,26 +8,26 @@ use mathlib.Core.Logic.{_≢_, _⊎_, inl, inr}
 use mathlib.Core.Bool.{true, false}
 use mathlib.Core.Option.{none, some, Option·none-ne-some}
 use mathlib.Core.List.{List, [], _∷_, _++_, List·Memᴰ, List·Memᴰ·head, Memᴰ·append-right}
-use lib.ListN.{length}
+use lib.ListN.{length, length-map}
 use lib.Dec.{eqb}
 use borrow.Author.Tests.{eq-eqb, ne-eqb}
 use Rattle.laws.proofs.Once.{once-most}
 use Rattle.rules.specs.Memory.{Store, pageCount, topOf, statusOf}
 use Rattle.rules.specs.Pages.{Scan, Run}
 use Rattle.rules.specs.Collection.{finished, lacksPage, scanValue, nextScan, work}
-use Rattle.facts.proofs.Steps.{steps-le}
-use Rattle.facts.proofs.Laid as Laid
+use Rattle.rules.proofs.Steps.{steps-le}
+use Rattle.facts.proofs.Laid.{below-top}
 use Rattle.facts.proofs.Copied.{Moved}
 use Rattle.facts.proofs.Sound.{Sound}
 use Rattle.working.proofs.Log.{olds, in-olds}
 use Rattle.working.proofs.Next.{Row, headOr, After, after-here, after-there, next-row}
-use Rattle.working.proofs.Rows.{InRow, row-in}
+use Rattle.working.proofs.Rows.{row-in}
 use Rattle.rules.specs.Wanted.{valueFor, workFor}
-use Rattle.working.proofs.Wanting.{follows-some, value-follows}
+use Rattle.working.proofs.Wanting.{Goes, wants-page, goes-on, follows-some, value-follows}
 use Rattle.working.proofs.Dry.{work-dry}
-use Rattle.working.proofs.Invariant.{lacking-on, Ghost, regionsOf, Inv, old-in, Lacking, Enough}
-use Rattle.working.proofs.Turn.{Turned, scans-value}
-use Rattle.working.proofs.Leaving.{scanning, left, left-empty, left-last, left-next}
+use Rattle.working.proofs.Invariant.{lacking-on, lacks-as, Ghost, regionsOf, Inv, copied-in, Lacking, Enough}
+use Rattle.working.proofs.Turn.{Turned, Turns, scans-value}
+use Rattle.working.proofs.Leaving.{scanning, left, left-empty, left-last, left-next, top-begins}
 
 -- all is scanned
 pub record Finished (s : Store) (S : Sound s) (g : Ghost) (r : Run) : Type 0 where
@@ -65,19 +65,12 @@ module _ (s : Store) (S : Sound s) where
 
   -- ---- the bound
 
-  olds-length : (log : List Moved) → length (olds log) ≡ length log
-  olds-length [] = refl
-  olds-length (m ∷ ms) = ap suc (olds-length ms)
-
   pub log-bound : (g : Ghost) (r : Run) → Inv s S g r → length (g .log) ≤ length (s .heap)
-  log-bound g r I = let b = once-most (length (s .heap)) inside (I .logged .once) in omega (arith, olds-length (g .log))
+  log-bound g r I = let b = once-most (length (s .heap)) inside (I .logged .once) in let e : length (olds (g .log)) ≡ length (g .log) = length-map (g .log) (λ (m : Moved). m .old) in omega arith
     where
       inside : (a : ℕ) → List·Memᴰ a (olds (g .log)) → a < length (s .heap)
       inside a m =
-          let t = in-olds (g .log) m in
-          let C = I .logged .copies (t .1) in
-          let ends = C .from-stands .ends in
-          let page = old-in I (C .from) (C .from-old) in
+          let b = copied-in I (in-olds (g .log) m .1) in
           omega arith
 
   -- ---- one region
@@ -85,19 +78,11 @@ module _ (s : Store) (S : Sound s) where
   module _ (g : Ghost) (r : Run) (I : Inv s S g r) (j : ℕ) (jR : j < R) where
     -- no copy stands at the region's a
     pub not-top : (b : ℕ) → List·Memᴰ b (g .todo j) → b ≢ topOf (r .table) j
-    not-top b m e = go (ℕ-discrete (F .page) z)
-      where
-        F : InRow n (r .heap) (g .fin) (g .pages j) b
-        F = row-in (I .pending .rows j jR) (Memᴰ·append-right (g .past j) m)
-
-        z : ℕ
-        z = I .laid .mine-top j jR .0
-
-        go : Dec (F .page ≡ z) → ⊥
-        go (yes q) = let t = I .laid .mine-top j jR .3 in let u = F .below in let w : g .fin (F .page) ≡ g .fin z = ap (g .fin) q in omega arith
-        go (no ne) =
-            let hi = F .stands .ends in
-            Laid.not-top (I .laid) j jR (F .page) b (steps-le (F .steps)) (omega arith) ne e
+    not-top b m =
+        let F = row-in (I .pending .rows j jR) (Memᴰ·append-right (g .past j) m) in
+        let hi = F .stands .ends in
+        let below = F .below in
+        below-top (I .laid) j jR (F .page) b (steps-le (F .steps)) (omega arith) (omega arith)
 
     mid : (xs : List ℕ) {b : ℕ} {ys : List ℕ} → After ((xs ++ b ∷ []) ++ ys) b ys
     mid [] = after-here
@@ -112,7 +97,7 @@ module _ (s : Store) (S : Sound s) where
         (subst (λ xs. Row n (r .heap) (g .fin) (g .pages j) (xs ++ g .todo j)) e (I .pending .rows j jR)) (mid past)
 
   abbrev Result : Ghost → Run → ℕ → ℕ → ℕ → Type 0
-  Result g r f j a = ((work n f j a r ≡ lacksPage) × Lacking s S (workFor n f j a r)) ⊎ ((r′ : Run) × (work n f j a r ≡ finished r′) × Finished s S g r′)
+  Result g r f j a = Goes lacksPage finished (work n f j a r) (Lacking s S (workFor n f j a r)) (λ r′. Finished s S g r′)
 
   -- ---- one turn
   module _ (g : Ghost) (r : Run) (I : Inv s S g r) (j : ℕ) (cur : g .cur ≡ some j) (f : ℕ) where
@@ -130,7 +115,7 @@ module _ (s : Store) (S : Sound s) where
     -- the region is done, and the one on top is next
     module _ (t : Scan) (ts : List Scan) (q : r .stack ≡ t ∷ ts) where
       pub next-begins : t .address ≡ headOr (topOf (left j ts r .table) (t .region)) (g .todo (t .region))
-      next-begins = let W = I .pending .stacked t (rw q (List·Memᴰ·head refl)) in rw (W .begins)
+      next-begins = top-begins I t ts q _
 
       pub work-leaves : work n (suc f) j (topOf (r .table) j) r ≡ work n f (t .region) (headOr (topOf (left j ts r .table) (t .region)) (g .todo (t .region))) (left j ts r)
       unfolding work
@@ -173,30 +158,24 @@ module _ (s : Store) (S : Sound s) where
       Rest : Type 0
       Rest = (g′ : Ghost) (r′ : Run) (i : ℕ) → Inv s S g′ r′ → g′ .cur ≡ some i → g′ .half ≡ none → Enough s g′ r′ f → Result g′ r′ f i (headOr (topOf (r′ .table) i) (g′ .todo i))
 
-      up : (g′ : Ghost) (r′ : Run) (i a a′ : ℕ) → ((x : Moved) → List·Memᴰ x (g .log) → List·Memᴰ x (g′ .log)) → work n (suc f) j a r ≡ work n f i a′ r′ → workFor n (suc f) j a r ≡ workFor n f i a′ r′
-          → Result g′ r′ f i a′ → Result g r (suc f) j a
-      up g′ r′ i a a′ grew e t (inl u) = inl (e ∙ u .0, lacking-on (λ y. rw t y) (u .1))
-      up g′ r′ i a a′ grew e t (inr u) = inr (u .0, e ∙ u .1, finished-from grew (u .2))
-
       -- the region is done
       leave : g .todo j ≡ [] → (st : List Scan) → r .stack ≡ st → Rest → Result g r (suc f) j (topOf (r .table) j)
       leave e [] q rest =
-          inr (left j [] r, work-done g r I j cur f q, left-finished g r I j cur f e shut q)
+          goes-on (left j [] r) (work-done g r I j cur f q) (left-finished g r I j cur f e shut q)
       leave e (t ∷ ts) q rest =
-          up (scanning g (some (t .region))) (left j ts r) (t .region) (topOf (r .table) j) _ (λ x m. m) (work-leaves g r I j cur f t ts q) (leaves-for g r I j cur f t ts q)
+          lacks-as (work-leaves g r I j cur f t ts q) (leaves-for g r I j cur f t ts q) (λ r′. finished-from (λ x m. m))
           (rest (scanning g (some (t .region))) (left j ts r) (t .region) (left-next s S g r I j cur e t ts q) refl shut (left-enough g r I j cur f t ts q enough))
 
       -- a copy is scanned
-      scan : (b : ℕ) (ts : List ℕ) → g .todo j ≡ b ∷ ts → Rest → ((scanValue n b r ≡ none) × Lacking s S (valueFor n b r)) ⊎ ((r′ : Run) × (scanValue n b r ≡ some r′) × Turned s S g r j b r′) → Result g r (suc f) j b
-      scan b ts e rest (inl u) =
-          inl (work-lacks g r I j cur f b ts e (u .0), lacking-on (λ y. rw (at-copy g r I j cur f b ts e, workFor) (work-dry n _ f j _ _ y)) (u .1))
-      scan b ts e rest (inr u) =
-          let r₁ : Run = u .0 in
-          let T = u .2 in
-          let v : valueFor n b r ≡ r₁ = follows-some r₁ (value-follows n b r) (u .1) in
-          up (T .ghost) r₁ j b (headOr (topOf (r₁ .table) j) (T .ghost .todo j)) (T .log) (work-scans g r I j cur f b ts e r₁ (u .1) T)
-          (rw (at-copy g r I j cur f b ts e, workFor, v) (ap (λ x. workFor n f j x r₁) (next-copy g r I j cur f b ts e r₁ (u .1) T)))
-          (rest (T .ghost) r₁ j (T .inv) (T .cur) (T .none-open) (scanned-enough g r I j cur f b ts e r₁ (u .1) T enough))
+      scan : (b : ℕ) (ts : List ℕ) → g .todo j ≡ b ∷ ts → Rest → Turns s S g r j b → Result g r (suc f) j b
+      scan b ts e rest (wants-page q L) =
+          wants-page (work-lacks g r I j cur f b ts e q) (lacking-on (λ y. rw (at-copy g r I j cur f b ts e, workFor) (work-dry n _ f j _ _ y)) L)
+      scan b ts e rest (goes-on r₁ q T) =
+          let v : valueFor n b r ≡ r₁ = follows-some r₁ (value-follows n b r) q in
+          let t : workFor n (suc f) j b r ≡ workFor n f j (headOr (topOf (r₁ .table) j) (T .ghost .todo j)) r₁
+          = rw (at-copy g r I j cur f b ts e, workFor, v) (ap (λ x. workFor n f j x r₁) (next-copy g r I j cur f b ts e r₁ q T)) in
+          lacks-as (work-scans g r I j cur f b ts e r₁ q T) t (λ r′. finished-from (T .log))
+          (rest (T .ghost) r₁ j (T .inv) (T .cur) (T .none-open) (scanned-enough g r I j cur f b ts e r₁ q T enough))
 
       go : (xs : List ℕ) → g .todo j ≡ xs → Rest → Result g r (suc f) j (headOr (topOf (r .table) j) xs)
       go [] e rest = leave e (r .stack) refl rest

@@ -1,14 +1,14 @@
 -- `allocation::allocate` meets its contract: after the tests in their order all that placing the value asks for is known.
 use borrow.Author.Needs.{needs}
 use Prim.Native.Nat.{_+_, _^_, _<_, _≤_}
-use mathlib.Core.Path.{sym, _∙_}
 use native.Mathlib.Omega.{arith}
-use borrow.Author.Tests.{not-false, le-leb, lt-leb, lt-ltb, le-ltb}
+use borrow.Author.Tests.{le-leb, lt-leb, lt-ltb, le-ltb}
 use lib.ListN.{length}
+use Rattle.laws.proofs.Turned.{told-true}
 use Rattle.rules.specs.Memory.{lent}
 use Rattle.rules.specs.Refusals.{Admitted, refusedValue}
 use Rattle.rules.specs.Calls.{allocate}
-use Rattle.rules.proofs.Limits.{page-size}
+use Rattle.rules.proofs.Limits.{paged-size}
 use Rattle.limits.proofs.First.{tests-refuse, tests-pass, tests-admit}
 use Rattle.allocation.proofs.Placing.{fitted}
 use Rattle.allocation.proofs.allocate.Statement.{statement}
@@ -60,7 +60,7 @@ page-words-requires : tie.Need-page-words-requires
 page-words-requires c κs = let a = known (c .before .before .before .before .before .before .before) in (a .paged .low, a .paged .high)
 
 sub-if3 : tie.Need-sub-if3
-sub-if3 c = let a = known (c .before .before .before .before .before .before .before .before) in let s = page-size _ (a .paged .low) (a .paged .high) in omega (arith, c .page-words .ensures)
+sub-if3 c = let a = known (c .before .before .before .before .before .before .before .before) in let s = paged-size _ _ (a .paged) in omega (arith, c .page-words .ensures)
 
 same-length-3 : tie.Need-same-length-3
 same-length-3 c = search needs
@@ -77,7 +77,7 @@ returns-4 c =
 short : (c : tie.Else3) → length (c .before .before .before .before .before .before .before .before .before .before .before .before .before .before .before .before .before .args .words .now) + 3 ≤ 2 ^ c .before .before .before .before .before .before .before .before .before .before .before .before .before .before .before .before .before .args .c .n
 short c =
     let a = known (c .before .before .before .before .before .before .before .before .before) in
-    let s = page-size _ (a .paged .low) (a .paged .high) in
+    let s = paged-size _ _ (a .paged) in
     omega (arith, c .before .page-words .ensures, c .if3 .left)
 
 words-fit-requires : tie.Need-words-fit-requires
@@ -96,10 +96,10 @@ returns-5 c =
     rw (f .0, f .1, lt-leb _ _ (below (c .before .before .before .before .before .before .before .before .before)), ← (c .before .before .before .before .before .before .row-fits .ensures), c .before .before .before .before .before .if2 .left, le-ltb (2 ^ c .before .before .before .before .before .before .before .before .before .before .before .before .before .before .before .before .before .before .before .before .args .c .n) (length (c .before .before .before .before .before .before .before .before .before .before .before .before .before .before .before .before .before .before .before .before .args .words .now) + 3) (short (c .before .before .before)), ← (c .before .words-fit .ensures _ _), c .if4 .taken)
 
 header-for-requires : tie.Need-header-for-requires
-header-for-requires c κs = let a = known (c .before .before .before .before .before .before .before .before .before .before .before .before .before .before) in let s = page-size _ (a .paged .low) (a .paged .high) in omega (arith, short (c .before .before .before .before .before))
+header-for-requires c κs = let a = known (c .before .before .before .before .before .before .before .before .before .before .before .before .before .before) in let s = paged-size _ _ (a .paged) in omega (arith, short (c .before .before .before .before .before))
 
 put-value-requires : tie.Need-put-value-requires
-put-value-requires c κs = fitted _ _ _ _ _ _ _ (known (c .before .before .before .before .before .before .before .before .before .before .before .before .before .before .before)) (region (c .before .before .before .before .before .before .before .before .before .before .before .before)) (sym (c .before .before .before .before .before .before .before .before .before .row-fits .ensures) ∙ not-false _ (c .before .before .before .before .before .before .before .before .if2 .left)) (short (c .before .before .before .before .before .before))
+put-value-requires c κs = fitted _ _ _ _ _ _ _ (known (c .before .before .before .before .before .before .before .before .before .before .before .before .before .before .before)) (region (c .before .before .before .before .before .before .before .before .before .before .before .before)) (told-true (c .before .before .before .before .before .before .before .before .before .row-fits .ensures) (c .before .before .before .before .before .before .before .before .if2 .left)) (short (c .before .before .before .before .before .before))
 
 same-length-7 : tie.Need-same-length-7
 same-length-7 c = search needs

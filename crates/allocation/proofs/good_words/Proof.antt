@@ -4,12 +4,12 @@ use mathlib.Core.Path.{_≡_, sym, _∙_}
 use mathlib.Core.Bool.{true, _&&_}
 use native.Mathlib.Omega.{arith}
 use native.Mathlib.Nat.{le-refl}
-use borrow.Author.Tests.{not-true, not-false}
 use lib.ListN.{length}
 use lib.Seq.{slice}
 use Rattle.laws.specs.Lists.{all}
 use Rattle.rules.specs.Words.{goodIn}
 use Rattle.laws.proofs.Tests.{fields-all, fields-go, fields-stop, fields-end}
+use Rattle.laws.proofs.Turned.{told-true, told-false}
 use Rattle.allocation.proofs.good_words.Statement.{statement}
 use Rattle.allocation.proofs.good_words.Tie as tie
 
@@ -32,7 +32,7 @@ good-word-requires : tie.Need-good-word-requires Inv-loop μ-loop
 good-word-requires c κs = c .before .before .before .before .before .before .pre
 
 returns : tie.Need-returns Inv-loop μ-loop
-returns c = sym (fields-stop _ _ _ _ _ (c .before .before .before .loop-test .taken) (le-refl _) (sym (c .before .good-word .ensures) ∙ not-true _ (c .if1 .taken))) ∙ c .before .before .before .before .loop .inv .0
+returns c = sym (fields-stop _ _ _ _ _ (c .before .before .before .loop-test .taken) (le-refl _) (told-false (c .before .good-word .ensures) (c .if1 .taken))) ∙ c .before .before .before .before .loop .inv .0
 
 add-i : tie.Need-add-i Inv-loop μ-loop
 add-i c = omega arith
@@ -41,7 +41,7 @@ loop-less : tie.Need-loop-less Inv-loop μ-loop
 loop-less c = omega arith
 
 loop-again : tie.Need-loop-again Inv-loop μ-loop
-loop-again c = (sym (fields-go _ _ _ _ _ (c .before .before .before .loop-test .taken) (le-refl _) (sym (c .before .good-word .ensures) ∙ not-false _ (c .if1 .left))) ∙ c .before .before .before .before .loop .inv .0, omega arith)
+loop-again c = (sym (fields-go _ _ _ _ _ (c .before .before .before .loop-test .taken) (le-refl _) (told-true (c .before .good-word .ensures) (c .if1 .left))) ∙ c .before .before .before .before .loop .inv .0, omega arith)
 
 returns-2 : tie.Need-returns-2 Inv-loop μ-loop
 returns-2 c = sym (fields-end _ _ _ _ _ (c .loop-test .left)) ∙ c .before .loop .inv .0

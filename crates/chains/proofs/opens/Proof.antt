@@ -2,7 +2,7 @@
 use mathlib.Core.Path.{sym}
 use Prim.Native.Nat.{_<_}
 use native.Mathlib.Omega.{arith}
-use Rattle.rules.proofs.Limits.{page-size}
+use Rattle.rules.proofs.Limits.{paged-size}
 use Rattle.chains.proofs.Turns.{opens-off, opens-at}
 use Rattle.chains.proofs.opens.Statement.{statement}
 use Rattle.chains.proofs.opens.Tie as tie
@@ -14,7 +14,7 @@ page-words-requires : tie.Need-page-words-requires
 page-words-requires c κs = omega arith
 
 sizes : (c : tie.After-page-words) → 0 < c .page-words .result
-sizes c = let z = page-size _ (c .before .before .before .before .pre .0 .low) (c .before .before .before .before .pre .0 .high) .0 in omega arith
+sizes c = let z = paged-size _ _ (c .before .before .before .before .pre .0) .0 in omega arith
 
 rem-if1 : tie.Need-rem-if1
 rem-if1 c = omega (arith, sizes ((c .before)))

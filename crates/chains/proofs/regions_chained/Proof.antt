@@ -5,12 +5,12 @@ use mathlib.Core.Bool.{true, _&&_}
 use mathlib.Core.Logic.{⊎-elim}
 use Prim.Native.Nat.{suc, _+_, _-_, _^_, _≤_}
 use native.Mathlib.Omega.{arith}
-use borrow.Author.Tests.{not-true, not-false}
 use lib.Dec.{eqb}
 use lib.ListN.{length}
 use Rattle.laws.specs.Lists.{allFrom}
 use Rattle.laws.proofs.Tests.{from-end}
 use Rattle.laws.proofs.Tallies.{sum-done, sum-skip, sum-step, sum-open}
+use Rattle.laws.proofs.Turned.{told-true, told-false}
 use Rattle.rules.specs.Memory.{chain, chainEnd, pagesFrom}
 use Rattle.rules.proofs.Limits.{Inside, page-here, pages-few}
 use Rattle.rules.proofs.Nests.{Over, over-fuel, over-none, over-bad}
@@ -60,7 +60,7 @@ first-link-requires : tie.Need-first-link-requires Inv-pages μ-pages Inv-region
 first-link-requires c κs = omega arith
 
 pages-holds : tie.Need-pages-holds Inv-pages μ-pages Inv-regions μ-regions
-pages-holds c = (sym (chained-open _ _ _ _ (c .before .before .before .before .before .before .before .page-count .ensures) _ _ (omega arith) _ (sym (c .before .before .before .opens .ensures) ∙ not-false _ (c .before .before .if2 .left)) (c .first-link .ensures)) ∙ c .before .before .before .before .before .regions .inv .0, sum-open _ _ _ _ _ (c .before .before .before .before .before .regions .inv .2) (length-open _ _ _ _ (c .before .before .before .before .before .before .before .page-count .ensures) _ _ (omega arith) _ (c .first-link .ensures)))
+pages-holds c = (sym (chained-open _ _ _ _ (c .before .before .before .before .before .before .before .page-count .ensures) _ _ (omega arith) _ (told-true (c .before .before .before .opens .ensures) (c .before .before .if2 .left)) (c .first-link .ensures)) ∙ c .before .before .before .before .before .regions .inv .0, sum-open _ _ _ _ _ (c .before .before .before .before .before .regions .inv .2) (length-open _ _ _ _ (c .before .before .before .before .before .before .before .page-count .ensures) _ _ (omega arith) _ (c .first-link .ensures)))
 
 over : (c : tie.Left-pages Inv-pages μ-pages Inv-regions μ-regions) → Over (c .before .before .before .before .before .before .before .before .before .before .before .before .args .n) (c .before .before .before .before .before .before .before .before .before .page-count .result) (c .before .before .before .before .before .before .before .before .before .before .before .before .args .heap .now) (c .before .before .before .before .before .before .before .before .before .page-count .ensures) (c .before .pages .left) (c .before .pages .link)
 over c = ⊎-elim (λ w. over-fuel _ _ _ _ _ _ (omega (arith, w .left))) (⊎-elim (λ w. over-none _ _ _ _ _ _ (omega (arith, w .1 .taken))) (λ w. over-bad _ _ _ _ _ _ (omega (arith, w .2 .taken)))) (c .pages-test .came)
@@ -111,7 +111,7 @@ regions-again : tie.Need-regions-again Inv-pages μ-pages Inv-regions μ-regions
 regions-again c = (rw (c .next-region .ensures) (sym (chained-ends _ _ _ (c .before .before .before .before .before .before .before .before .before .before .before .page-count .ensures) _ _ _ _ (over (c .before .before)) (omega arith)) ∙ c .before .before .before .pages .inv .0), omega arith, rw (c .next-region .ensures) (sum-skip _ _ _ _ (c .before .before .before .pages .inv .1) (length-over _ _ _ (c .before .before .before .before .before .before .before .before .before .before .before .page-count .ensures) _ _ 0 true (over (c .before .before)))))
 
 returns-2 : tie.Need-returns-2 Inv-pages μ-pages Inv-regions μ-regions
-returns-2 c = not-chained _ _ _ _ (sym (chained-shut _ _ _ _ (c .before .before .before .before .before .page-count .ensures) _ _ (omega arith) (sym (c .before .opens .ensures) ∙ not-true _ (c .if2 .taken))) ∙ c .before .before .before .regions .inv .0)
+returns-2 c = not-chained _ _ _ _ (sym (chained-shut _ _ _ _ (c .before .before .before .before .before .page-count .ensures) _ _ (omega arith) (told-false (c .before .opens .ensures) (c .if2 .taken))) ∙ c .before .before .before .regions .inv .0)
 
 returns-3 : tie.Need-returns-3 Inv-pages μ-pages Inv-regions μ-regions
 returns-3 c = not-chained _ _ _ _ (sym (chained-other _ _ _ (c .before .before .before .before .before .before .before .before .before .before .before .before .before .before .page-count .ensures) _ _ _ _ _ (c .before .before .link-address .ensures) (omega arith) (λ z. omega arith) (omega arith) (λ z. omega arith)) ∙ c .before .before .before .before .before .before .pages .inv .0)

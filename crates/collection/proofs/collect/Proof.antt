@@ -1,7 +1,8 @@
 -- `collection::collect` meets its contract: where the audit refuses, so does the collection; where it passes, the heap is sound, and what the
 -- collection at work leaves is what document 01 works out.
 use mathlib.Core.Path.{sym, _∙_}
-use Rattle.collection.proofs.Judged.{judged-broken, judged-sound, judged-passing}
+use Rattle.facts.proofs.Passing.{judged-sound}
+use Rattle.collection.proofs.Judged.{judged-broken, judged-passing}
 use borrow.Author.Needs.{needs}
 use Rattle.collection.proofs.collect.Statement.{statement}
 use Rattle.collection.proofs.collect.Tie as tie

@@ -3,11 +3,11 @@ use mathlib.Core.Path.{_≡_, refl, sym, _∙_}
 use mathlib.Core.Bool.{true, _&&_}
 use Prim.Native.Nat.{_-_, _≤_}
 use native.Mathlib.Omega.{arith}
-use borrow.Author.Tests.{not-true, not-false}
 use lib.ListN.{length}
 use lib.Seq.{slice}
 use Rattle.laws.specs.Lists.{all}
 use Rattle.laws.proofs.Tests.{fields-end, fields-go, fields-stop}
+use Rattle.laws.proofs.Turned.{told-true, told-false}
 use Rattle.rules.specs.Words.{valsIn, constVals, fieldsPass}
 use Rattle.rules.specs.Audit.{constField}
 use Rattle.rules.proofs.Headers.{fit-of}
@@ -66,7 +66,7 @@ address-behind-requires : tie.Need-address-behind-requires Inv-loop μ-loop Inv-
 address-behind-requires c κs = omega (arith, c .before .before .before .before .shared-slice-known2 .given (c .before .before .before .before .before .before .before .before .values .at .0))
 
 within : (c : tie.After-address-behind Inv-loop μ-loop Inv-values μ-values) → c .address-behind .result .0 ≤ length (c .before .before .before .before .before .before .before .before .before .before .before .before .before .args .consts .now)
-within c = let f = fit-of _ _ (sym (c .before .before .fits2 .ensures) ∙ not-false _ (c .before .if2 .left)) .1 in omega arith
+within c = let f = fit-of _ _ (told-true (c .before .before .fits2 .ensures) (c .before .if2 .left)) .1 in omega arith
 
 is-record-requires : tie.Need-is-record-requires Inv-loop μ-loop Inv-values μ-values
 is-record-requires c κs = omega arith
@@ -75,13 +75,13 @@ values-less : tie.Need-values-less Inv-loop μ-loop Inv-values μ-values
 values-less c = omega arith
 
 values-again : tie.Need-values-again Inv-loop μ-loop Inv-values μ-values
-values-again c = (sym (raw-go _ _ _ _ _ (c .before .before .before .before .before .before .before .before .if1 .taken) (whole (c .before .before .before .before .before .before .before .before .before .before .before .before .before)) (sym (c .before .before .before .before .fits2 .ensures) ∙ not-false _ (c .before .before .before .if2 .left)) _ (c .before .before .address-behind .ensures) (sym (c .before .is-record .ensures) ∙ not-true _ (c .if3 .taken))) ∙ c .before .before .before .before .before .before .before .before .before .before .before .values .inv .0, c .before .before .before .before .before .before .before .before .before .before .before .values .inv .1)
+values-again c = (sym (raw-go _ _ _ _ _ (c .before .before .before .before .before .before .before .before .if1 .taken) (whole (c .before .before .before .before .before .before .before .before .before .before .before .before .before)) (told-true (c .before .before .before .before .fits2 .ensures) (c .before .before .before .if2 .left)) _ (c .before .before .address-behind .ensures) (told-false (c .before .is-record .ensures) (c .if3 .taken))) ∙ c .before .before .before .before .before .before .before .before .before .before .before .values .inv .0, c .before .before .before .before .before .before .before .before .before .before .before .values .inv .1)
 
 address-behind-requires-2 : tie.Need-address-behind-requires-2 Inv-loop μ-loop Inv-values μ-values
 address-behind-requires-2 c κs = omega arith
 
 loop-holds : tie.Need-loop-holds Inv-loop μ-loop Inv-values μ-values
-loop-holds c = (sym (record-go _ _ _ _ _ (c .before .before .before .before .before .before .before .before .before .if1 .taken) (whole (c .before .before .before .before .before .before .before .before .before .before .before .before .before .before)) (sym (c .before .before .before .before .before .fits2 .ensures) ∙ not-false _ (c .before .before .before .before .if2 .left)) _ (c .before .before .before .address-behind .ensures) (sym (c .before .before .is-record .ensures) ∙ not-false _ (c .before .if3 .left)) _ (c .address-behind2 .ensures)) ∙ c .before .before .before .before .before .before .before .before .before .before .before .before .values .inv .0, c .before .before .before .before .before .before .before .before .before .before .before .before .values .inv .1)
+loop-holds c = (sym (record-go _ _ _ _ _ (c .before .before .before .before .before .before .before .before .before .if1 .taken) (whole (c .before .before .before .before .before .before .before .before .before .before .before .before .before .before)) (told-true (c .before .before .before .before .before .fits2 .ensures) (c .before .before .before .before .if2 .left)) _ (c .before .before .before .address-behind .ensures) (told-true (c .before .before .is-record .ensures) (c .before .if3 .left)) _ (c .address-behind2 .ensures)) ∙ c .before .before .before .before .before .before .before .before .before .before .before .before .values .inv .0, c .before .before .before .before .before .before .before .before .before .before .before .before .values .inv .1)
 
 mul-const-field : tie.Need-mul-const-field Inv-loop μ-loop Inv-values μ-values
 mul-const-field c = omega (arith, within (c .before .before .before .before .before .before .before))
@@ -100,7 +100,7 @@ loop-less : tie.Need-loop-less Inv-loop μ-loop Inv-values μ-values
 loop-less c = omega arith
 
 loop-again : tie.Need-loop-again Inv-loop μ-loop Inv-values μ-values
-loop-again c = (rw (c .address-behind3 .ensures) (sym (fields-go _ _ _ _ _ (c .before .before .before .before .if4 .taken) (within (c .before .before .before .before .before .before .before .before .before .before .before)) (sym (c .before .before .const-field .ensures) ∙ not-false _ (c .before .if5 .left))) ∙ c .before .before .before .before .before .before .before .loop .inv .0), c .before .before .before .before .before .before .before .loop .inv .1)
+loop-again c = (rw (c .address-behind3 .ensures) (sym (fields-go _ _ _ _ _ (c .before .before .before .before .if4 .taken) (within (c .before .before .before .before .before .before .before .before .before .before .before)) (told-true (c .before .before .const-field .ensures) (c .before .if5 .left))) ∙ c .before .before .before .before .before .before .before .loop .inv .0), c .before .before .before .before .before .before .before .loop .inv .1)
 
 values-less-2 : tie.Need-values-less-2 Inv-loop μ-loop Inv-values μ-values
 values-less-2 c = omega arith
@@ -112,10 +112,10 @@ returns : tie.Need-returns Inv-loop μ-loop Inv-values μ-values
 returns c = c .before .before .before .values .inv .1 ∙ sym (values-end _ _ _ _ _ (c .if1 .left)) ∙ c .before .before .before .values .inv .0
 
 returns-2 : tie.Need-returns-2 Inv-loop μ-loop Inv-values μ-values
-returns-2 c = c .before .before .before .before .before .before .before .before .values .inv .1 ∙ sym (values-stop _ _ _ _ _ (c .before .before .before .before .before .if1 .taken) (whole (c .before .before .before .before .before .before .before .before .before .before)) (sym (c .before .fits2 .ensures) ∙ not-true _ (c .if2 .taken))) ∙ c .before .before .before .before .before .before .before .before .values .inv .0
+returns-2 c = c .before .before .before .before .before .before .before .before .values .inv .1 ∙ sym (values-stop _ _ _ _ _ (c .before .before .before .before .before .if1 .taken) (whole (c .before .before .before .before .before .before .before .before .before .before)) (told-false (c .before .fits2 .ensures) (c .if2 .taken))) ∙ c .before .before .before .before .before .before .before .before .values .inv .0
 
 returns-3 : tie.Need-returns-3 Inv-loop μ-loop Inv-values μ-values
-returns-3 c = sym (fields-stop _ _ _ _ _ (c .before .before .before .if4 .taken) (within (c .before .before .before .before .before .before .before .before .before .before)) (sym (c .before .const-field .ensures) ∙ not-true _ (c .if5 .taken))) ∙ c .before .before .before .before .before .before .loop .inv .0
+returns-3 c = sym (fields-stop _ _ _ _ _ (c .before .before .before .if4 .taken) (within (c .before .before .before .before .before .before .before .before .before .before)) (told-false (c .before .const-field .ensures) (c .if5 .taken))) ∙ c .before .before .before .before .before .before .loop .inv .0
 
 pub const-fields-spec : {M : Type 1} → statement M
 const-fields-spec =

@@ -1,18 +1,20 @@
 -- `contents::rule5` meets its contract: at each level what is left to test, with what the outer levels have left, is the whole rule.
-use mathlib.Core.Path.{_≡_, refl, sym, _∙_}
+use mathlib.Core.Path.{_≡_, refl, sym, ap, _∙_}
 use mathlib.Core.Bool.{true, _&&_}
 use mathlib.Core.Logic.{⊎-elim}
 use Prim.Native.Nat.{_+_, _-_, _^_, _≤_}
 use native.Mathlib.Omega.{arith}
-use borrow.Author.Tests.{not-true, not-false}
 use lib.ListN.{length, getD}
 use Rattle.laws.specs.Lists.{all, allFrom}
 use Rattle.laws.proofs.Tests.{from-end}
+use Rattle.laws.proofs.Turned.{told-true, told-false}
 use Rattle.rules.specs.Memory.{chain, regionPages}
+use Rattle.rules.specs.Words.{fits}
 use Rattle.rules.specs.Audit.{pageFilled, rule5}
 use Rattle.rules.proofs.Limits.{Inside, page-here, pages-few}
 use Rattle.rules.proofs.Nests.{Over, over-fuel, over-none, over-bad, pages-over, regions-go}
-use Rattle.contents.proofs.Turns.{Rest, Passed, five-page, rest-end, rest-stop, rest-go, zeros-off, page-on, page-at, page-off}
+use Rattle.rules.proofs.Stepping.{vals-none, vals-stop}
+use Rattle.contents.proofs.Turns.{Rest, Passed, five-page, rest-over, rest-go, zeros-off, page-on, page-at, page-off}
 use Rattle.contents.proofs.rule5.Statement.{statement}
 use Rattle.contents.proofs.rule5.Tie as tie
 
@@ -125,10 +127,10 @@ values-less : tie.Need-values-less Inv-values μ-values Inv-pages μ-pages Inv-r
 values-less c = omega arith
 
 values-again : tie.Need-values-again Inv-values μ-values Inv-pages μ-pages Inv-regions μ-regions
-values-again c = sym (rest-go _ _ _ _ _ _ (omega arith) (inside (c .before .before .before .before .before .before .before .before .before .before .before)) _ (sym (c .before .before .fits2 .ensures) ∙ not-false _ (c .before .if4 .left)) (omega arith) _ (c .address-behind3 .ensures)) ∙ c .before .before .before .before .before .before .before .before .before .values .inv
+values-again c = sym (rest-go _ _ _ _ _ _ (omega arith) (inside (c .before .before .before .before .before .before .before .before .before .before .before)) _ (told-true (c .before .before .fits2 .ensures) (c .before .if4 .left)) (omega arith) _ (c .address-behind3 .ensures)) ∙ c .before .before .before .before .before .before .before .before .before .values .inv
 
 passed : (c : tie.Joined3 Inv-values μ-values Inv-pages μ-pages Inv-regions μ-regions) → Passed (c .before .before .before .before .before .before .before .before .before .before .before .before .before .before .before .before .before .before .before .before .before .before .before .args .heap .now) (c .before .before .before .values .at .0) (c .before .before .before .before .before .address-behind .result .0) (getD (c .before .before .before .before .before .before .before .before .before .before .before .before .before .before .before .before .before .before .before .before .before .before .before .args .heap .now) (c .before .before .before .before .before .before .link-address .result .0) 0) (c .before .before .before .before .before .before .before .before .before .before .before .before .top-of .result .0) (all (pageFilled (c .before .before .before .before .before .before .before .before .before .before .before .before .before .before .before .before .before .before .before .before .before .before .before .args .c .n) (c .before .before .before .before .before .before .before .before .before .before .before .before .before .before .before .before .before .before .before .before .before .before .before .args .heap .now) (c .before .before .before .before .before .before .before .before .before .before .before .before .before .before .before .before .before .before .before .before .before .before .before .args .table .now) (c .before .before .before .before .before .before .before .before .before .before .before .before .before .before .regions .j .0)) (chain (c .before .before .before .before .before .before .before .before .before .before .pages .left - 1) (c .before .before .before .before .before .before .before .before .before .before .before .before .before .before .before .before .before .before .before .before .before .before .before .args .c .n) (c .before .before .before .before .before .before .before .before .before .before .before .before .before .before .before .before .before .before .before .before .before .before .before .args .heap .now) (getD (c .before .before .before .before .before .before .before .before .before .before .before .before .before .before .before .before .before .before .before .before .before .before .before .args .heap .now) (c .before .before .before .before .before .before .link-address .result .0) 0)) && allFrom (λ i. all (pageFilled (c .before .before .before .before .before .before .before .before .before .before .before .before .before .before .before .before .before .before .before .before .before .before .before .args .c .n) (c .before .before .before .before .before .before .before .before .before .before .before .before .before .before .before .before .before .before .before .before .before .before .before .args .heap .now) (c .before .before .before .before .before .before .before .before .before .before .before .before .before .before .before .before .before .before .before .before .before .before .before .args .table .now) i) (regionPages (c .before .before .before .before .before .before .before .before .before .before .before .before .before .before .before .before .before .before .before .before .before .before .before .args .c .n) (c .before .before .before .before .before .before .before .before .before .before .before .before .before .before .before .before .before .before .before .before .before .before .before .args .heap .now) (c .before .before .before .before .before .before .before .before .before .before .before .before .before .before .before .before .before .before .before .before .before .before .before .args .table .now) i)) (c .before .before .before .before .before .before .before .before .before .before .before .before .before .before .regions .regions-left - 1) (c .before .before .before .before .before .before .before .before .before .before .before .before .before .before .regions .j .0 + 1)) (allFrom (λ i. all (pageFilled (c .before .before .before .before .before .before .before .before .before .before .before .before .before .before .before .before .before .before .before .before .before .before .before .args .c .n) (c .before .before .before .before .before .before .before .before .before .before .before .before .before .before .before .before .before .before .before .before .before .before .before .args .heap .now) (c .before .before .before .before .before .before .before .before .before .before .before .before .before .before .before .before .before .before .before .before .before .before .before .args .table .now) i) (regionPages (c .before .before .before .before .before .before .before .before .before .before .before .before .before .before .before .before .before .before .before .before .before .before .before .args .c .n) (c .before .before .before .before .before .before .before .before .before .before .before .before .before .before .before .before .before .before .before .before .before .before .before .args .heap .now) (c .before .before .before .before .before .before .before .before .before .before .before .before .before .before .before .before .before .before .before .before .before .before .before .args .table .now) i)) (c .before .before .before .before .before .before .before .before .before .before .before .before .before .before .before .before .before .before .before .before .before .before .before .args .c .regions) 0)
-passed c = record { left = ⊎-elim (λ w. sym (rest-end _ _ _ _ _ _ (w .left)) ∙ c .before .before .before .values .inv) (λ w. sym (rest-stop _ _ _ _ _ _ (w .0 .taken) (inside (c .before .before .before .before .before)) _ (sym (w .4 .ensures) ∙ not-true _ (w .5 .taken)) (omega arith)) ∙ c .before .before .before .values .inv) (c .if3 .came) }
+passed c = record { left = sym (rest-over _ _ _ _ _ _ (⊎-elim (λ w. vals-none _ _ _ (w .left)) (λ w. vals-stop _ _ _ (w .0 .taken) (inside (c .before .before .before .before .before)) (ap (fits _) (omega arith) ∙ (told-false (w .4 .ensures) (w .5 .taken)))) (c .if3 .came))) ∙ c .before .before .before .values .inv }
 
 zero-between-requires :
     tie.Need-zero-between-requires Inv-values μ-values Inv-pages μ-pages Inv-regions μ-regions
@@ -148,13 +150,13 @@ pages-less : tie.Need-pages-less Inv-values μ-values Inv-pages μ-pages Inv-reg
 pages-less c = omega arith
 
 pages-again : tie.Need-pages-again Inv-values μ-values Inv-pages μ-pages Inv-regions μ-regions
-pages-again c = (page-on (passed (c .before .before .before .before)) (sym (c .before .before .before .zero-between .ensures) ∙ not-false _ (c .before .before .if5 .left)) (omega arith), c .before .before .before .before .before .before .before .before .before .before .before .before .before .before .pages .inv .1)
+pages-again c = (page-on (passed (c .before .before .before .before)) (told-true (c .before .before .before .zero-between .ensures) (c .before .before .if5 .left)) (omega arith), c .before .before .before .before .before .before .before .before .before .before .before .before .before .before .pages .inv .1)
 
 pages-less-2 : tie.Need-pages-less-2 Inv-values μ-values Inv-pages μ-pages Inv-regions μ-regions
 pages-less-2 c = omega arith
 
 pages-again-2 : tie.Need-pages-again-2 Inv-values μ-values Inv-pages μ-pages Inv-regions μ-regions
-pages-again-2 c = (page-at (passed (c .before .before .before .before .before .before .before)) (sym (c .before .before .before .before .before .before .zero-between .ensures) ∙ not-false _ (c .before .before .before .before .before .if5 .left)) (omega arith) (omega arith), c .before .before .before .before .before .before .before .before .before .before .before .before .before .before .before .before .before .pages .inv .1)
+pages-again-2 c = (page-at (passed (c .before .before .before .before .before .before .before)) (told-true (c .before .before .before .before .before .before .zero-between .ensures) (c .before .before .before .before .before .if5 .left)) (omega arith) (omega arith), c .before .before .before .before .before .before .before .before .before .before .before .before .before .before .before .before .before .pages .inv .1)
 
 next-region-requires :
     tie.Need-next-region-requires Inv-values μ-values Inv-pages μ-pages Inv-regions μ-regions
@@ -176,11 +178,11 @@ returns c = c .before .regions .inv .1 ∙ sym (from-end _ _ _ (omega arith)) �
 
 returns-2 : tie.Need-returns-2 Inv-values μ-values Inv-pages μ-pages Inv-regions μ-regions
 unfolding rule5
-returns-2 c = zeros-off (passed (c .before .before)) (sym (c .before .zero-between .ensures) ∙ not-true _ (c .if5 .taken))
+returns-2 c = zeros-off (passed (c .before .before)) (told-false (c .before .zero-between .ensures) (c .if5 .taken))
 
 returns-3 : tie.Need-returns-3 Inv-values μ-values Inv-pages μ-pages Inv-regions μ-regions
 unfolding rule5
-returns-3 c = page-off (passed (c .before .before .before .before .before .before .before)) (sym (c .before .before .before .before .before .before .zero-between .ensures) ∙ not-false _ (c .before .before .before .before .before .if5 .left)) (omega arith) (λ z. omega arith)
+returns-3 c = page-off (passed (c .before .before .before .before .before .before .before)) (told-true (c .before .before .before .before .before .before .zero-between .ensures) (c .before .before .before .before .before .if5 .left)) (omega arith) (λ z. omega arith)
 
 pub rule5-spec : {M : Type 1} → statement M
 rule5-spec =

@@ -2,7 +2,7 @@
 use borrow.Author.Needs.{needs}
 use mathlib.Core.Path.{sym, ap, _∙_}
 use native.Mathlib.Omega.{arith}
-use borrow.Author.Tests.{not-true, not-false}
+use Rattle.laws.proofs.Turned.{told-true, told-false}
 use Rattle.desk.specs.Taking.{takesHead}
 use Rattle.printing.proofs.Lengths.{printed-as}
 use Rattle.desk.proofs.Programs.{taken, fronts-fit, program-stops, program-goes}
@@ -22,10 +22,10 @@ same-length : tie.Need-same-length
 same-length c = c .before .before .print-refusal .kept .1 .0
 
 returns : tie.Need-returns
-returns c = printed-as (program-stops _ (ap takesHead (sym (c .before .before .before .before .before .before .read-head .ensures)) ∙ sym (c .before .before .before .before .before .takes-head .ensures) ∙ not-true _ (c .before .before .before .before .if1 .taken))) (c .before .before .print-refusal .ensures)
+returns c = printed-as (program-stops _ (ap takesHead (sym (c .before .before .before .before .before .before .read-head .ensures)) ∙ told-false (c .before .before .before .before .before .takes-head .ensures) (c .before .before .before .before .if1 .taken))) (c .before .before .print-refusal .ensures)
 
 heap-words-requires : tie.Need-heap-words-requires
-heap-words-requires c κs = taken _ (sym (c .before .takes-head .ensures) ∙ not-false _ (c .if1 .left)) .n
+heap-words-requires c κs = taken _ (told-true (c .before .takes-head .ensures) (c .if1 .left)) .n
 
 cast-r : tie.Need-cast-r
 cast-r c = search needs
@@ -40,7 +40,7 @@ part-print-read-start : tie.Need-part-print-read-start
 part-print-read-start c = search needs
 
 part-print-read-end : tie.Need-part-print-read-end
-part-print-read-end c = let t = taken _ (sym (c .before .before .before .before .takes-head .ensures) ∙ not-false _ (c .before .before .before .if1 .left)) in omega (arith, c .before .before .heap-words .ensures)
+part-print-read-end c = let t = taken _ (told-true (c .before .before .before .before .takes-head .ensures) (c .before .before .before .if1 .left)) in omega (arith, c .before .before .heap-words .ensures)
 
 sub-print-read-2 : tie.Need-sub-print-read-2
 sub-print-read-2 c = search needs
@@ -49,7 +49,7 @@ part-print-read-start-2 : tie.Need-part-print-read-start-2
 part-print-read-start-2 c = search needs
 
 part-print-read-end-2 : tie.Need-part-print-read-end-2
-part-print-read-end-2 c = let t = taken _ (sym (c .before .before .before .before .before .before .takes-head .ensures) ∙ not-false _ (c .before .before .before .before .before .if1 .left)) in omega arith
+part-print-read-end-2 c = let t = taken _ (told-true (c .before .before .before .before .before .before .takes-head .ensures) (c .before .before .before .before .before .if1 .left)) in omega arith
 
 sub-print-read-3 : tie.Need-sub-print-read-3
 sub-print-read-3 c = search needs
@@ -58,10 +58,10 @@ part-print-read-start-3 : tie.Need-part-print-read-start-3
 part-print-read-start-3 c = search needs
 
 part-print-read-end-3 : tie.Need-part-print-read-end-3
-part-print-read-end-3 c = let t = taken _ (sym (c .before .before .before .before .before .before .before .takes-head .ensures) ∙ not-false _ (c .before .before .before .before .before .before .if1 .left)) in omega arith
+part-print-read-end-3 c = let t = taken _ (told-true (c .before .before .before .before .before .before .before .takes-head .ensures) (c .before .before .before .before .before .before .if1 .left)) in omega arith
 
 print-read-requires : tie.Need-print-read-requires
-print-read-requires c κs = let f = fronts-fit (c .before .before .before .before .before .before .before .before .before .before .before .before .before .before .before .before .before .args .text .now) (c .before .before .before .before .before .before .before .before .before .before .before .before .before .before .before .before .before .args .heap .now) (c .before .before .before .before .before .before .before .before .before .before .before .before .before .before .before .before .before .args .table .now) (c .before .before .before .before .before .before .before .before .before .before .before .before .before .before .before .before .before .args .roots .now) (c .before .before .before .before .before .before .before .before .before .before .before .before .before .before .before .before .before .args .consts .now) _ _ (c .before .before .before .before .before .before .before .before .before .before .read-head .ensures) (sym (c .before .before .before .before .before .before .before .before .before .takes-head .ensures) ∙ not-false _ (c .before .before .before .before .before .before .before .before .if1 .left)) (c .before .before .before .before .before .before .before .heap-words .ensures) (c .before .before .before .before .before .before .before .before .before .before .before .before .before .before .before .before .before .pre .0) (c .before .before .before .before .before .before .before .before .before .before .before .before .before .before .before .before .before .pre .1) (c .before .before .before .before .before .before .before .before .before .before .before .before .before .before .before .before .before .pre .2) (c .before .before .before .before .before .before .before .before .before .before .before .before .before .before .before .before .before .pre .3) in (f .0, f .1, f .2, c .before .before .before .before .before .before .before .before .before .before .before .before .before .before .before .before .before .pre .4)
+print-read-requires c κs = let f = fronts-fit (c .before .before .before .before .before .before .before .before .before .before .before .before .before .before .before .before .before .args .text .now) (c .before .before .before .before .before .before .before .before .before .before .before .before .before .before .before .before .before .args .heap .now) (c .before .before .before .before .before .before .before .before .before .before .before .before .before .before .before .before .before .args .table .now) (c .before .before .before .before .before .before .before .before .before .before .before .before .before .before .before .before .before .args .roots .now) (c .before .before .before .before .before .before .before .before .before .before .before .before .before .before .before .before .before .args .consts .now) _ _ (c .before .before .before .before .before .before .before .before .before .before .read-head .ensures) (told-true (c .before .before .before .before .before .before .before .before .before .takes-head .ensures) (c .before .before .before .before .before .before .before .before .if1 .left)) (c .before .before .before .before .before .before .before .heap-words .ensures) (c .before .before .before .before .before .before .before .before .before .before .before .before .before .before .before .before .before .pre .0) (c .before .before .before .before .before .before .before .before .before .before .before .before .before .before .before .before .before .pre .1) (c .before .before .before .before .before .before .before .before .before .before .before .before .before .before .before .before .before .pre .2) (c .before .before .before .before .before .before .before .before .before .before .before .before .before .before .before .before .before .pre .3) in (f .0, f .1, f .2, c .before .before .before .before .before .before .before .before .before .before .before .before .before .before .before .before .before .pre .4)
 
 same-length-2 : tie.Need-same-length-2
 same-length-2 c = search needs
@@ -79,7 +79,7 @@ same-length-6 : tie.Need-same-length-6
 same-length-6 c = c .before .before .before .before .before .before .before .before .before .before .print-read .kept .1 .1 .1 .1 .1 .0
 
 returns-2 : tie.Need-returns-2
-returns-2 c = printed-as (program-goes _ (ap takesHead (sym (c .before .before .before .before .before .before .before .before .before .before .before .before .before .before .before .before .before .before .before .before .before .read-head .ensures)) ∙ sym (c .before .before .before .before .before .before .before .before .before .before .before .before .before .before .before .before .before .before .before .before .takes-head .ensures) ∙ not-false _ (c .before .before .before .before .before .before .before .before .before .before .before .before .before .before .before .before .before .before .before .if1 .left))) (c .before .before .before .before .before .before .before .before .before .before .print-read .ensures)
+returns-2 c = printed-as (program-goes _ (ap takesHead (sym (c .before .before .before .before .before .before .before .before .before .before .before .before .before .before .before .before .before .before .before .before .before .read-head .ensures)) ∙ told-true (c .before .before .before .before .before .before .before .before .before .before .before .before .before .before .before .before .before .before .before .before .takes-head .ensures) (c .before .before .before .before .before .before .before .before .before .before .before .before .before .before .before .before .before .before .before .if1 .left))) (c .before .before .before .before .before .before .before .before .before .before .print-read .ensures)
 
 pub print-parts-spec : {M : Type 1} → statement M
 print-parts-spec =

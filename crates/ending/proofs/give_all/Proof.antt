@@ -8,7 +8,7 @@ use Rattle.laws.proofs.Each.{steps-end}
 use Rattle.rules.specs.Memory.{firstLink}
 use Rattle.motion.specs.Leaves.{desk}
 use Rattle.motion.specs.Whole.{giveChain}
-use Rattle.motion.proofs.Chains.{give-region}
+use Rattle.motion.proofs.Chains.{region-turn}
 use borrow.Author.Needs.{needs}
 use Rattle.ending.proofs.give_all.Statement.{statement}
 use Rattle.ending.proofs.give_all.Tie as tie
@@ -44,7 +44,7 @@ loop-less : tie.Need-loop-less Inv-loop μ-loop
 loop-less c = omega arith
 
 loop-again : tie.Need-loop-again Inv-loop μ-loop
-loop-again c = (rw (c .next-region .ensures) (sym (give-region (c .before .before .before .before .before .before .before .before .before .before .before .before .before .before .before .before .args .n) (c .before .before .before .before .before .before .before .before .before .before .before .loop .left) (c .before .before .before .before .before .before .before .before .before .before .before .before .before .before .before .before .args .pages) (c .before .before .before .before .before .before .before .before .before .before .before .loop .j .0) (c .before .before .before .before .before .before .address-page .result .0) (c .before .before .before .before .before .before .before .before .before .first-of .result .0) (c .before .before .before .before .before .before .before .before .before .before .before .before .before .before .before .before .args .table .now) _ _ (c .before .before .before .before .before .before .before .before .before .before .loop-test .taken) (c .before .before .before .before .before .before .before .before .before .first-of .ensures .0) (c .before .before .before .before .before .before .address-page .ensures) (c .before .before .before .before .before .give-chain .ensures)) ∙ c .before .before .before .before .before .before .before .before .before .before .before .loop .inv .0), c .before .before .before .before .before .give-chain .kept .0 ∙ c .before .before .before .before .before .before .before .before .before .before .before .loop .inv .1, c .before .before .before .before .before .give-chain .kept .1 .0 ∙ c .before .before .before .before .before .before .before .before .before .before .before .loop .inv .2, omega (arith, c .next-region .ensures))
+loop-again c = (rw (c .next-region .ensures) (sym (region-turn (c .before .before .before .before .before .before .before .before .before .before .before .before .before .before .before .before .args .n) (c .before .before .before .before .before .before .before .before .before .before .before .loop .left) (c .before .before .before .before .before .before .before .before .before .before .before .loop .j .0) (c .before .before .before .before .before .before .address-page .result .0) (c .before .before .before .before .before .before .before .before .before .first-of .result .0) (c .before .before .before .before .before .before .before .before .before .before .before .before .before .before .before .before .args .table .now) (λ i. giveChain (c .before .before .before .before .before .before .before .before .before .before .before .before .before .before .before .before .args .n) (c .before .before .before .before .before .before .before .before .before .before .before .before .before .before .before .before .args .pages)) _ _ (c .before .before .before .before .before .before .before .before .before .before .loop-test .taken) (c .before .before .before .before .before .before .before .before .before .first-of .ensures .0) (c .before .before .before .before .before .before .address-page .ensures) (c .before .before .before .before .before .give-chain .ensures)) ∙ c .before .before .before .before .before .before .before .before .before .before .before .loop .inv .0), c .before .before .before .before .before .give-chain .kept .0 ∙ c .before .before .before .before .before .before .before .before .before .before .before .loop .inv .1, c .before .before .before .before .before .give-chain .kept .1 .0 ∙ c .before .before .before .before .before .before .before .before .before .before .before .loop .inv .2, omega (arith, c .next-region .ensures))
 
 same-length : tie.Need-same-length Inv-loop μ-loop
 same-length c = c .before .loop .inv .1

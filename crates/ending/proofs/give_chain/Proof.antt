@@ -9,7 +9,8 @@ use Rattle.rules.specs.Refusals.{Paged}
 use Rattle.rules.proofs.Limits.{page-number}
 use Rattle.motion.specs.Leaves.{desk}
 use Rattle.motion.specs.Whole.{linkOn, giveBack as giveBackDef}
-use Rattle.motion.proofs.Chains.{link-at, named, page-kept}
+use Rattle.rules.proofs.Pages.{link-at}
+use Rattle.motion.proofs.Chains.{named, page-kept}
 use borrow.Author.Needs.{needs}
 use Rattle.ending.proofs.give_chain.Statement.{statement}
 use Rattle.ending.proofs.give_chain.Tie as tie

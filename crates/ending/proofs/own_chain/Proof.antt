@@ -7,8 +7,9 @@ use Rattle.laws.specs.Each.{along}
 use Rattle.laws.proofs.Each.{along-more, along-past, along-last, along-end}
 use Rattle.rules.specs.Memory.{link}
 use Rattle.motion.specs.Whole.{own}
-use Rattle.motion.proofs.Leaves.{page-below}
-use Rattle.motion.proofs.Chains.{link-at, owned, named}
+use Rattle.rules.proofs.Limits.{address-small}
+use Rattle.rules.proofs.Pages.{link-at}
+use Rattle.motion.proofs.Chains.{owned, named}
 use borrow.Author.Needs.{needs}
 use Rattle.ending.proofs.own_chain.Statement.{statement}
 use Rattle.ending.proofs.own_chain.Tie as tie
@@ -35,7 +36,7 @@ word-requires : tie.Need-word-requires Inv-loop μ-loop
 word-requires c κs = search needs
 
 add-write : tie.Need-add-write Inv-loop μ-loop
-add-write c = let b : c .before .before .before .before .before .before .before .before .loop .k .0 ≤ 65536 = omega arith in omega (arith, c .before .before .before .before .page-address .ensures, page-below _ _ (c .before .before .before .before .before .before .before .before .before .before .pre .0) b)
+add-write c = let b : c .before .before .before .before .before .before .before .before .loop .k .0 ≤ 65536 = omega arith in omega (arith, c .before .before .before .before .page-address .ensures, address-small _ _ b (c .before .before .before .before .before .before .before .before .before .before .pre .0) .0)
 
 region-origin-requires : tie.Need-region-origin-requires Inv-loop μ-loop
 region-origin-requires c κs = omega arith

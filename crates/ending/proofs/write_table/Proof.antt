@@ -4,7 +4,7 @@ use mathlib.Core.Path.{_≡_, refl, _∙_}
 use native.Mathlib.Omega.{arith}
 use lib.ListN.{length}
 use lib.Seq.{paste, paste-zero}
-use Rattle.laws.proofs.Copies.{front-done}
+use Rattle.laws.proofs.Copies.{paste-done}
 use Rattle.ending.proofs.Written.{row-more}
 use borrow.Author.Needs.{needs}
 use Rattle.ending.proofs.write_table.Statement.{statement}
@@ -43,7 +43,7 @@ same-length : tie.Need-same-length Inv-loop μ-loop
 same-length c = c .before .loop .inv .1
 
 returns : tie.Need-returns Inv-loop μ-loop
-returns c = c .before .loop .inv .0 ∙ front-done _ _ _ _ (c .before .loop .inv .2) (c .loop-test .left) (c .before .before .before .before .pre .2)
+returns c = c .before .loop .inv .0 ∙ paste-done _ _ _ _ _ (c .before .loop .inv .2) (c .loop-test .left) (c .before .before .before .before .pre .2)
 
 pub write-table-spec : {M : Type 1} → statement M
 write-table-spec =

@@ -4,10 +4,10 @@ use mathlib.Core.Bool.{true, _&&_}
 use mathlib.Core.Logic.{⊎-elim}
 use Prim.Native.Nat.{_+_, _-_, _^_, _≤_}
 use native.Mathlib.Omega.{arith}
-use borrow.Author.Tests.{not-true, not-false}
 use lib.ListN.{length}
 use Rattle.laws.specs.Lists.{all, allFrom}
 use Rattle.laws.proofs.Tests.{from-end}
+use Rattle.laws.proofs.Turned.{told-true, told-false}
 use Rattle.rules.specs.Memory.{chain}
 use Rattle.rules.specs.Audit.{endsAt}
 use Rattle.rules.proofs.Limits.{Inside, page-here, pages-few}
@@ -60,7 +60,7 @@ first-link-requires : tie.Need-first-link-requires Inv-pages μ-pages Inv-region
 first-link-requires c κs = omega arith
 
 pages-holds : tie.Need-pages-holds Inv-pages μ-pages Inv-regions μ-regions
-pages-holds c = (sym (four-open _ _ _ _ (c .before .before .before .before .before .before .before .page-count .ensures) _ _ (omega arith) _ (sym (c .before .before .before .top-fits .ensures) ∙ not-false _ (c .before .before .if1 .left)) (c .first-link .ensures)) ∙ c .before .before .before .before .before .regions .inv .0, c .before .before .before .before .before .regions .inv .1)
+pages-holds c = (sym (four-open _ _ _ _ (c .before .before .before .before .before .before .before .page-count .ensures) _ _ (omega arith) _ (told-true (c .before .before .before .top-fits .ensures) (c .before .before .if1 .left)) (c .first-link .ensures)) ∙ c .before .before .before .before .before .regions .inv .0, c .before .before .before .before .before .regions .inv .1)
 
 over : (c : tie.Left-pages Inv-pages μ-pages Inv-regions μ-regions) → Over (c .before .before .before .before .before .before .before .before .before .before .before .before .before .before .before .before .args .c .n) (c .before .before .before .before .before .before .before .before .before .page-count .result) (c .before .before .before .before .before .before .before .before .before .before .before .before .before .before .before .before .args .heap .now) (c .before .before .before .before .before .before .before .before .before .page-count .ensures) (c .before .pages .left) (c .before .pages .link)
 over c = ⊎-elim (λ w. over-fuel _ _ _ _ _ _ (omega (arith, w .left))) (⊎-elim (λ w. over-none _ _ _ _ _ _ (omega (arith, w .1 .taken))) (λ w. over-bad _ _ _ _ _ _ (omega (arith, w .2 .taken)))) (c .pages-test .came)
@@ -111,7 +111,7 @@ returns : tie.Need-returns Inv-pages μ-pages Inv-regions μ-regions
 returns c = c .before .regions .inv .1 ∙ sym (from-end _ _ _ (omega arith)) ∙ c .before .regions .inv .0 ∙ four-each _ _ _ _ _
 
 returns-2 : tie.Need-returns-2 Inv-pages μ-pages Inv-regions μ-regions
-returns-2 c = sym (four-shut _ _ _ _ (c .before .before .before .before .before .page-count .ensures) _ _ (omega arith) (sym (c .before .top-fits .ensures) ∙ not-true _ (c .if1 .taken))) ∙ c .before .before .before .regions .inv .0 ∙ four-each _ _ _ _ _
+returns-2 c = sym (four-shut _ _ _ _ (c .before .before .before .before .before .page-count .ensures) _ _ (omega arith) (told-false (c .before .top-fits .ensures) (c .if1 .taken))) ∙ c .before .before .before .regions .inv .0 ∙ four-each _ _ _ _ _
 
 returns-3 : tie.Need-returns-3 Inv-pages μ-pages Inv-regions μ-regions
 returns-3 c = sym (four-off _ _ _ _ (c .before .before .before .before .before .before .before .before .before .before .before .before .before .before .before .before .before .before .page-count .ensures) _ _ _ _ _ (c .before .before .before .before .before .before .before .before .before .before .before .before .end-of .ensures .0) (c .before .before .before .before .before .before .before .before .before .before .before .before .before .before .before .before .before .before .before .page-words .ensures) _ _ (c .before .before .before .before .before .before .link-address .ensures) (omega arith) (λ z. omega arith) (omega arith) (omega arith) (λ z. omega arith)) ∙ c .before .before .before .before .before .before .before .before .before .before .pages .inv .0 ∙ four-each _ _ _ _ _

@@ -3,9 +3,9 @@ use mathlib.Core.Path.{_≡_, refl, sym, _∙_}
 use mathlib.Core.Bool.{true, _&&_}
 use Prim.Native.Nat.{_-_, _^_, _≤_}
 use native.Mathlib.Omega.{arith}
-use borrow.Author.Tests.{not-true, not-false}
 use lib.ListN.{length}
 use Rattle.laws.specs.Lists.{all}
+use Rattle.laws.proofs.Turned.{told-true, told-false}
 use Rattle.rules.specs.Memory.{chain}
 use Rattle.rules.specs.Audit.{clean}
 use Rattle.rules.proofs.Limits.{Inside, page-here, pages-few}
@@ -63,7 +63,7 @@ pages-less : tie.Need-pages-less Inv-pages μ-pages
 pages-less c = omega arith
 
 pages-again : tie.Need-pages-again Inv-pages μ-pages
-pages-again c = (sym (nine-go _ _ _ (c .before .before .before .before .before .before .before .before .before .before .page-count .ensures) _ _ _ (c .before .before .before .before .before .before .before .before .before .before .before .page-words .ensures) _ _ (c .before .before .before .before .before .link-address .ensures) (omega arith) (λ z. omega arith) (omega arith) (c .before .before .before .before .address-behind .result .0) (c .before .before .before .address-behind2 .result .0) (omega arith) (omega arith) (sym (c .before .before .zero-between .ensures) ∙ not-false _ (c .before .if3 .left))) ∙ c .before .before .before .before .before .before .before .before .before .pages .inv .0, c .before .before .before .before .before .before .before .before .before .pages .inv .1)
+pages-again c = (sym (nine-go _ _ _ (c .before .before .before .before .before .before .before .before .before .before .page-count .ensures) _ _ _ (c .before .before .before .before .before .before .before .before .before .before .before .page-words .ensures) _ _ (c .before .before .before .before .before .link-address .ensures) (omega arith) (λ z. omega arith) (omega arith) (c .before .before .before .before .address-behind .result .0) (c .before .before .before .address-behind2 .result .0) (omega arith) (omega arith) (told-true (c .before .before .zero-between .ensures) (c .before .if3 .left))) ∙ c .before .before .before .before .before .before .before .before .before .pages .inv .0, c .before .before .before .before .before .before .before .before .before .pages .inv .1)
 
 returns : tie.Need-returns Inv-pages μ-pages
 returns c = c .before .pages .inv .1 ∙ sym (pages-over _ _ _ _ _ _ _ _ (over-fuel _ _ _ (c .before .before .page-count .ensures) _ _ (omega arith))) ∙ c .before .pages .inv .0 ∙ nine-open _ _ _ _ _ _ (c .before .before .page-count .ensures)
@@ -75,7 +75,7 @@ returns-3 : tie.Need-returns-3 Inv-pages μ-pages
 returns-3 c = c .before .before .before .pages .inv .1 ∙ sym (pages-over _ _ _ _ _ _ _ _ (over-bad _ _ _ (c .before .before .before .before .page-count .ensures) _ _ (omega arith))) ∙ c .before .before .before .pages .inv .0 ∙ nine-open _ _ _ _ _ _ (c .before .before .before .before .page-count .ensures)
 
 returns-4 : tie.Need-returns-4 Inv-pages μ-pages
-returns-4 c = sym (nine-stop _ _ _ (c .before .before .before .before .before .before .before .before .before .page-count .ensures) _ _ _ (c .before .before .before .before .before .before .before .before .before .before .page-words .ensures) _ _ (c .before .before .before .before .link-address .ensures) (omega arith) (λ z. omega arith) (omega arith) (c .before .before .before .address-behind .result .0) (c .before .before .address-behind2 .result .0) (omega arith) (omega arith) (sym (c .before .zero-between .ensures) ∙ not-true _ (c .if3 .taken))) ∙ c .before .before .before .before .before .before .before .before .pages .inv .0 ∙ nine-open _ _ _ _ _ _ (c .before .before .before .before .before .before .before .before .before .page-count .ensures)
+returns-4 c = sym (nine-stop _ _ _ (c .before .before .before .before .before .before .before .before .before .page-count .ensures) _ _ _ (c .before .before .before .before .before .before .before .before .before .before .page-words .ensures) _ _ (c .before .before .before .before .link-address .ensures) (omega arith) (λ z. omega arith) (omega arith) (c .before .before .before .address-behind .result .0) (c .before .before .address-behind2 .result .0) (omega arith) (omega arith) (told-false (c .before .zero-between .ensures) (c .if3 .taken))) ∙ c .before .before .before .before .before .before .before .before .pages .inv .0 ∙ nine-open _ _ _ _ _ _ (c .before .before .before .before .before .before .before .before .before .page-count .ensures)
 
 pub rule9-spec : {M : Type 1} → statement M
 rule9-spec =

@@ -4,11 +4,11 @@ use mathlib.Core.Bool.{true, _&&_}
 use mathlib.Core.Logic.{⊎-elim}
 use Prim.Native.Nat.{_+_, _-_, _^_, _≤_}
 use native.Mathlib.Omega.{arith}
-use borrow.Author.Tests.{not-true, not-false}
 use lib.ListN.{length, getD}
 use lib.Seq.{slice}
 use Rattle.laws.specs.Lists.{all}
 use Rattle.laws.proofs.Tests.{from-end, fields-end, fields-go, fields-stop}
+use Rattle.laws.proofs.Turned.{told-true, told-false}
 use Rattle.rules.specs.Memory.{chain}
 use Rattle.rules.specs.Words.{valsIn, fieldsPass}
 use Rattle.rules.specs.Audit.{pagePass}
@@ -254,7 +254,7 @@ address-behind-requires-3 :
 address-behind-requires-3 c κs = omega (arith, here (c .before .before .before .before .before .before .before .before .before .before .before), inside (c .before .before .before .before .before .before .before .before .before .before), c .before .before .before .before .shared-slice-known4 .given (c .before .before .before .before .before .before .before .before .values .at .0))
 
 within : (c : tie.After-address-behind3 Inv-loop μ-loop Inv-values μ-values Inv-pages μ-pages Inv-regions μ-regions) → c .address-behind3 .result .0 ≤ length (c .before .before .before .before .before .before .before .before .before .before .before .before .before .before .before .before .before .before .before .before .before .before .before .before .before .before .args .heap .now)
-within c = let f = fit-of _ _ (sym (c .before .before .fits2 .ensures) ∙ not-false _ (c .before .if4 .left)) .1 in omega (arith, inside (c .before .before .before .before .before .before .before .before .before .before .before))
+within c = let f = fit-of _ _ (told-true (c .before .before .fits2 .ensures) (c .before .if4 .left)) .1 in omega (arith, inside (c .before .before .before .before .before .before .before .before .before .before .before))
 
 is-record-requires :
     tie.Need-is-record-requires
@@ -290,7 +290,7 @@ values-again :
     μ-pages
     Inv-regions
     μ-regions
-values-again c = (sym (raw-go _ _ _ _ _ (c .before .before .before .before .before .before .before .before .if3 .taken) (inside (c .before .before .before .before .before .before .before .before .before .before .before .before .before)) (sym (c .before .before .before .before .fits2 .ensures) ∙ not-false _ (c .before .before .before .if4 .left)) _ (c .before .before .address-behind3 .ensures) (sym (c .before .is-record .ensures) ∙ not-true _ (c .if5 .taken))) ∙ c .before .before .before .before .before .before .before .before .before .before .before .values .inv .0, c .before .before .before .before .before .before .before .before .before .before .before .values .inv .1)
+values-again c = (sym (raw-go _ _ _ _ _ (c .before .before .before .before .before .before .before .before .if3 .taken) (inside (c .before .before .before .before .before .before .before .before .before .before .before .before .before)) (told-true (c .before .before .before .before .fits2 .ensures) (c .before .before .before .if4 .left)) _ (c .before .before .address-behind3 .ensures) (told-false (c .before .is-record .ensures) (c .if5 .taken))) ∙ c .before .before .before .before .before .before .before .before .before .before .before .values .inv .0, c .before .before .before .before .before .before .before .before .before .before .before .values .inv .1)
 
 address-behind-requires-4 :
     tie.Need-address-behind-requires-4
@@ -306,7 +306,7 @@ address-behind-requires-4 c κs = omega (arith, here (c .before .before .before 
 
 loop-holds :
     tie.Need-loop-holds Inv-loop μ-loop Inv-values μ-values Inv-pages μ-pages Inv-regions μ-regions
-loop-holds c = (sym (record-go _ _ _ _ _ (c .before .before .before .before .before .before .before .before .before .if3 .taken) (inside (c .before .before .before .before .before .before .before .before .before .before .before .before .before .before)) (sym (c .before .before .before .before .before .fits2 .ensures) ∙ not-false _ (c .before .before .before .before .if4 .left)) _ (c .before .before .before .address-behind3 .ensures) (sym (c .before .before .is-record .ensures) ∙ not-false _ (c .before .if5 .left)) (c .address-behind4 .result .0) (omega arith)) ∙ c .before .before .before .before .before .before .before .before .before .before .before .before .values .inv .0, c .before .before .before .before .before .before .before .before .before .before .before .before .values .inv .1)
+loop-holds c = (sym (record-go _ _ _ _ _ (c .before .before .before .before .before .before .before .before .before .if3 .taken) (inside (c .before .before .before .before .before .before .before .before .before .before .before .before .before .before)) (told-true (c .before .before .before .before .before .fits2 .ensures) (c .before .before .before .before .if4 .left)) _ (c .before .before .before .address-behind3 .ensures) (told-true (c .before .before .is-record .ensures) (c .before .if5 .left)) (c .address-behind4 .result .0) (omega arith)) ∙ c .before .before .before .before .before .before .before .before .before .before .before .before .values .inv .0, c .before .before .before .before .before .before .before .before .before .before .before .before .values .inv .1)
 
 mul-word-passes :
     tie.Need-mul-word-passes
@@ -362,7 +362,7 @@ loop-less c = omega arith
 
 loop-again :
     tie.Need-loop-again Inv-loop μ-loop Inv-values μ-values Inv-pages μ-pages Inv-regions μ-regions
-loop-again c = (rw (c .address-behind5 .ensures) (sym (fields-go _ _ _ _ _ (c .before .before .before .before .if6 .taken) (within (c .before .before .before .before .before .before .before .before .before .before .before)) (sym (c .before .before .word-passes .ensures) ∙ not-false _ (c .before .if7 .left))) ∙ c .before .before .before .before .before .before .before .loop .inv .0), c .before .before .before .before .before .before .before .loop .inv .1)
+loop-again c = (rw (c .address-behind5 .ensures) (sym (fields-go _ _ _ _ _ (c .before .before .before .before .if6 .taken) (within (c .before .before .before .before .before .before .before .before .before .before .before)) (told-true (c .before .before .word-passes .ensures) (c .before .if7 .left))) ∙ c .before .before .before .before .before .before .before .loop .inv .0), c .before .before .before .before .before .before .before .loop .inv .1)
 
 values-less-2 :
     tie.Need-values-less-2
@@ -422,7 +422,7 @@ pages-again :
     μ-pages
     Inv-regions
     μ-regions
-pages-again c = (⊎-elim (λ w. sym (values-end _ _ _ _ _ (w .left)) ∙ c .before .before .before .before .values .inv .0) (λ w. sym (values-stop _ _ _ _ _ (w .0 .taken) (inside (c .before .before .before .before .before .before)) (sym (w .4 .ensures) ∙ not-true _ (w .5 .taken))) ∙ c .before .before .before .before .values .inv .0) (c .before .if3 .came), c .before .before .before .before .values .inv .1)
+pages-again c = (⊎-elim (λ w. sym (values-end _ _ _ _ _ (w .left)) ∙ c .before .before .before .before .values .inv .0) (λ w. sym (values-stop _ _ _ _ _ (w .0 .taken) (inside (c .before .before .before .before .before .before)) (told-false (w .4 .ensures) (w .5 .taken))) ∙ c .before .before .before .before .values .inv .0) (c .before .if3 .came), c .before .before .before .before .values .inv .1)
 
 next-region-requires :
     tie.Need-next-region-requires
@@ -478,7 +478,7 @@ returns c = c .before .regions .inv .1 ∙ sym (from-end _ _ _ (c .regions-test 
 
 returns-2 :
     tie.Need-returns-2 Inv-loop μ-loop Inv-values μ-values Inv-pages μ-pages Inv-regions μ-regions
-returns-2 c = sym (fields-stop _ _ _ _ _ (c .before .before .before .if6 .taken) (within (c .before .before .before .before .before .before .before .before .before .before)) (sym (c .before .word-passes .ensures) ∙ not-true _ (c .if7 .taken))) ∙ c .before .before .before .before .before .before .loop .inv .0
+returns-2 c = sym (fields-stop _ _ _ _ _ (c .before .before .before .if6 .taken) (within (c .before .before .before .before .before .before .before .before .before .before)) (told-false (c .before .word-passes .ensures) (c .if7 .taken))) ∙ c .before .before .before .before .before .before .loop .inv .0
 
 pub records-pass-spec : {M : Type 1} → statement M
 records-pass-spec =

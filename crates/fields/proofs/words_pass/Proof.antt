@@ -4,10 +4,10 @@ use mathlib.Core.Bool.{true, _&&_}
 use Prim.Native.Nat.{_-_}
 use native.Mathlib.Nat.{le-refl}
 use native.Mathlib.Omega.{arith}
-use borrow.Author.Tests.{not-true, not-false}
 use lib.Seq.{slice}
 use Rattle.laws.specs.Lists.{all}
 use Rattle.laws.proofs.Tests.{fields-all, fields-end, fields-go, fields-stop}
+use Rattle.laws.proofs.Turned.{told-true, told-false}
 use Rattle.fields.specs.Passing.{passes}
 use Rattle.fields.proofs.words_pass.Statement.{statement}
 use Rattle.fields.proofs.words_pass.Tie as tie
@@ -31,7 +31,7 @@ word-passes-requires : tie.Need-word-passes-requires Inv-loop μ-loop
 word-passes-requires c κs = c .before .before .before .before .before .before .pre
 
 returns : tie.Need-returns Inv-loop μ-loop
-returns c = sym (fields-stop _ _ _ _ _ (c .before .before .before .loop-test .taken) (le-refl _) (sym (c .before .word-passes .ensures) ∙ not-true _ (c .if1 .taken))) ∙ c .before .before .before .before .loop .inv ∙ fields-all _ _
+returns c = sym (fields-stop _ _ _ _ _ (c .before .before .before .loop-test .taken) (le-refl _) (told-false (c .before .word-passes .ensures) (c .if1 .taken))) ∙ c .before .before .before .before .loop .inv ∙ fields-all _ _
 
 add-i : tie.Need-add-i Inv-loop μ-loop
 add-i c = omega arith
@@ -40,7 +40,7 @@ loop-less : tie.Need-loop-less Inv-loop μ-loop
 loop-less c = omega arith
 
 loop-again : tie.Need-loop-again Inv-loop μ-loop
-loop-again c = sym (fields-go _ _ _ _ _ (c .before .before .before .loop-test .taken) (le-refl _) (sym (c .before .word-passes .ensures) ∙ not-false _ (c .if1 .left))) ∙ c .before .before .before .before .loop .inv
+loop-again c = sym (fields-go _ _ _ _ _ (c .before .before .before .loop-test .taken) (le-refl _) (told-true (c .before .word-passes .ensures) (c .if1 .left))) ∙ c .before .before .before .before .loop .inv
 
 returns-2 : tie.Need-returns-2 Inv-loop μ-loop
 returns-2 c = sym (fields-end _ _ _ _ _ (c .loop-test .left)) ∙ c .before .loop .inv ∙ fields-all _ _

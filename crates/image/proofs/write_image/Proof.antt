@@ -1,11 +1,10 @@
 -- `image::write_image` meets its contract: the first tests, the table past 4R, the length, and then the text.
 use borrow.Author.Needs.{needs}
 use Prim.Native.Nat.{_*_}
-use mathlib.Core.Path.{sym, ap, _∙_}
+use mathlib.Core.Path.{sym, _∙_}
 use native.Mathlib.Omega.{arith}
-use borrow.Author.Tests.{not-true, not-false}
-use Rattle.laws.specs.Lists.{zeros}
-use Rattle.laws.proofs.Parts.{part-rest}
+use Rattle.laws.proofs.Parts.{zeros-rest}
+use Rattle.laws.proofs.Turned.{told-true, told-false}
 use Rattle.rules.specs.declared.Valued.{Valued}
 use Rattle.rules.specs.Memory.{lent}
 use Rattle.rules.specs.Image.{written, writeImage}
@@ -50,14 +49,14 @@ all-zero-requires c κs = search needs
 
 returns-2 : tie.Need-returns-2
 unfolding writeImage
-returns-2 c = let f = tests-pass _ _ _ _ _ (c .before .before .before .before .before .before .first-tests .ensures) (c .before .before .before .before .enum-told .given .1) in rw (f .0, f .1, ap zeros (sym (part-rest (c .before .before .before .before .before .before .before .before .before .before .before .before .args .table .now) (4 * c .before .before .before .before .before .before .before .before .before .before .before .before .args .c .regions))) ∙ sym (c .before .all-zero .ensures) ∙ not-true _ (c .if1 .taken))
+returns-2 c = let f = tests-pass _ _ _ _ _ (c .before .before .before .before .before .before .first-tests .ensures) (c .before .before .before .before .enum-told .given .1) in rw (f .0, f .1, zeros-rest (c .before .before .before .before .before .before .before .before .before .before .before .before .args .table .now) (4 * c .before .before .before .before .before .before .before .before .before .before .before .before .args .c .regions) ∙ told-false (c .before .all-zero .ensures) (c .if1 .taken))
 
 text-length-requires : tie.Need-text-length-requires
 text-length-requires c κs = tests-admit _ _ _ _ _ (c .before .before .before .before .before .before .first-tests .ensures) (c .before .before .before .before .enum-told .given .1)
 
 returns-3 : tie.Need-returns-3
 unfolding writeImage
-returns-3 c = let f = tests-pass _ _ _ _ _ (c .before .before .before .before .before .before .before .before .first-tests .ensures) (c .before .before .before .before .before .before .enum-told .given .1) in rw (f .0, f .1, ap zeros (sym (part-rest (c .before .before .before .before .before .before .before .before .before .before .before .before .before .before .args .table .now) (4 * c .before .before .before .before .before .before .before .before .before .before .before .before .before .before .args .c .regions))) ∙ sym (c .before .before .before .all-zero .ensures) ∙ not-false _ (c .before .before .if1 .left)) (sym (text-long (lent (c .before .before .before .before .before .before .before .before .before .before .before .before .before .before .args .heap .now) (c .before .before .before .before .before .before .before .before .before .before .before .before .before .before .args .table .now) (c .before .before .before .before .before .before .before .before .before .before .before .before .before .before .args .roots .now) (c .before .before .before .before .before .before .before .before .before .before .before .before .before .before .args .consts .now) (c .before .before .before .before .before .before .before .before .before .before .before .before .before .before .args .c)) _ _ (c .before .text-length .ensures .0) (omega arith)))
+returns-3 c = let f = tests-pass _ _ _ _ _ (c .before .before .before .before .before .before .before .before .first-tests .ensures) (c .before .before .before .before .before .before .enum-told .given .1) in rw (f .0, f .1, zeros-rest (c .before .before .before .before .before .before .before .before .before .before .before .before .before .before .args .table .now) (4 * c .before .before .before .before .before .before .before .before .before .before .before .before .before .before .args .c .regions) ∙ told-true (c .before .before .before .all-zero .ensures) (c .before .before .if1 .left)) (sym (text-long (lent (c .before .before .before .before .before .before .before .before .before .before .before .before .before .before .args .heap .now) (c .before .before .before .before .before .before .before .before .before .before .before .before .before .before .args .table .now) (c .before .before .before .before .before .before .before .before .before .before .before .before .before .before .args .roots .now) (c .before .before .before .before .before .before .before .before .before .before .before .before .before .before .args .consts .now) (c .before .before .before .before .before .before .before .before .before .before .before .before .before .before .args .c)) _ _ (c .before .text-length .ensures .0) (omega arith)))
 
 write-text-requires : tie.Need-write-text-requires
 write-text-requires c κs = (tests-admit _ _ _ _ _ (c .before .before .before .before .before .before .before .before .before .first-tests .ensures) (c .before .before .before .before .before .before .before .enum-told .given .1), omega (arith, c .before .before .text-length .ensures .0))
@@ -70,7 +69,7 @@ same-length c = search needs
 
 returns-4 : tie.Need-returns-4
 unfolding writeImage
-returns-4 c = let f = tests-pass _ _ _ _ _ (c .before .before .before .before .before .before .before .before .before .before .before .before .first-tests .ensures) (c .before .before .before .before .before .before .before .before .before .before .enum-told .given .1) in rw (f .0, f .1, ap zeros (sym (part-rest (c .before .before .before .before .before .before .before .before .before .before .before .before .before .before .before .before .before .before .args .table .now) (4 * c .before .before .before .before .before .before .before .before .before .before .before .before .before .before .before .before .before .before .args .c .regions))) ∙ sym (c .before .before .before .before .before .before .before .all-zero .ensures) ∙ not-false _ (c .before .before .before .before .before .before .if1 .left)) (sym (text-done (lent (c .before .before .before .before .before .before .before .before .before .before .before .before .before .before .before .before .before .before .args .heap .now) (c .before .before .before .before .before .before .before .before .before .before .before .before .before .before .before .before .before .before .args .table .now) (c .before .before .before .before .before .before .before .before .before .before .before .before .before .before .before .before .before .before .args .roots .now) (c .before .before .before .before .before .before .before .before .before .before .before .before .before .before .before .before .before .before .args .consts .now) (c .before .before .before .before .before .before .before .before .before .before .before .before .before .before .before .before .before .before .args .c)) _ _ (c .before .before .before .before .before .text-length .ensures .0) _ (omega arith) (c .before .before .write-text .ensures)))
+returns-4 c = let f = tests-pass _ _ _ _ _ (c .before .before .before .before .before .before .before .before .before .before .before .before .first-tests .ensures) (c .before .before .before .before .before .before .before .before .before .before .enum-told .given .1) in rw (f .0, f .1, zeros-rest (c .before .before .before .before .before .before .before .before .before .before .before .before .before .before .before .before .before .before .args .table .now) (4 * c .before .before .before .before .before .before .before .before .before .before .before .before .before .before .before .before .before .before .args .c .regions) ∙ told-true (c .before .before .before .before .before .before .before .all-zero .ensures) (c .before .before .before .before .before .before .if1 .left)) (sym (text-done (lent (c .before .before .before .before .before .before .before .before .before .before .before .before .before .before .before .before .before .before .args .heap .now) (c .before .before .before .before .before .before .before .before .before .before .before .before .before .before .before .before .before .before .args .table .now) (c .before .before .before .before .before .before .before .before .before .before .before .before .before .before .before .before .before .before .args .roots .now) (c .before .before .before .before .before .before .before .before .before .before .before .before .before .before .before .before .before .before .args .consts .now) (c .before .before .before .before .before .before .before .before .before .before .before .before .before .before .before .before .before .before .args .c)) _ _ (c .before .before .before .before .before .text-length .ensures .0) _ (omega arith) (c .before .before .write-text .ensures)))
 
 pub write-image-spec : {M : Type 1} → statement M
 write-image-spec =

@@ -1,7 +1,6 @@
 -- `limits::first_tests` meets its contract: the limits first, and once they hold, n is small enough for the common test.
 use borrow.Author.Needs.{needs}
-use mathlib.Core.Path.{sym, _∙_}
-use borrow.Author.Tests.{not-false}
+use Rattle.laws.proofs.Turned.{told-true}
 use Rattle.rules.proofs.Limits.{within}
 use Rattle.limits.specs.First.{firstTests}
 use Rattle.limits.proofs.first_tests.Statement.{statement}
@@ -15,7 +14,7 @@ unfolding firstTests
 returns c = rw (← (c .before .within-limits .ensures), c .if1 .taken)
 
 common-test-requires : tie.Need-common-test-requires
-common-test-requires c κs = within _ _ _ _ _ (sym (c .before .within-limits .ensures) ∙ not-false _ (c .if1 .left)) .paged .high
+common-test-requires c κs = within _ _ _ _ _ (told-true (c .before .within-limits .ensures) (c .if1 .left)) .paged .high
 
 returns-2 : tie.Need-returns-2
 unfolding firstTests

@@ -1,8 +1,10 @@
 -- `pages::clear_page` meets its contract: the page lies inside the heap, and what is lent of it comes back all 0.
+use Prim.Native.Nat.{_^_}
 use mathlib.Core.Path.{refl}
 use native.Mathlib.Omega.{arith}
 use borrow.Author.Needs.{needs}
-use Rattle.rules.proofs.Limits.{page-number, page-inside}
+use lib.ListN.{length}
+use Rattle.rules.proofs.Limits.{Inside, page-number, page-inside}
 use Rattle.rules.proofs.Pages.{page-cleared}
 use Rattle.pages.proofs.clear_page.Statement.{statement}
 use Rattle.pages.proofs.clear_page.Tie as tie
@@ -10,20 +12,23 @@ use Rattle.pages.proofs.clear_page.Tie as tie
 page-address-requires : tie.Need-page-address-requires
 page-address-requires c κs = page-number _ _ _ (c .before .pre .0) (c .before .pre .1)
 
+here : (c : tie.After-page-address) → Inside (2 ^ c .before .before .args .n) (c .page-address .result .0) (length (c .before .before .args .heap .now))
+here c = rw (c .page-address .ensures) (page-inside _ _ _ _ refl (c .before .before .pre .0) (c .before .before .pre .1))
+
 past-page-requires : tie.Need-past-page-requires
-past-page-requires c κs = let i = page-inside _ _ _ _ refl (c .before .before .pre .0) (c .before .before .pre .1) in omega (arith, c .page-address .ensures, c .before .before .pre .0 .low, c .before .before .pre .0 .high)
+past-page-requires c κs = omega (arith, here c, c .before .before .pre .0 .low, c .before .before .pre .0 .high)
 
 mul-clear : tie.Need-mul-clear
-mul-clear c = let i = page-inside _ _ _ _ refl (c .before .before .before .pre .0) (c .before .before .before .pre .1) in omega (arith, c .before .page-address .ensures, c .past-page .ensures)
+mul-clear c = omega (arith, here (c .before), c .past-page .ensures)
 
 sub-clear : tie.Need-sub-clear
-sub-clear c = let i = page-inside _ _ _ _ refl (c .before .before .before .pre .0) (c .before .before .before .pre .1) in omega (arith, c .before .page-address .ensures, c .past-page .ensures)
+sub-clear c = omega (arith, here (c .before), c .past-page .ensures)
 
 part-clear-start : tie.Need-part-clear-start
-part-clear-start c = let i = page-inside _ _ _ _ refl (c .before .before .before .pre .0) (c .before .before .before .pre .1) in omega (arith, c .before .page-address .ensures, c .past-page .ensures)
+part-clear-start c = omega (arith, here (c .before), c .past-page .ensures)
 
 part-clear-end : tie.Need-part-clear-end
-part-clear-end c = let i = page-inside _ _ _ _ refl (c .before .before .before .pre .0) (c .before .before .before .pre .1) in omega (arith, c .before .page-address .ensures, c .past-page .ensures)
+part-clear-end c = omega (arith, here (c .before), c .past-page .ensures)
 
 clear-requires : tie.Need-clear-requires
 clear-requires c κs = search needs

@@ -5,7 +5,7 @@ use mathlib.Core.List.{_∷_}
 use native.Mathlib.Omega.{arith}
 use lib.ListN.{length}
 use Rattle.rules.specs.Memory.{lent, endOf, topOf}
-use Rattle.rules.proofs.Limits.{page-size}
+use Rattle.rules.proofs.Limits.{paged-size}
 use Rattle.rules.proofs.Pages.{value-here}
 use Rattle.placing.proofs.put_value.Statement.{statement}
 use Rattle.placing.proofs.put_value.Tie as tie
@@ -17,10 +17,10 @@ end-of-requires : tie.Need-end-of-requires
 end-of-requires c κs = (c .before .before .before .before .before .before .pre .rows, c .before .before .before .before .before .before .pre .region)
 
 add-address-behind : tie.Need-add-address-behind
-add-address-behind c = let s = page-size _ (c .before .before .before .before .before .before .before .pre .paged .low) (c .before .before .before .before .before .before .before .pre .paged .high) in omega (arith, c .before .before .top-of .ensures .1, c .before .before .before .before .before .before .before .pre .short)
+add-address-behind c = let s = paged-size _ _ (c .before .before .before .before .before .before .before .pre .paged) in omega (arith, c .before .before .top-of .ensures .1, c .before .before .before .before .before .before .before .pre .short)
 
 address-behind-requires : tie.Need-address-behind-requires
-address-behind-requires c κs = let s = page-size _ (c .before .before .before .before .before .before .before .pre .paged .low) (c .before .before .before .before .before .before .before .pre .paged .high) in omega (arith, c .before .before .top-of .ensures .1, c .before .before .before .before .before .before .before .pre .short)
+address-behind-requires c κs = let s = paged-size _ _ (c .before .before .before .before .before .before .before .pre .paged) in omega (arith, c .before .before .top-of .ensures .1, c .before .before .before .before .before .before .before .pre .short)
 
 put-further-requires : tie.Need-put-further-requires
 put-further-requires c κs = (c .before .before .before .before .before .before .before .before .before .before .before .before .before .pre, omega (arith, c .before .before .if1 .taken, c .before .before .before .before .before .address-behind .ensures, c .before .before .before .before .before .before .before .before .top-of .ensures .0, c .before .before .before .before .before .before .end-of .ensures .0))

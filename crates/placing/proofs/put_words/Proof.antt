@@ -4,7 +4,7 @@ use mathlib.Core.Path.{_≡_, refl, ap, _∙_}
 use native.Mathlib.Omega.{arith}
 use lib.ListN.{length, getD, set, length-set}
 use lib.Seq.{paste, paste-zero}
-use Rattle.laws.proofs.Parts.{copy-more, copy-all}
+use Rattle.laws.proofs.Copies.{paste-more, paste-all}
 use Rattle.placing.proofs.put_words.Statement.{statement}
 use Rattle.placing.proofs.put_words.Tie as tie
 
@@ -41,13 +41,13 @@ loop-less c = omega arith
 loop-again : tie.Need-loop-again Inv-loop μ-loop
 loop-again c =
     let a : c .before .before .before .args .a .0 + c .before .before .loop .i < length (c .before .before .before .args .heap .now) = omega arith in
-    (ap (λ l. set l (c .before .before .before .args .a .0 + c .before .before .loop .i) (getD (c .before .before .before .args .words .now) (c .before .before .loop .i) 0)) (c .before .before .loop .inv .0) ∙ copy-more _ _ _ _ a (c .before .loop-test .taken), omega arith, simp length-set (c .before .before .loop .inv .2))
+    (ap (λ l. set l (c .before .before .before .args .a .0 + c .before .before .loop .i) (getD (c .before .before .before .args .words .now) (c .before .before .loop .i) 0)) (c .before .before .loop .inv .0) ∙ paste-more _ _ _ _ _ a (c .before .loop-test .taken) refl, omega arith, simp length-set (c .before .before .loop .inv .2))
 
 same-length : tie.Need-same-length Inv-loop μ-loop
 same-length c = c .before .loop .inv .2
 
 returns : tie.Need-returns Inv-loop μ-loop
-returns c = c .before .loop .inv .0 ∙ copy-all _ _ _ _ (c .before .loop .inv .1) (omega arith)
+returns c = c .before .loop .inv .0 ∙ paste-all _ _ _ _ (c .before .loop .inv .1) (omega arith)
 
 pub put-words-spec : {M : Type 1} → statement M
 put-words-spec =

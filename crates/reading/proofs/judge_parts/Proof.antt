@@ -5,7 +5,7 @@ use mathlib.Core.Path.{sym, _∙_}
 use native.Mathlib.Omega.{arith}
 use Rattle.rules.specs.Image.{layout}
 use Rattle.reading.proofs.Lines.{step-far, rest-next, rest-stop, page-sized}
-use Rattle.reading.proofs.Heads.{headed, pages-few}
+use Rattle.rules.proofs.FirstFrame.{limited, pages-limited}
 use Rattle.reading.proofs.judge_parts.Statement.{statement}
 use Rattle.reading.proofs.judge_parts.Tie as tie
 
@@ -13,7 +13,7 @@ cast-pages : tie.Need-cast-pages
 cast-pages c = search needs
 
 page-words-requires : tie.Need-page-words-requires
-page-words-requires c κs = let g = headed _ (c .before .before .pre) in (g .low, g .high)
+page-words-requires c κs = let g = limited _ (c .before .before .pre) in (g .low, g .high)
 
 cast-part-frame : tie.Need-cast-part-frame
 cast-part-frame c = search needs
@@ -55,7 +55,7 @@ enum-known-first : tie.Need-enum-known-first
 enum-known-first c = search needs
 
 judge-pages-requires : tie.Need-judge-pages-requires
-judge-pages-requires c κs = let f = step-far _ _ _ _ _ _ (c .before .before .before .before .before .before .before .before .before .before .before .roots .given .1) (c .before .before .before .before .before .before .before .before .before .before .before .before .before .part-frame .ensures) in let g = step-far _ _ _ _ _ _ (c .before .before .before .before .before .before .consts .given .1) (c .before .before .before .before .before .before .before .before .part-frame2 .ensures) in let h = step-far _ _ _ _ _ _ (c .before .first .given .1) (c .before .before .before .part-frame3 .ensures) in (omega arith, omega arith, pages-few _ (headed _ (c .before .before .before .before .before .before .before .before .before .before .before .before .before .before .before .before .before .before .pre)))
+judge-pages-requires c κs = let f = step-far _ _ _ _ _ _ (c .before .before .before .before .before .before .before .before .before .before .before .roots .given .1) (c .before .before .before .before .before .before .before .before .before .before .before .before .before .part-frame .ensures) in let g = step-far _ _ _ _ _ _ (c .before .before .before .before .before .before .consts .given .1) (c .before .before .before .before .before .before .before .before .part-frame2 .ensures) in let h = step-far _ _ _ _ _ _ (c .before .first .given .1) (c .before .before .before .part-frame3 .ensures) in (omega arith, omega arith, pages-limited _ (limited _ (c .before .before .before .before .before .before .before .before .before .before .before .before .before .before .before .before .before .before .pre)))
 
 returns : tie.Need-returns
 unfolding layout

@@ -3,8 +3,8 @@ use borrow.Author.Needs.{needs}
 use Prim.Native.Nat.{_+_}
 use mathlib.Core.Path.{_≡_, refl, sym, ap, _∙_}
 use native.Mathlib.Omega.{arith}
-use borrow.Author.Tests.{not-true, not-false}
 use Rattle.laws.proofs.Tests.{from-stop, from-next, from-end}
+use Rattle.laws.proofs.Turned.{told-true, told-false}
 use Rattle.scanning.specs.Places.{allDigits, isDigit}
 use Rattle.scanning.proofs.all_digits.Statement.{statement}
 use Rattle.scanning.proofs.all_digits.Tie as tie
@@ -25,7 +25,7 @@ is-digit-requires : tie.Need-is-digit-requires Inv-loop μ-loop
 is-digit-requires c κs = search needs
 
 returns : tie.Need-returns Inv-loop μ-loop
-returns c = sym (from-stop _ _ _ (c .before .before .before .loop-test .taken) (ap isDigit (sym (c .before .before .byte-at .ensures)) ∙ sym (c .before .is-digit .ensures) ∙ not-true _ (c .if1 .taken))) ∙ c .before .before .before .before .loop .inv .0
+returns c = sym (from-stop _ _ _ (c .before .before .before .loop-test .taken) (ap isDigit (sym (c .before .before .byte-at .ensures)) ∙ told-false (c .before .is-digit .ensures) (c .if1 .taken))) ∙ c .before .before .before .before .loop .inv .0
 
 add-i : tie.Need-add-i Inv-loop μ-loop
 add-i c = omega arith
@@ -37,7 +37,7 @@ loop-less : tie.Need-loop-less Inv-loop μ-loop
 loop-less c = omega arith
 
 loop-again : tie.Need-loop-again Inv-loop μ-loop
-loop-again c = (sym (from-next _ _ _ (c .before .before .before .loop-test .taken) (ap isDigit (sym (c .before .before .byte-at .ensures)) ∙ sym (c .before .is-digit .ensures) ∙ not-false _ (c .if1 .left))) ∙ c .before .before .before .before .loop .inv .0, omega arith)
+loop-again c = (sym (from-next _ _ _ (c .before .before .before .loop-test .taken) (ap isDigit (sym (c .before .before .byte-at .ensures)) ∙ told-true (c .before .is-digit .ensures) (c .if1 .left))) ∙ c .before .before .before .before .loop .inv .0, omega arith)
 
 returns-2 : tie.Need-returns-2 Inv-loop μ-loop
 returns-2 c = sym (from-end _ _ _ (c .loop-test .left)) ∙ c .before .loop .inv .0

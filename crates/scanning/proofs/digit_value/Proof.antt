@@ -2,7 +2,8 @@
 use borrow.Author.Needs.{needs}
 use mathlib.Core.Path.{sym}
 use native.Mathlib.Omega.{arith}
-use Rattle.scanning.proofs.Digits.{below-digits, a-digit, between-digits, a-letter, above-digits, no-digit, has-value}
+use Rattle.rules.proofs.Digits.{below-digits, a-digit, between-digits, a-letter, above-digits}
+use Rattle.scanning.proofs.Digits.{no-digit, has-value}
 use Rattle.scanning.proofs.digit_value.Statement.{statement}
 use Rattle.scanning.proofs.digit_value.Tie as tie
 

@@ -1,8 +1,8 @@
 -- `scanning::frame_shape` meets its contract: the tests are the definition's, in its order.
 use borrow.Author.Needs.{needs}
-use mathlib.Core.Path.{sym, _∙_}
-use borrow.Author.Tests.{eq-eqb, ne-eqb, not-true, not-false}
+use borrow.Author.Tests.{eq-eqb, ne-eqb}
 use Rattle.laws.proofs.Tests.{tests}
+use Rattle.laws.proofs.Turned.{told-true, told-false}
 use Rattle.rules.specs.Image.{newline}
 use Rattle.scanning.specs.Places.{frameShape}
 use Rattle.scanning.proofs.Frames.{same-by}
@@ -14,14 +14,14 @@ all-digits-requires c κs = search needs
 
 returns : tie.Need-returns
 unfolding frameShape
-returns c = rw (sym (c .before .all-digits .ensures) ∙ not-true _ (c .if1 .taken))
+returns c = rw (told-false (c .before .all-digits .ensures) (c .if1 .taken))
 
 number-requires : tie.Need-number-requires
 number-requires c κs = search needs
 
 returns-2 : tie.Need-returns-2
 unfolding frameShape
-returns-2 c = rw (sym (c .before .before .before .all-digits .ensures) ∙ not-false _ (c .before .before .if1 .left), ← (c .before .number .ensures .0), ne-eqb _ _ (c .if2 .taken))
+returns-2 c = rw (told-true (c .before .before .before .all-digits .ensures) (c .before .before .if1 .left), ← (c .before .number .ensures .0), ne-eqb _ _ (c .if2 .taken))
 
 add-number : tie.Need-add-number
 add-number c = search needs
@@ -43,7 +43,7 @@ all-digits-requires-2 c κs = search needs
 
 returns-3 : tie.Need-returns-3
 unfolding frameShape
-returns-3 c = rw (sym (c .before .before .before .before .before .before .all-digits .ensures) ∙ not-false _ (c .before .before .before .before .before .if1 .left), ← (c .before .before .before .before .number .ensures .0), eq-eqb _ _ (c .before .before .before .if2 .left), ← (c .before .before .number2 .ensures .0), sym (c .before .all-digits2 .ensures) ∙ not-true _ (c .if3 .taken))
+returns-3 c = rw (told-true (c .before .before .before .before .before .before .all-digits .ensures) (c .before .before .before .before .before .if1 .left), ← (c .before .before .before .before .number .ensures .0), eq-eqb _ _ (c .before .before .before .if2 .left), ← (c .before .before .number2 .ensures .0), told-false (c .before .all-digits2 .ensures) (c .if3 .taken))
 
 add-byte-at : tie.Need-add-byte-at
 add-byte-at c = search needs
@@ -59,7 +59,7 @@ byte-at-requires c κs = search needs
 
 returns-4 : tie.Need-returns-4
 unfolding frameShape
-returns-4 c = rw (sym (c .before .before .before .before .before .before .before .all-digits .ensures) ∙ not-false _ (c .before .before .before .before .before .before .if1 .left), ← (c .before .before .before .before .before .number .ensures .0), eq-eqb _ _ (c .before .before .before .before .if2 .left), ← (c .before .before .before .number2 .ensures .0), sym (c .before .before .all-digits2 .ensures) ∙ not-false _ (c .before .if3 .left), ← (c .byte-at .ensures)) (same-by (c .byte-at .result) newline _ (λ q. rw q) (λ n m. search (tests, n, m)))
+returns-4 c = rw (told-true (c .before .before .before .before .before .before .before .all-digits .ensures) (c .before .before .before .before .before .before .if1 .left), ← (c .before .before .before .before .before .number .ensures .0), eq-eqb _ _ (c .before .before .before .before .if2 .left), ← (c .before .before .before .number2 .ensures .0), told-true (c .before .before .all-digits2 .ensures) (c .before .if3 .left), ← (c .byte-at .ensures)) (same-by (c .byte-at .result) newline _ (λ q. rw q) (λ n m. search (tests, n, m)))
 
 pub frame-shape-spec : {M : Type 1} → statement M
 frame-shape-spec =

@@ -1,6 +1,7 @@
 -- `scanning::is_digit` meets its contract: the tests part the bytes into the ranges of the definition.
 use mathlib.Core.Path.{sym}
-use Rattle.scanning.proofs.Digits.{below-digits, a-digit, between-digits, no-digit, has-value, last-digits}
+use Rattle.rules.proofs.Digits.{below-digits, a-digit, between-digits}
+use Rattle.scanning.proofs.Digits.{no-digit, has-value, last-digits}
 use Rattle.scanning.proofs.is_digit.Statement.{statement}
 use Rattle.scanning.proofs.is_digit.Tie as tie
 

@@ -1,8 +1,7 @@
 -- `scanning::part_frame` meets its contract: shape and words are tested as the definition tests them.
 use borrow.Author.Needs.{needs}
-use mathlib.Core.Path.{sym, _∙_}
-use borrow.Author.Tests.{not-true, not-false}
 use native.Mathlib.Omega.{arith}
+use Rattle.laws.proofs.Turned.{told-true, told-false}
 use Rattle.scanning.specs.Places.{frameStep, frameFits}
 use Rattle.scanning.proofs.Frames.{next-same}
 use Rattle.scanning.proofs.part_frame.Statement.{statement}
@@ -13,7 +12,7 @@ frame-shape-requires c κs = search needs
 
 returns : tie.Need-returns
 unfolding frameStep frameFits
-returns c = rw (sym (c .before .frame-shape .ensures) ∙ not-true _ (c .if1 .taken))
+returns c = rw (told-false (c .before .frame-shape .ensures) (c .if1 .taken))
 
 add-number : tie.Need-add-number
 add-number c = search needs
@@ -32,7 +31,7 @@ part-fits-requires c κs = search needs
 
 returns-2 : tie.Need-returns-2
 unfolding frameStep frameFits
-returns-2 c = rw (sym (c .before .before .before .before .frame-shape .ensures) ∙ not-false _ (c .before .before .before .if1 .left), ← (c .before .before .number .ensures .0), sym (c .before .part-fits .ensures) ∙ not-true _ (c .if2 .taken))
+returns-2 c = rw (told-true (c .before .before .before .before .frame-shape .ensures) (c .before .before .before .if1 .left), ← (c .before .before .number .ensures .0), told-false (c .before .part-fits .ensures) (c .if2 .taken))
 
 add-t11 : tie.Need-add-t11
 add-t11 c = search needs
@@ -48,7 +47,7 @@ add-t10 c = search needs
 
 returns-3 : tie.Need-returns-3
 unfolding frameStep frameFits
-returns-3 c = rw (sym (c .before .before .before .before .frame-shape .ensures) ∙ not-false _ (c .before .before .before .if1 .left), ← (c .before .before .number .ensures .0), sym (c .before .part-fits .ensures) ∙ not-false _ (c .if2 .left)) (next-same (omega arith) (omega arith))
+returns-3 c = rw (told-true (c .before .before .before .before .frame-shape .ensures) (c .before .before .before .if1 .left), ← (c .before .before .number .ensures .0), told-true (c .before .part-fits .ensures) (c .if2 .left)) (next-same (omega arith) (omega arith))
 
 pub part-frame-spec : {M : Type 1} → statement M
 part-frame-spec =

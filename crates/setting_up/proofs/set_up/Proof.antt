@@ -3,9 +3,9 @@ use borrow.Author.Needs.{needs}
 use Prim.Native.Nat.{suc, _-_, _/_, _^_}
 use mathlib.Core.Path.{_≡_, sym, ap, _∙_}
 use native.Mathlib.Omega.{arith}
-use borrow.Author.Tests.{not-false}
 use lib.Pow.{shr-le}
 use lib.ListN.{length, replicate}
+use Rattle.laws.proofs.Turned.{told-true}
 use Rattle.rules.specs.Calls.{setUp}
 use Rattle.rules.proofs.Limits.{Within, within, two-pages}
 use Rattle.setting_up.proofs.set_up.Statement.{statement}
@@ -19,7 +19,7 @@ unfolding setUp
 returns c = rw (← (c .before .within-limits .ensures), c .if1 .taken)
 
 inside : (c : tie.Else1) → Within (c .before .before .before .before .before .before .args .n) (length (c .before .before .before .before .before .before .args .heap .now)) (length (c .before .before .before .before .before .before .args .table .now)) (length (c .before .before .before .before .before .before .args .roots .now)) (length (c .before .before .before .before .before .before .args .consts .now))
-inside c = within _ _ _ _ _ (sym (c .before .within-limits .ensures) ∙ not-false _ (c .if1 .left))
+inside c = within _ _ _ _ _ (told-true (c .before .within-limits .ensures) (c .if1 .left))
 
 page-count-requires : tie.Need-page-count-requires
 page-count-requires c κs = inside c .paged .high

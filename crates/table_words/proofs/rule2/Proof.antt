@@ -1,7 +1,7 @@
 -- `table_words::rule2` meets its contract: the two tests are the definition's, and R is at most 64 by the first tests.
 use mathlib.Core.Path.{sym, _∙_}
 use native.Mathlib.Omega.{arith}
-use borrow.Author.Tests.{not-true, not-false}
+use Rattle.laws.proofs.Turned.{told-true, told-false}
 use Rattle.table_words.proofs.Two.{two-off, two-at}
 use Rattle.table_words.proofs.rule2.Statement.{statement}
 use Rattle.table_words.proofs.rule2.Tie as tie
@@ -28,13 +28,13 @@ all-zero-requires : tie.Need-all-zero-requires
 all-zero-requires c κs = omega arith
 
 returns : tie.Need-returns
-returns c = sym (two-off _ _ _ _ _ (c .before .before .before .before .before .before .before .before .pre .regions) (sym (c .before .all-zero .ensures) ∙ not-true _ (c .if1 .taken)))
+returns c = sym (two-off _ _ _ _ _ (c .before .before .before .before .before .before .before .before .pre .regions) (told-false (c .before .all-zero .ensures) (c .if1 .taken)))
 
 idle-requires : tie.Need-idle-requires
 idle-requires c κs = omega arith
 
 returns-2 : tie.Need-returns-2
-returns-2 c = c .idle .ensures ∙ sym (two-at _ _ _ _ _ (c .before .before .before .before .before .before .before .before .before .pre .regions) (sym (c .before .before .all-zero .ensures) ∙ not-false _ (c .before .if1 .left)))
+returns-2 c = c .idle .ensures ∙ sym (two-at _ _ _ _ _ (c .before .before .before .before .before .before .before .before .before .pre .regions) (told-true (c .before .before .all-zero .ensures) (c .before .if1 .left)))
 
 pub rule2-spec : {M : Type 1} → statement M
 rule2-spec =

@@ -5,10 +5,10 @@ use native.Mathlib.Omega.{arith}
 use lib.ListN.{length}
 use Rattle.laws.proofs.Each.{along-more, along-far, along-none, along-end}
 use Rattle.rules.specs.Refusals.{Paged}
-use Rattle.rules.proofs.Limits.{page-number}
+use Rattle.rules.proofs.Limits.{page-number, address-small}
 use Rattle.motion.specs.Whole.{relinkAll}
-use Rattle.motion.proofs.Leaves.{page-below}
-use Rattle.motion.proofs.Chains.{origin-at, relinked, named, page-kept}
+use Rattle.rules.proofs.Pages.{origin-at}
+use Rattle.motion.proofs.Chains.{relinked, named, page-kept}
 use borrow.Author.Needs.{needs}
 use Rattle.undoing.proofs.relink_all.Statement.{statement}
 use Rattle.undoing.proofs.relink_all.Tie as tie
@@ -47,7 +47,7 @@ page-address-requires : tie.Need-page-address-requires Inv-loop μ-loop
 page-address-requires c κs = let w = here (c) in page-number _ _ _ (w .0) (w .1)
 
 add-word : tie.Need-add-word Inv-loop μ-loop
-add-word c = let w = here (c .before .before .before) in let b = page-number _ _ _ (w .0) (w .1) in omega (arith, c .before .before .page-address .ensures, page-below _ _ (b .1) (b .0))
+add-word c = let w = here (c .before .before .before) in let b = page-number _ _ _ (w .0) (w .1) in omega (arith, c .before .before .page-address .ensures, address-small _ _ (b .0) (b .1) .0)
 
 word-requires : tie.Need-word-requires Inv-loop μ-loop
 word-requires c κs = search needs

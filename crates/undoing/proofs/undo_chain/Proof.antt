@@ -7,7 +7,8 @@ use Rattle.laws.specs.Each.{along}
 use Rattle.laws.proofs.Each.{along-more, along-past, along-last, along-end}
 use Rattle.rules.specs.Memory.{link}
 use Rattle.motion.specs.Whole.{undoPage}
-use Rattle.motion.proofs.Chains.{link-at, named}
+use Rattle.rules.proofs.Pages.{link-at}
+use Rattle.motion.proofs.Chains.{named}
 use borrow.Author.Needs.{needs}
 use Rattle.undoing.proofs.undo_chain.Statement.{statement}
 use Rattle.undoing.proofs.undo_chain.Tie as tie

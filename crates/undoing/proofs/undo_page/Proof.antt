@@ -4,9 +4,8 @@ use native.Mathlib.Omega.{arith}
 use lib.ListN.{length}
 use Rattle.laws.specs.Each.{after}
 use Rattle.laws.proofs.Loops.{loop-end}
-use Rattle.rules.proofs.Limits.{page-size}
+use Rattle.rules.proofs.Limits.{page-size, address-small}
 use Rattle.motion.specs.Whole.{undoVals}
-use Rattle.motion.proofs.Leaves.{page-below}
 use Rattle.undoing.proofs.Undone.{undo-more, undo-past, undo-zero, undo-all}
 use borrow.Author.Needs.{needs}
 use Rattle.undoing.proofs.undo_page.Statement.{statement}
@@ -25,10 +24,10 @@ page-words-requires : tie.Need-page-words-requires Inv-loop μ-loop
 page-words-requires c κs = (c .before .before .pre .0, c .before .before .pre .1)
 
 address-behind-requires : tie.Need-address-behind-requires Inv-loop μ-loop
-address-behind-requires c κs = omega (arith, c .before .page-address .ensures, c .page-words .ensures, page-below _ _ (c .before .before .before .pre .1) (c .before .before .before .pre .2), page-size _ (c .before .before .before .pre .0) (c .before .before .before .pre .1))
+address-behind-requires c κs = omega (arith, c .before .page-address .ensures, c .page-words .ensures, address-small _ _ (c .before .before .before .pre .2) (c .before .before .before .pre .1) .0, page-size _ (c .before .before .before .pre .0) (c .before .before .before .pre .1))
 
 address-behind-requires-2 : tie.Need-address-behind-requires-2 Inv-loop μ-loop
-address-behind-requires-2 c κs = omega (arith, c .before .before .page-address .ensures, c .before .page-words .ensures, page-below _ _ (c .before .before .before .before .pre .1) (c .before .before .before .before .pre .2), page-size _ (c .before .before .before .before .pre .0) (c .before .before .before .before .pre .1))
+address-behind-requires-2 c κs = omega (arith, c .before .before .page-address .ensures, c .before .page-words .ensures, address-small _ _ (c .before .before .before .before .pre .2) (c .before .before .before .before .pre .1) .0, page-size _ (c .before .before .before .before .pre .0) (c .before .before .before .before .pre .1))
 
 loop-holds : tie.Need-loop-holds Inv-loop μ-loop
 loop-holds c = (refl, refl)
@@ -49,7 +48,7 @@ returns-2 : tie.Need-returns-2 Inv-loop μ-loop
 returns-2 c = sym (undo-zero _ _ _ _ _ (c .before .before .before .before .before .before .loop-test .taken) (c .before .before .before .if1 .left) (c .before .word .ensures .0) (c .if2 .taken)) ∙ c .before .before .before .before .before .before .before .loop .inv .0 ∙ undo-all _ _ _ _ _ _ _ (c .before .before .before .before .before .before .before .before .before .before .before .page-address .ensures) (c .before .before .before .before .before .before .before .before .before .before .page-words .ensures) (c .before .before .before .before .before .before .before .before .before .address-behind .ensures) (c .before .before .before .before .before .before .before .before .address-behind2 .ensures)
 
 undo-value-requires : tie.Need-undo-value-requires Inv-loop μ-loop
-undo-value-requires c κs = omega (arith, c .before .before .before .before .before .before .before .before .before .before .before .before .page-address .ensures, c .before .before .before .before .before .before .before .before .before .before .before .page-words .ensures, page-below _ _ (c .before .before .before .before .before .before .before .before .before .before .before .before .before .before .pre .1) (c .before .before .before .before .before .before .before .before .before .before .before .before .before .before .pre .2), page-size _ (c .before .before .before .before .before .before .before .before .before .before .before .before .before .before .pre .0) (c .before .before .before .before .before .before .before .before .before .before .before .before .before .before .pre .1))
+undo-value-requires c κs = omega (arith, c .before .before .before .before .before .before .before .before .before .before .before .before .page-address .ensures, c .before .before .before .before .before .before .before .before .before .before .before .page-words .ensures, address-small _ _ (c .before .before .before .before .before .before .before .before .before .before .before .before .before .before .pre .2) (c .before .before .before .before .before .before .before .before .before .before .before .before .before .before .pre .1) .0, page-size _ (c .before .before .before .before .before .before .before .before .before .before .before .before .before .before .pre .0) (c .before .before .before .before .before .before .before .before .before .before .before .before .before .before .pre .1))
 
 sub-left : tie.Need-sub-left Inv-loop μ-loop
 sub-left c = omega arith

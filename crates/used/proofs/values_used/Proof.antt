@@ -1,14 +1,15 @@
 -- `used::values_used` meets its contract. The invariant: the words counted and those of the values from the present address on are the whole,
 -- and the words counted are those passed. The measure is what is left up to the end.
-use mathlib.Core.Path.{_≡_, sym, _∙_}
+use mathlib.Core.Path.{_≡_}
 use Prim.Native.Nat.{_+_, _-_, _/_, _≤_}
 use native.Mathlib.Omega.{arith}
 use borrow.Author.Needs.{needs}
-use borrow.Author.Tests.{not-true, not-false}
 use lib.ListN.{getD}
+use Rattle.laws.proofs.Turned.{told-true, told-false}
 use Rattle.rules.specs.Words.{valsIn, usedOf}
 use Rattle.rules.proofs.Headers.{fit-of}
-use Rattle.used.proofs.Turns.{used-end, used-stop, used-step}
+use Rattle.rules.proofs.Stepping.{vals-none, vals-stop}
+use Rattle.used.proofs.Turns.{used-over, used-step}
 use Rattle.used.proofs.values_used.Statement.{statement}
 use Rattle.used.proofs.values_used.Tie as tie
 
@@ -37,10 +38,10 @@ fits-requires : tie.Need-fits-requires Inv-loop μ-loop
 fits-requires c κs = search needs
 
 returns : tie.Need-returns Inv-loop μ-loop
-returns c = (used-stop _ _ _ _ _ (c .before .before .before .before .before .before .before .before .loop .inv .0) (c .before .before .before .before .before .if1 .taken) (c .before .before .before .before .before .before .before .before .before .before .pre .1) (sym (c .before .fits2 .ensures) ∙ not-true _ (c .if2 .taken)), omega arith)
+returns c = (used-over _ _ _ _ _ (c .before .before .before .before .before .before .before .before .loop .inv .0) (vals-stop _ _ _ (c .before .before .before .before .before .if1 .taken) (c .before .before .before .before .before .before .before .before .before .before .pre .1) (told-false (c .before .fits2 .ensures) (c .if2 .taken))), omega arith)
 
 inside : (c : tie.Else2 Inv-loop μ-loop) → c .before .before .before .before .before .before .before .before .loop .at .0 + (1 + getD (c .before .before .before .before .before .before .before .before .before .before .args .words .now) (c .before .before .before .before .before .before .before .before .loop .at .0) 0 / 8) ≤ c .before .before .before .before .before .before .before .before .before .before .args .end .0
-inside c = let f = fit-of _ _ (sym (c .before .fits2 .ensures) ∙ not-false _ (c .if2 .left)) .1 in omega arith
+inside c = let f = fit-of _ _ (told-true (c .before .fits2 .ensures) (c .if2 .left)) .1 in omega arith
 
 cast-fields : tie.Need-cast-fields Inv-loop μ-loop
 cast-fields c = omega (arith, inside c)
@@ -61,10 +62,10 @@ loop-less : tie.Need-loop-less Inv-loop μ-loop
 loop-less c = omega arith
 
 loop-again : tie.Need-loop-again Inv-loop μ-loop
-loop-again c = (used-step _ _ _ _ _ (c .before .before .before .before .before .before .before .before .before .loop .inv .0) (c .before .before .before .before .before .before .if1 .taken) (c .before .before .before .before .before .before .before .before .before .before .before .pre .1) (sym (c .before .before .fits2 .ensures) ∙ not-false _ (c .before .if2 .left)) _ _ (c .address-behind .ensures) (omega arith), omega arith, omega (arith, inside (c .before)))
+loop-again c = (used-step _ _ _ _ _ (c .before .before .before .before .before .before .before .before .before .loop .inv .0) (c .before .before .before .before .before .before .if1 .taken) (c .before .before .before .before .before .before .before .before .before .before .before .pre .1) (told-true (c .before .before .fits2 .ensures) (c .before .if2 .left)) _ _ (c .address-behind .ensures) (omega arith), omega arith, omega (arith, inside (c .before)))
 
 returns-2 : tie.Need-returns-2 Inv-loop μ-loop
-returns-2 c = (used-end _ _ _ _ _ (c .before .before .before .loop .inv .0) (c .if1 .left), omega arith)
+returns-2 c = (used-over _ _ _ _ _ (c .before .before .before .loop .inv .0) (vals-none _ _ _ (c .if1 .left)), omega arith)
 
 pub values-used-spec : {M : Type 1} → statement M
 values-used-spec =

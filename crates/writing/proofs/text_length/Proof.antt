@@ -1,13 +1,10 @@
 -- `writing::text_length` meets its contract: the text is four frames and the pages', and each is short.
 use borrow.Author.Needs.{needs}
-use Prim.Native.Nat.{_*_, _^_}
-use mathlib.Core.Path.{ap}
-use native.Mathlib.Nat.{sub-zero, div-le-self}
+use Prim.Native.Nat.{_^_}
+use native.Mathlib.Nat.{div-le-self}
 use native.Mathlib.Omega.{arith}
-use lib.ListN.{length, take}
-use Rattle.rules.specs.Memory.{lent}
-use Rattle.rules.specs.Image.{trim, pageFrames}
-use Rattle.rules.proofs.Frames.{image-length}
+use lib.ListN.{length}
+use Rattle.rules.proofs.Frames.{text-length}
 use Rattle.writing.proofs.text_length.Statement.{statement}
 use Rattle.writing.proofs.text_length.Tie as tie
 
@@ -54,7 +51,7 @@ add-result-4 : tie.Need-add-result-4
 add-result-4 c = let a = c .before .before .before .before .before .before .before .before .before .before .before .args in omega (arith, div-le-self (length (a .heap .now)) (2 ^ a .c .n))
 
 returns : tie.Need-returns
-returns c = let a = c .before .before .before .before .before .before .before .before .before .before .before .args in let w = image-length (lent (a .heap .now) (a .table .now) (a .roots .now) (a .consts .now) (a .c)) in let q = ap (λ k. length (trim (take k (a .table .now)))) (sub-zero (4 * a .c .regions)) in let d = div-le-self (length (a .heap .now)) (2 ^ a .c .n) in let e = ap (λ k. length (pageFrames (a .c .n) (a .heap .now) k 0)) (c .before .before .before .before .before .before .page-count .ensures) in (omega arith, omega arith)
+returns c = let a = c .before .before .before .before .before .before .before .before .before .before .before .args in let w = text-length (a .heap .now) (a .table .now) (a .roots .now) (a .consts .now) (a .c) _ (c .before .before .before .before .before .before .page-count .ensures) in let d = div-le-self (length (a .heap .now)) (2 ^ a .c .n) in (omega arith, omega arith)
 
 pub text-length-spec : {M : Type 1} → statement M
 text-length-spec =

@@ -1,13 +1,12 @@
 -- `writing::write_text` meets its contract: each frame begins where the last one ends, and the last ends where the text does.
 use borrow.Author.Needs.{needs}
 use Prim.Native.Nat.{_*_, _^_}
-use mathlib.Core.Path.{ap}
+use mathlib.Core.Path.{refl, ap}
 use native.Mathlib.Nat.{sub-zero, div-le-self}
 use native.Mathlib.Omega.{arith}
 use lib.ListN.{length, take}
 use Rattle.rules.specs.Memory.{lent}
-use Rattle.rules.specs.Image.{trim, pageFrames}
-use Rattle.rules.proofs.Frames.{image-length, image-sets}
+use Rattle.rules.proofs.Frames.{text-length, image-sets}
 use Rattle.writing.proofs.write_text.Statement.{statement}
 use Rattle.writing.proofs.write_text.Tie as tie
 
@@ -33,7 +32,7 @@ slice-aggregate-write-frame : tie.Need-slice-aggregate-write-frame
 slice-aggregate-write-frame c = search needs
 
 write-frame-requires : tie.Need-write-frame-requires
-write-frame-requires c κs = let a = c .before .before .before .before .before .before .before .before .before .args in (omega arith, let w = image-length (lent (a .heap .now) (a .table .now) (a .roots .now) (a .consts .now) (a .c)) in let q = ap (λ k. length (trim (take k (a .table .now)))) (sub-zero (4 * a .c .regions)) in omega arith)
+write-frame-requires c κs = let a = c .before .before .before .before .before .before .before .before .before .args in (omega arith, let w = text-length (a .heap .now) (a .table .now) (a .roots .now) (a .consts .now) (a .c) _ refl in omega arith)
 
 sub-write-part : tie.Need-sub-write-part
 sub-write-part c = search needs
@@ -45,16 +44,16 @@ part-write-part-end : tie.Need-part-write-part-end
 part-write-part-end c = search needs
 
 write-part-requires : tie.Need-write-part-requires
-write-part-requires c κs = let a = c .before .before .before .before .before .before .before .before .before .before .before .before .before .before .args in (omega arith, let w = image-length (lent (a .heap .now) (a .table .now) (a .roots .now) (a .consts .now) (a .c)) in let q = ap (λ k. length (trim (take k (a .table .now)))) (sub-zero (4 * a .c .regions)) in omega arith)
+write-part-requires c κs = let a = c .before .before .before .before .before .before .before .before .before .before .before .before .before .before .args in (omega arith, let w = text-length (a .heap .now) (a .table .now) (a .roots .now) (a .consts .now) (a .c) _ refl in omega arith)
 
 write-part-requires-2 : tie.Need-write-part-requires-2
-write-part-requires-2 c κs = let a = c .before .before .before .before .before .before .before .before .before .before .before .before .before .before .before .before .before .before .args in (omega arith, let w = image-length (lent (a .heap .now) (a .table .now) (a .roots .now) (a .consts .now) (a .c)) in let q = ap (λ k. length (trim (take k (a .table .now)))) (sub-zero (4 * a .c .regions)) in omega arith)
+write-part-requires-2 c κs = let a = c .before .before .before .before .before .before .before .before .before .before .before .before .before .before .before .before .before .before .args in (omega arith, let w = text-length (a .heap .now) (a .table .now) (a .roots .now) (a .consts .now) (a .c) _ refl in omega arith)
 
 write-part-requires-3 : tie.Need-write-part-requires-3
-write-part-requires-3 c κs = let a = c .before .before .before .before .before .before .before .before .before .before .before .before .before .before .before .before .before .before .before .before .before .before .args in (omega arith, let w = image-length (lent (a .heap .now) (a .table .now) (a .roots .now) (a .consts .now) (a .c)) in let q = ap (λ k. length (trim (take k (a .table .now)))) (sub-zero (4 * a .c .regions)) in omega arith)
+write-part-requires-3 c κs = let a = c .before .before .before .before .before .before .before .before .before .before .before .before .before .before .before .before .before .before .before .before .before .before .args in (omega arith, let w = text-length (a .heap .now) (a .table .now) (a .roots .now) (a .consts .now) (a .c) _ refl in omega arith)
 
 write-pages-requires : tie.Need-write-pages-requires
-write-pages-requires c κs = let a = c .before .before .before .before .before .before .before .before .before .before .before .before .before .before .before .before .before .before .before .before .before .before .before .before .before .before .args in (c .before .before .before .before .before .before .before .before .before .before .before .before .before .before .before .before .before .before .before .before .before .before .before .before .before .before .pre .0 .paged, c .before .before .before .before .before .before .before .before .before .before .before .before .before .before .before .before .before .before .before .before .page-count .ensures, let w = image-length (lent (a .heap .now) (a .table .now) (a .roots .now) (a .consts .now) (a .c)) in let q = ap (λ k. length (trim (take k (a .table .now)))) (sub-zero (4 * a .c .regions)) in let e = ap (λ k. length (pageFrames (a .c .n) (a .heap .now) k 0)) (c .before .before .before .before .before .before .before .before .before .before .before .before .before .before .before .before .before .before .before .before .page-count .ensures) in omega (arith, c .before .before .before .before .before .before .before .before .before .before .before .before .before .before .before .before .before .before .before .before .before .before .before .before .before .before .pre .1, c .before .before .before .before .before .before .before .before .before .before .before .write-part .ensures .1, c .before .before .before .before .before .before .before .write-part2 .ensures .1, c .before .before .before .write-part3 .ensures .1))
+write-pages-requires c κs = let a = c .before .before .before .before .before .before .before .before .before .before .before .before .before .before .before .before .before .before .before .before .before .before .before .before .before .before .args in (c .before .before .before .before .before .before .before .before .before .before .before .before .before .before .before .before .before .before .before .before .before .before .before .before .before .before .pre .0 .paged, c .before .before .before .before .before .before .before .before .before .before .before .before .before .before .before .before .before .before .before .before .page-count .ensures, let w = text-length (a .heap .now) (a .table .now) (a .roots .now) (a .consts .now) (a .c) _ (c .before .before .before .before .before .before .before .before .before .before .before .before .before .before .before .before .before .before .before .before .page-count .ensures) in omega (arith, c .before .before .before .before .before .before .before .before .before .before .before .before .before .before .before .before .before .before .before .before .before .before .before .before .before .before .pre .1, c .before .before .before .before .before .before .before .before .before .before .before .write-part .ensures .1, c .before .before .before .before .before .before .before .write-part2 .ensures .1, c .before .before .before .write-part3 .ensures .1))
 
 same-length : tie.Need-same-length
 same-length c = search needs
