@@ -16,8 +16,8 @@ use Rattle.rules.specs.Collection.{finished, fromSpace, leaves, ending}
 use Rattle.facts.proofs.Laid.{free-few}
 use Rattle.facts.proofs.Passing.{of-from}
 use Rattle.facts.proofs.Sound.{Sound}
+use Rattle.working.proofs.Owned.{owned-mine}
 use Rattle.working.proofs.Invariant.{Ghost, Inv}
-use Rattle.working.proofs.Running.{Ran}
 use Rattle.motion.specs.Leaves.{Desk, desk, low, freeFirst, taken, freeLast, given}
 use Rattle.motion.specs.Whole.{giveAll, writtenRoots, writtenTable, doneAs, done}
 use Rattle.agreement.proofs.Matching.{Matching}
@@ -32,7 +32,7 @@ pub as-leaves : (s : Store) (roots : List ℕ) (d d′ : Desk) (r : Run) → at 
 unfolding doneAs leaves
 as-leaves s roots d d′ r first last count heap table words = rw (doneAs, leaves, first, last, count, heap, table, words)
 
-module _ (s : Store) (S : Sound s) (g : Ghost) (r : Run) (I : Inv s S g r) (d : Desk) (M : Matching s S g r d) where
+module _ {s : Store} {S : Sound s} {g : Ghost} {r : Run} {d : Desk} (I : Inv s S g r) (M : Matching s S g r d) where
   abbrev n : ℕ
   n = s .ctl .n
 
@@ -45,8 +45,8 @@ module _ (s : Store) (S : Sound s) (g : Ghost) (r : Run) (I : Inv s S g r) (d : 
   abbrev d′ : Desk
   d′ = giveAll n N R (s .table) (desk (r .heap) (d .notes))
 
-  abbrev K : Giving s S g r I d M [] d′
-  K = given-back s S g r I d M
+  abbrev K : Giving I M [] d′
+  K = given-back I M
 
   -- ---- the table
 
@@ -89,7 +89,7 @@ module _ (s : Store) (S : Sound s) (g : Ghost) (r : Run) (I : Inv s S g r) (d : 
       go (no q) = omega arith
       go (yes q) =
           let t = S .laid .mine-top 0 q in
-          absurd (List·Memᴰ·not-nil (subst (List·Memᴰ (t .0)) e (of-from s S 0 (t .0) q (last-in (t .1)))))
+          absurd (List·Memᴰ·not-nil (subst (List·Memᴰ (t .page)) e (of-from S 0 (t .page) q (last-in (t .last)))))
 
   none-taken : R ≡ 0 → M .took ≡ []
   none-taken e = go (M .took) refl
@@ -98,7 +98,7 @@ module _ (s : Store) (S : Sound s) (g : Ghost) (r : Run) (I : Inv s S g r) (d : 
       go [] q = q
       go (k ∷ ks) q =
           let o = M .owned k .0 (subst (List·Memᴰ k) (sym q) (List·Memᴰ·head refl)) in
-          let b = I .owned .mines k (o .0) (o .1) .0 in
+          let b = owned-mine (I .laid) (I .owned) (o .1) .0 in
           absurd (omega arith)
 
   none-free : K .free ≡ [] → M .took ≡ []
@@ -115,17 +115,12 @@ module _ (s : Store) (S : Sound s) (g : Ghost) (r : Run) (I : Inv s S g r) (d : 
       let e : s .ctl .count - at (d′ .notes) taken + at (d′ .notes) given ≡ K .run .count = omega arith in
       let u = K .laid .free-count in
       let v = free-few (K .laid) in
-      let w = few-pages s S in
+      let w = few-pages S in
       low-is (s .ctl .count - at (d′ .notes) taken + at (d′ .notes) given) (omega arith) ∙ e
 
-  module _ (roots : List ℕ) (written : writtenRoots (d .heap) (s .roots) ≡ roots) where
-    pub done-as : done s N d ≡ ending s roots (finished r)
-    unfolding done ending giveBackAll
-    done-as =
-        ap (λ h. doneAs s d (giveAll n N R (s .table) (desk h (d .notes)))) (origins-set s S g r I d M)
-        ∙ as-leaves s roots d d′ (K .run) (K .first) (K .last none-free) count-is (K .heap) (table-is ∙ sym (K .table)) written
-        ∙ ap (leaves s roots) (K .rest)
-
-pub done-is : (s : Store) (S : Sound s) (roots : List ℕ) (r : Run) (A : Ran s S roots r) (d : Desk) → Matching s S (A .end .ghost) r d
-    → writtenRoots (d .heap) (s .roots) ≡ roots → done s (pageCount (s .ctl .n) (s .heap)) d ≡ ending s roots (finished r)
-done-is s S roots r A d M written = done-as s S (A .end .ghost) r (A .end .inv) d M roots written
+  pub done-is : {roots : List ℕ} → writtenRoots (d .heap) (s .roots) ≡ roots → done s N d ≡ ending s roots (finished r)
+  unfolding done ending giveBackAll
+  done-is {roots} written =
+      ap (λ h. doneAs s d (giveAll n N R (s .table) (desk h (d .notes)))) (origins-set I M)
+      ∙ as-leaves s roots d d′ (K .run) (K .first) (K .last none-free) count-is (K .heap) (table-is ∙ sym (K .table)) written
+      ∙ ap (leaves s roots) (K .rest)

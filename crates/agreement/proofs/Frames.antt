@@ -3,22 +3,20 @@
 use Prim.Native.Nat.{ℕ, _+_, _-_, _*_, _^_, _≤_, _<_}
 use native.Mathlib.Nat.{add-zero}
 use native.Mathlib.Omega.{arith}
-use native.Mathlib.Decide.{ℕ-discrete}
 use mathlib.Core.Path.{_≡_, refl, sym, ap, _∙_}
 use mathlib.Core.Logic.{_≢_}
 use mathlib.Core.List.{List, List·Memᴰ}
 use lib.ListN.{length, set, length-set}
 use lib.Seq.{getD-set-same, getD-set-other}
 use Rattle.laws.specs.Lists.{at}
-use Rattle.laws.proofs.Lists.{one-part, begins-none, second-none}
+use Rattle.laws.proofs.Lists.{set-keeps, one-part, begins-none, second-none}
 use Rattle.rules.specs.Memory.{Store, link, endOf, topOf, statusOf}
 use Rattle.rules.specs.Pages.{Scan, Run, withHeap, withTable, withStack}
-use Rattle.rules.proofs.Steps.{Stands, Steps, steps-le}
-use Rattle.facts.proofs.Laid.{Owner, old, mine, old-mine-apart}
+use Rattle.rules.proofs.Steps.{OnPage, steps-le}
+use Rattle.facts.proofs.Laid.{Owner, old, old-mine-apart}
 use Rattle.facts.proofs.Sound.{Sound, descriptor-fits}
-use Rattle.working.proofs.Invariant.{Ghost}
 use Rattle.motion.specs.Leaves.{Desk, desk, notesLength, entry, depth}
-use Rattle.agreement.proofs.Matching.{Noted, bare, above, Matching}
+use Rattle.agreement.proofs.Matching.{Noted, bare, above, Plain, Alike}
 
 -- ---- the scan stack
 
@@ -35,82 +33,37 @@ noted-same m few same = noted-below m (λ x p q. same x p (omega arith))
 
 -- a word set to what another list has there
 pub set-as : (g h : List ℕ) (x v y : ℕ) → x < length h → v ≡ at g x → (y ≢ x → at h y ≡ at g y) → at (set h x v) y ≡ at g y
-set-as g h x v y inside is same = go (ℕ-discrete y x)
-  where
-    go : Dec (y ≡ x) → at (set h x v) y ≡ at g y
-    go (yes e) = rw e (getD-set-same h x v 0 inside ∙ is)
-    go (no ne) = getD-set-other h x y v 0 ne ∙ same ne
+set-as g h x v y inside is same = set-keeps (λ w. w ≡ at g y) h x v y inside (λ e. is ∙ ap (at g) (sym e)) same
 
 -- a word set in both
 pub set-alike : (g h : List ℕ) (x v y : ℕ) → x < length g → x < length h → (y ≢ x → at g y ≡ at h y) → at (set g x v) y ≡ at (set h x v) y
 set-alike g h x v y a b same = set-as (set h x v) g x v y a (sym (getD-set-same h x v 0 b)) (λ ne. same ne ∙ sym (getD-set-other h x y v 0 ne))
 
--- x is the origin of no page that is taken
-abbrev pub Plain : Store → Ghost → ℕ → Type 0
-Plain s g x = (k j : ℕ) → g .own k ≡ mine j → x ≢ k * 2 ^ s .ctl .n + 1
-
-module _ (s : Store) (S : Sound s) (g : Ghost) where
+module _ {s : Store} (S : Sound s) (own : ℕ → Owner) where
   abbrev P : ℕ
   P = 2 ^ s .ctl .n
 
   -- a link is none
-  pub link-plain : (k : ℕ) → Plain s g (k * P)
-  link-plain k l j o e = second-none P k l (descriptor-fits s S) (sym e)
+  pub link-plain : (k : ℕ) → Plain s own (k * P)
+  link-plain k l j o e = second-none P k l (descriptor-fits S) (sym e)
 
   -- nor is a word behind a page's descriptor
-  pub body-plain : (k x : ℕ) → k * P + 2 ≤ x → x < k * P + P → Plain s g x
-  body-plain k x lo hi l j o e = begins-none P k l (x - 1) (omega arith) (omega arith) (omega arith)
+  pub body-plain : {x : ℕ} (k : ℕ) → k * P + 2 ≤ x → x < k * P + P → Plain s own x
+  body-plain {x} k lo hi l j o e = begins-none P k l (x - 1) (omega arith) (omega arith) (omega arith)
 
   -- nor is a value's header
-  pub value-plain : {h : List ℕ} {a l : ℕ} (k : ℕ) → Steps h (k * P + P) (k * P + 2) a → Stands h (k * P + P) a l → Plain s g a
-  value-plain {a = a} k t st = let hi = st .ends in body-plain k a (steps-le t) (omega arith)
+  pub value-plain : {h : List ℕ} {k a l : ℕ} → OnPage (s .ctl .n) h k a l → Plain s own a
+  value-plain {k = k} v = let hi = v .stands .ends in body-plain k (steps-le (v .steps)) (omega arith)
 
   -- nor one in an old page
-  pub old-plain : (k x : ℕ) → g .own k ≡ old → k * P ≤ x → x < k * P + P → Plain s g x
-  old-plain k x own lo hi l j o e =
-      let b = descriptor-fits s S in
-      one-part P l k x (λ q. old-mine-apart (g .own) own o (sym q)) (omega arith) (omega arith) lo hi
+  pub old-plain : {x : ℕ} (k : ℕ) → own k ≡ old → k * P ≤ x → x < k * P + P → Plain s own x
+  old-plain {x} k own-k lo hi l j o e =
+      let b = descriptor-fits S in
+      one-part P l k x (λ q. old-mine-apart own own-k o (sym q)) (omega arith) (omega arith) lo hi
 
--- the same ghost, but for whose each page is and the free list
-abbrev pub owning : Ghost → (ℕ → Owner) → List ℕ → Ghost
-owning g own free =
-    record {
-      own = own;
-      fin = g .fin;
-      pages = g .pages;
-      free = free;
-      log = g .log;
-      count = g .count;
-      past = g .past;
-      todo = g .todo;
-      cur = g .cur;
-      half = g .half;
-    }
-
-module _ (s : Store) (S : Sound s) (g : Ghost) (r : Run) (d : Desk) (M : Matching s S g r d) where
-  -- of the ghost only the owners and the free list count
-  pub by-owners : (g′ : Ghost) → g .own ≡ g′ .own → g .free ≡ g′ .free → Matching s S g′ r d
-  by-owners g′ e f =
-      record {
-        heap-length = M .heap-length;
-        notes-length = M .notes-length;
-        words = rw e at (M .words);
-        took = M .took;
-        front = rw f at (M .front);
-        owned = rw e at (M .owned);
-        kept-link = M .kept-link;
-        rows = M .rows;
-        free-first = M .free-first;
-        taken-count = M .taken-count;
-        free-last = M .free-last;
-        given-none = M .given-none;
-        shallow = M .shallow;
-        deep = M .deep;
-        noted = M .noted;
-      }
-
-  pub heap-on : (h h′ : List ℕ) → length h′ ≡ length h → ((x : ℕ) → Plain s g x → at h′ x ≡ at h x)
-      → ((k : ℕ) → List·Memᴰ k (M .took) → at h′ (k * 2 ^ s .ctl .n + 1) ≡ at (d .heap) (k * 2 ^ s .ctl .n + 1)) → Matching s S g (withHeap r h) (desk h′ (d .notes))
+module _ {s : Store} {S : Sound s} {own : ℕ → Owner} {free : List ℕ} {r : Run} {d : Desk} (M : Alike s S own free r d) where
+  pub heap-on : (h h′ : List ℕ) → length h′ ≡ length h → ((x : ℕ) → Plain s own x → at h′ x ≡ at h x)
+      → ((k : ℕ) → List·Memᴰ k (M .took) → at h′ (k * 2 ^ s .ctl .n + 1) ≡ at (d .heap) (k * 2 ^ s .ctl .n + 1)) → Alike s S own free (withHeap r h) (desk h′ (d .notes))
   heap-on h h′ len words kept =
       record {
         heap-length = len;
@@ -133,13 +86,13 @@ module _ (s : Store) (S : Sound s) (g : Ghost) (r : Run) (d : Desk) (M : Matchin
   -- the links are the same
   pub link-same : (k : ℕ) → at (d .heap) (k * 2 ^ s .ctl .n) ≡ link (s .ctl .n) (r .heap) k
   unfolding link
-  link-same k = M .words (k * 2 ^ s .ctl .n) (link-plain s S g k)
+  link-same k = M .words (k * 2 ^ s .ctl .n) (link-plain S own k)
 
-  not-origin : (x : ℕ) → Plain s g x → (k : ℕ) → List·Memᴰ k (M .took) → k * 2 ^ s .ctl .n + 1 ≢ x
+  not-origin : (x : ℕ) → Plain s own x → (k : ℕ) → List·Memᴰ k (M .took) → k * 2 ^ s .ctl .n + 1 ≢ x
   not-origin x plain k m e = let t = M .owned k .0 m in plain k (t .0) (t .1) (sym e)
 
   -- one word of both
-  pub word-on : (x v : ℕ) → x < length (r .heap) → Plain s g x → Matching s S g (withHeap r (set (r .heap) x v)) (desk (set (d .heap) x v) (d .notes))
+  pub word-on : (x v : ℕ) → x < length (r .heap) → Plain s own x → Alike s S own free (withHeap r (set (r .heap) x v)) (desk (set (d .heap) x v) (d .notes))
   word-on x v inside plain =
       let len = M .heap-length in
       heap-on (set (r .heap) x v) (set (d .heap) x v) (length-set (d .heap) x v ∙ len ∙ sym (length-set (r .heap) x v))
@@ -147,7 +100,7 @@ module _ (s : Store) (S : Sound s) (g : Ghost) (r : Run) (d : Desk) (M : Matchin
       (λ k m. getD-set-other (d .heap) x (k * 2 ^ s .ctl .n + 1) v 0 (not-origin x plain k m))
 
   -- one word of the plain heap, which the other has already
-  pub word-has : (x v : ℕ) → x < length (r .heap) → at (d .heap) x ≡ v → Matching s S g (withHeap r (set (r .heap) x v)) d
+  pub word-has : (x v : ℕ) → x < length (r .heap) → at (d .heap) x ≡ v → Alike s S own free (withHeap r (set (r .heap) x v)) d
   word-has x v inside is =
       heap-on (set (r .heap) x v) (d .heap) (M .heap-length ∙ sym (length-set (r .heap) x v))
       (λ y p. sym (set-as (d .heap) (r .heap) x v y inside (sym is) (λ ne. sym (M .words y p)))) (λ k m. refl)
@@ -157,7 +110,7 @@ module _ (s : Store) (S : Sound s) (g : Ghost) (r : Run) (d : Desk) (M : Matchin
   -- rows as in a table, entries as in a stack; what the words behind the depth say stays
   pub notes-on : (t : List ℕ) (ts : List Scan) (t′ : List ℕ) → length t′ ≡ notesLength
       → ((j c : ℕ) → j < s .ctl .regions → c < 4 → at t′ (4 * j + c) ≡ at t (4 * j + c)) → length ts ≤ 64 → at t′ depth ≡ length ts → Noted t′ ts
-      → ((x : ℕ) → depth < x → at t′ x ≡ at (d .notes) x) → Matching s S g (withStack (withTable r t) ts) (desk (d .heap) t′)
+      → ((x : ℕ) → depth < x → at t′ x ≡ at (d .notes) x) → Alike s S own free (withStack (withTable r t) ts) (desk (d .heap) t′)
   notes-on t ts t′ len rows shallow deep noted else =
       record {
         heap-length = M .heap-length;
@@ -179,12 +132,12 @@ module _ (s : Store) (S : Sound s) (g : Ghost) (r : Run) (d : Desk) (M : Matchin
 
   -- other rows
   pub rows-on : (t t′ : List ℕ) → length t′ ≡ length (d .notes) → ((j c : ℕ) → j < s .ctl .regions → c < 4 → at t′ (4 * j + c) ≡ at t (4 * j + c))
-      → ((x : ℕ) → 256 ≤ x → at t′ x ≡ at (d .notes) x) → Matching s S g (withTable r t) (desk (d .heap) t′)
+      → ((x : ℕ) → 256 ≤ x → at t′ x ≡ at (d .notes) x) → Alike s S own free (withTable r t) (desk (d .heap) t′)
   rows-on t t′ len rows else =
       notes-on t (r .stack) t′ (len ∙ M .notes-length) rows (M .shallow) (else _ (omega arith) ∙ M .deep) (noted-same (M .noted) (M .shallow) (λ x p q. else x p)) (λ x p. else x (omega arith))
 
   -- one word of both
-  pub row-on : (y v : ℕ) → y < 4 * s .ctl .regions → y < length (r .table) → Matching s S g (withTable r (set (r .table) y v)) (desk (d .heap) (set (d .notes) y v))
+  pub row-on : (y v : ℕ) → y < 4 * s .ctl .regions → y < length (r .table) → Alike s S own free (withTable r (set (r .table) y v)) (desk (d .heap) (set (d .notes) y v))
   row-on y v inside wide =
       let R = S .regions in
       let len = M .notes-length in

@@ -49,7 +49,7 @@ module _ (n k : ℕ) where
   desk-first d e =
       rw (giveDesk, giveOn, eq-eqb (at (d .notes) freeFirst) 0 e)
       (ap (λ t. desk (clearPage n (d .heap) k) t)
-      (set-comm (counted (d .notes)) freeLast freeFirst (suc k) (suc k) (λ (w : freeLast ≡ freeFirst). omega arith)))
+      (set-comm (counted (d .notes)) freeLast freeFirst (suc k) (suc k) (omega arith)))
 
   pub desk-later : (d : Desk) (z : ℕ) → at (d .notes) freeFirst ≢ 0 → at (d .notes) freeLast ≡ suc z → z ≤ 65536
       → giveDesk n k d ≡ desk (set (clearPage n (d .heap) k) (z * 2 ^ n) (suc k)) (set (counted (d .notes)) freeLast (suc k))
@@ -58,7 +58,7 @@ module _ (n k : ℕ) where
       let p : at (d .notes) freeLast - 1 ≡ z = omega arith in
       rw (giveDesk, giveOn, ne-eqb (at (d .notes) freeFirst) 0 ne, pageStart, p, le-leb z 65536 b)
 
-module _ (s : Store) (S : Sound s) (g : Ghost) (r : Run) (I : Inv s S g r) (d : Desk) (M : Matching s S g r d) where
+module _ {s : Store} {S : Sound s} {g : Ghost} {r : Run} {d : Desk} (I : Inv s S g r) (M : Matching s S g r d) where
   abbrev n : ℕ
   n = s .ctl .n
 
@@ -105,7 +105,7 @@ module _ (s : Store) (S : Sound s) (g : Ghost) (r : Run) (I : Inv s S g r) (d : 
     new l m q = once-head (K .once) (subst (λ y. List·Memᴰ y ls) q m)
 
     L′ : Layout n N R (upd (K .own) k spare) (g .fin) (g .pages) (K .free ++ k ∷ []) (giveBack n k (K .run))
-    L′ = given-page n N R (K .own) (g .fin) (g .pages) (K .free) (K .run) (K .laid) k own-k .laid
+    L′ = given-page (K .laid) k own-k .laid
 
     -- the count of pages given fits into a word
     more-given : low (at (e .notes) given + 1) ≡ at (e .notes) given + 1
@@ -114,7 +114,7 @@ module _ (s : Store) (S : Sound s) (g : Ghost) (r : Run) (I : Inv s S g r) (d : 
         let b = K .laid .free-count in
         let c = free-few L′ in
         let f = length-append (K .free) (k ∷ []) in
-        let f′ = few-pages s S in
+        let f′ = few-pages S in
         low-is (at (e .notes) given + 1) (omega arith)
 
     at-given : at (counted n k (e .notes)) given ≡ at (e .notes) given + 1
@@ -146,15 +146,15 @@ module _ (s : Store) (S : Sound s) (g : Ghost) (r : Run) (I : Inv s S g r) (d : 
           olds = λ l m. upd-other (K .own) k spare l (new l m) ∙ K .olds l (List·Memᴰ·tail m);
           links = λ l m. let b = S .laid .big in given-link n (K .run) k k-in (omega arith) l (new l m) (not-last l m) ∙ K .links l (List·Memᴰ·tail m);
           heap = heap;
-          table = given-page n N R (K .own) (g .fin) (g .pages) (K .free) (K .run) (K .laid) k own-k .table ∙ K .table;
+          table = given-page (K .laid) k own-k .table ∙ K .table;
           size = size;
           first = first;
           last = λ c. last ∙ sym (given-last n (K .run) k);
-          same = λ x b. notes x (λ (q : x ≡ freeFirst). omega arith) (λ (q : x ≡ freeLast). omega arith) ∙ at-else x (λ (q : x ≡ given). omega arith) ∙ K .same x b;
-          took = notes taken (λ (q : taken ≡ freeFirst). omega arith) (λ (q : taken ≡ freeLast). omega arith) ∙ at-else taken (λ (q : taken ≡ given). omega arith) ∙ K .took;
+          same = λ x b. notes x (omega arith) (omega arith) ∙ at-else x (omega arith) ∙ K .same x b;
+          took = notes taken (omega arith) (omega arith) ∙ at-else taken (omega arith) ∙ K .took;
           count =
               let a = K .count in
-              let b = notes given (λ (q : given ≡ freeFirst). omega arith) (λ (q : given ≡ freeLast). omega arith) in
+              let b = notes given (omega arith) (omega arith) in
               let c = at-given in
               let f = given-count n (K .run) k in
               omega arith;
@@ -175,7 +175,7 @@ module _ (s : Store) (S : Sound s) (g : Ghost) (r : Run) (I : Inv s S g r) (d : 
             let z = counted-size in
             let z₂ = length-set t freeFirst (suc k) in
             build _ (desk-first n k e (K .first ∙ f)) (ap (λ h. clearPage n h k) (K .heap) ∙ sym (ap (λ (x : Run). x .heap) B)) (length-set t₂ freeLast (suc k) ∙ z₂ ∙ z)
-            (getD-set-other t₂ freeLast freeFirst (suc k) 0 (λ (w : freeFirst ≡ freeLast). omega arith) ∙ getD-set-same t freeFirst (suc k) 0 (omega arith) ∙ sym (ap (λ (x : Run). x .first) B))
+            (getD-set-other t₂ freeLast freeFirst (suc k) 0 (omega arith) ∙ getD-set-same t freeFirst (suc k) 0 (omega arith) ∙ sym (ap (λ (x : Run). x .first) B))
             (getD-set-same t₂ freeLast (suc k) 0 (omega arith)) (λ x ne ne′. getD-set-other t₂ freeLast x (suc k) 0 ne′ ∙ getD-set-other t freeFirst x (suc k) 0 ne)
         go (f ∷ fs) q = later (lastOr f fs) (K .laid .free-last ∙ ap lastLink q) (λ e. cons≢nil (sym q ∙ e)) (λ e. let z = first-is (K .laid) q in omega arith)
           where
@@ -186,10 +186,10 @@ module _ (s : Store) (S : Sound s) (g : Ghost) (r : Run) (I : Inv s S g r) (d : 
                 let t = counted n k (e .notes) in
                 let y = counted-size in
                 let v = free-known (K .laid) z (last-one-of (K .free) z (sym (K .laid .free-last) ∙ l)) in
-                let u = few-pages s S in
+                let u = few-pages S in
                 build _ (desk-later n k e z (λ (w : at (e .notes) freeFirst ≡ 0). not-none (omega arith)) (K .last (λ q. absurd (some-free q)) ∙ l) (omega arith))
                 (ap (λ h. set (clearPage n h k) (z * P) (suc k)) (K .heap) ∙ sym (ap (λ (x : Run). x .heap) B)) (length-set t freeLast (suc k) ∙ y)
-                (getD-set-other t freeLast freeFirst (suc k) 0 (λ (w : freeFirst ≡ freeLast). omega arith) ∙ at-else freeFirst (λ (w : freeFirst ≡ given). omega arith) ∙ a ∙ sym (ap (λ (x : Run). x .first) B))
+                (getD-set-other t freeLast freeFirst (suc k) 0 (omega arith) ∙ at-else freeFirst (omega arith) ∙ a ∙ sym (ap (λ (x : Run). x .first) B))
                 (getD-set-same t freeLast (suc k) 0 (omega arith)) (λ x ne ne′. getD-set-other t freeLast x (suc k) 0 ne′)
 
     pub give : (linkOn n e k ≡ link n (s .heap) k) × Giving ls (giveDesk n k e)
@@ -205,12 +205,12 @@ module _ (s : Store) (S : Sound s) (g : Ghost) (r : Run) (I : Inv s S g r) (d : 
   unfolding pagesFrom
   enter j e jR K =
       let q : R - j ≡ suc (R - suc j) = omega arith in
-      subst (λ ks. Giving (ks ++ pagesFrom n (s .heap) (s .table) (R - suc j) (suc j)) e) (pages-are s S j jR) (subst (λ m. Giving (pagesFrom n (s .heap) (s .table) m j) e) q K)
+      subst (λ ks. Giving (ks ++ pagesFrom n (s .heap) (s .table) (R - suc j) (suc j)) e) (pages-are S j jR) (subst (λ m. Giving (pagesFrom n (s .heap) (s .table) m j) e) q K)
 
   -- the link of an old page is as before
   old-link : (k : ℕ) → g .own k ≡ old → link n (r .heap) k ≡ link n (s .heap) k
   unfolding link
-  old-link k o = descriptor-kept (I .logged) (descriptor-fits s S) k (k * P) o (le-refl _) (omega arith)
+  old-link k o = descriptor-kept (I .logged) (descriptor-fits S) k (k * P) o (le-refl _) (omega arith)
 
   -- the free list's last, where a page is free or none was taken
   last-free : (g .free ≡ [] → M .took ≡ []) → s .ctl .last ≡ r .last
@@ -228,7 +228,7 @@ module _ (s : Store) (S : Sound s) (g : Ghost) (r : Run) (I : Inv s S g r) (d : 
         own = g .own;
         free = g .free;
         laid = I .laid;
-        once = from-once s S;
+        once = from-once S;
         olds = from-old I;
         links = λ k m. old-link k (from-old I k m);
         heap = refl;

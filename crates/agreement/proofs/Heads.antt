@@ -1,4 +1,5 @@
--- What the work reads off a header or a word, by remainders, is what the plain run reads off it by cases.
+-- What the work reads off a header or a word, by remainders, is what the plain run reads off it by cases. The cases are those of the same
+-- remainders.
 use Prim.Native.Nat.{ℕ, _*_, _/_, _%_}
 use native.Mathlib.Nat.{mul-mod-right, mul-div-right}
 use native.Mathlib.Omega.{arith}
@@ -6,7 +7,7 @@ use mathlib.Core.Path.{_≡_, sym, ap, _∙_}
 use mathlib.Core.Logic.{_≢_}
 use mathlib.Core.Bool.{false≢true}
 use borrow.Author.Tests.{eqb-true}
-use Rattle.rules.specs.Words.{number, inHeap, inConst, wordOf, rec, raw, headOf, lengthBy, recordBy, isRecord}
+use Rattle.rules.specs.Words.{inHeap, wordOf, rec, raw, headOf, lengthBy, recordBy, isRecord}
 use Rattle.rules.proofs.Headers.{header-odd, record-by}
 use Rattle.rules.proofs.Pointers.{heap-word}
 
@@ -24,8 +25,5 @@ pub pointer-rest : (a : ℕ) → ((4 * a) % 4 ≡ 0) × ((4 * a) / 4 ≡ a)
 pointer-rest a = (mul-mod-right 4 a, mul-div-right a {m = 4} (omega arith))
 
 -- what is none
-pub number-rest : (w : ℕ) → wordOf w ≡ number → w % 4 ≢ 0
-number-rest w e m = let t : inHeap (w / 4) ≡ number = sym (heap-word w m) ∙ e in false≢true cc
-
-pub const-rest : (w a : ℕ) → wordOf w ≡ inConst a → w % 4 ≢ 0
-const-rest w a e m = let t : inHeap (w / 4) ≡ inConst a = sym (heap-word w m) ∙ e in false≢true cc
+pub other-rest : (w : ℕ) → ((a : ℕ) → wordOf w ≢ inHeap a) → w % 4 ≢ 0
+other-rest w none m = none (w / 4) (heap-word w m)

@@ -15,7 +15,7 @@ use Rattle.rules.specs.Memory.{Store, pageCount, link, topOf}
 use Rattle.rules.specs.Words.{headOf, wordsBy}
 use Rattle.rules.specs.Pages.{Run}
 use Rattle.rules.specs.Collection.{nextFrom, nextScan}
-use Rattle.rules.proofs.Chains.{page-of}
+use Rattle.facts.proofs.Inside.{page-at}
 use Rattle.rules.proofs.Pointers.{words-of}
 use Rattle.rules.proofs.Headers.{header-odd}
 use Rattle.rules.proofs.Steps.{steps-le}
@@ -30,7 +30,7 @@ use Rattle.agreement.proofs.Matching.{Matching}
 use Rattle.agreement.proofs.Frames.{top-same, body-plain, value-plain, link-same}
 use Rattle.agreement.proofs.Took.{heap-small, start-is}
 
-module _ (s : Store) (S : Sound s) (g : Ghost) (r : Run) (I : Inv s S g r) (d : Desk) (M : Matching s S g r d) (j : ℕ) (jR : j < s .ctl .regions) (b : ℕ)
+module _ {s : Store} {S : Sound s} {g : Ghost} {r : Run} {d : Desk} {j b : ℕ} (I : Inv s S g r) (M : Matching s S g r d) (jR : j < s .ctl .regions)
     (F : InRow (s .ctl .n) (r .heap) (g .fin) (g .pages j) b) where
   abbrev n : ℕ
   n = s .ctl .n
@@ -48,44 +48,44 @@ module _ (s : Store) (S : Sound s) (g : Ghost) (r : Run) (I : Inv s S g r) (d : 
   t = b + suc (F .len)
 
   lo : k * P + 2 ≤ b
-  lo = steps-le (F .steps)
+  lo = steps-le (F .value .steps)
 
   hi : t ≤ k * P + P
-  hi = F .stands .ends
+  hi = F .value .stands .ends
 
   in-heap : (l : ℕ) → List·Memᴰ l (g .pages j) → l * P + P ≤ N * P
   in-heap l m = let q = mul-le-mul-right P (chain-known (I .laid) j jR l m) in omega arith
 
   here : at (d .heap) b ≡ at (r .heap) b
-  here = M .words b (value-plain s S g k (F .steps) (F .stands))
+  here = M .words b (value-plain S (g .own) (F .value))
 
   page-is : b / P ≡ k
-  page-is = let p = lo in let q = hi in page-of n k b (omega arith) (omega arith)
+  page-is = page-at (F .value)
 
   -- the page that the link names
   link-known : link n (r .heap) k - 1 < N
   link-known =
-      let on = linked-from (I .laid .mine-links j jR .2) (F .here) in
+      let on = linked-from (I .laid .mine-links j jR .links) (F .here) in
       let p = linked-fits (on .1) (λ y m. chain-known (I .laid) j jR y (on .3 y m)) in
       let q = chain-known (I .laid) j jR k (F .here) in
       omega arith
 
   next-page : nextPage n b (d .heap) ≡ (link n (r .heap) k - 1) * P + 2
   next-page =
-      rw (page-is, start-is s S k (chain-known (I .laid) j jR k (F .here)), link-same s S g r d M k, start-is s S (link n (r .heap) k - 1) link-known)
+      rw (page-is, start-is S k (chain-known (I .laid) j jR k (F .here)), link-same M k, start-is S (link n (r .heap) k - 1) link-known)
 
   end-is : b + ((at (d .heap) b) / 8 + 1) ≡ t
   end-is =
-      let w : (at (r .heap) b) / 8 ≡ F .len = header-odd (at (r .heap) b) (F .len) (F .stands .head) .1 in
+      let w : (at (r .heap) b) / 8 ≡ F .len = header-odd (at (r .heap) b) (F .len) (F .value .stands .head) .1 in
       let e : (at (d .heap) b) / 8 ≡ F .len = ap (λ x. x / 8) here ∙ w in
       omega arith
 
   end-plain : b + wordsBy (headOf (at (r .heap) b)) ≡ t
-  end-plain = ap (λ x. b + x) (words-of (headOf (at (r .heap) b)) (F .len) (F .stands .head))
+  end-plain = ap (λ x. b + x) (words-of (headOf (at (r .heap) b)) (F .len) (F .value .stands .head))
 
   -- the word behind the value, where it does not end its page
   behind : eqb (t % P) 0 ≡ false → at (d .heap) t ≡ at (r .heap) t
-  behind e = M .words t (body-plain s S g k t (let p = lo in omega arith) (strict (ℕ-discrete t (k * P + P))))
+  behind e = M .words t (body-plain S (g .own) k (let p = lo in omega arith) (strict (ℕ-discrete t (k * P + P))))
     where
       strict : Dec (t ≡ k * P + P) → t < k * P + P
       strict (yes q) =
@@ -97,7 +97,7 @@ module _ (s : Store) (S : Sound s) (g : Ghost) (r : Run) (I : Inv s S g r) (d : 
   pub nexts : X.nextScan n j b d ≡ nextScan n j b r
   unfolding nextScan nextFrom nextOf
   nexts =
-      ap (λ x. nextOf n b x (topOf (d .notes) j) (d .heap)) end-is ∙ ap (λ x. nextOf n b t x (d .heap)) (top-same s S g r d M j jR)
+      ap (λ x. nextOf n b x (topOf (d .notes) j) (d .heap)) end-is ∙ ap (λ x. nextOf n b t x (d .heap)) (top-same M j jR)
       ∙ go (eqb t (topOf (r .table) j)) refl (eqb (t % P) 0) refl ∙ ap (λ x. nextFrom n j b x r) (sym end-plain)
     where
       page : (link n (r .heap) (b / P) - 1) * P + 2 ≡ (link n (r .heap) k - 1) * P + 2
@@ -118,11 +118,11 @@ module _ (s : Store) (S : Sound s) (g : Ghost) (r : Run) (I : Inv s S g r) (d : 
   next-small = subst (λ x. nextFrom n j b x r < 4294967296) (sym end-plain) (go (eqb t (topOf (r .table) j)) refl (eqb (t % P) 0 || eqb (at (r .heap) t) 0) refl)
     where
       t-small : t < 4294967296
-      t-small = let p = hi in let q = in-heap k (F .here) in let c = heap-small s S in omega arith
+      t-small = let p = hi in let q = in-heap k (F .here) in let c = heap-small S in omega arith
 
       page-small : (link n (r .heap) (b / P) - 1) * P + 2 < 4294967296
       page-small =
-          let c = heap-small s S in
+          let c = heap-small S in
           let z = mul-le-mul-right P link-known in
           let y = S .laid .big in
           rw page-is (omega arith)

@@ -14,6 +14,7 @@ use Rattle.rules.specs.Memory.{Store, pageCount, link}
 use Rattle.rules.specs.Pages.{Run}
 use Rattle.facts.proofs.Laid.{chain-body, chain-known}
 use Rattle.facts.proofs.Sound.{Sound, descriptor-fits}
+use Rattle.working.proofs.Owned.{owned-mine}
 use Rattle.working.proofs.Invariant.{Ghost, Inv}
 use Rattle.motion.specs.Leaves.{Desk}
 use Rattle.motion.specs.Whole.{own, ownAll}
@@ -21,7 +22,7 @@ use Rattle.agreement.proofs.Matching.{Matching}
 use Rattle.agreement.proofs.Frames.{set-as}
 use Rattle.agreement.proofs.Walked.{regions-keep, Ahead, ahead-enter, ahead-tail, ahead-none}
 
-module _ (s : Store) (S : Sound s) (g : Ghost) (r : Run) (I : Inv s S g r) (d : Desk) (M : Matching s S g r d) where
+module _ {s : Store} {S : Sound s} {g : Ghost} {r : Run} {d : Desk} (I : Inv s S g r) (M : Matching s S g r d) where
   abbrev n : ℕ
   n = s .ctl .n
 
@@ -48,7 +49,7 @@ module _ (s : Store) (S : Sound s) (g : Ghost) (r : Run) (I : Inv s S g r) (d : 
   turn : (j k : ℕ) (ks : List ℕ) (h : List ℕ) → j < R → List·Memᴰ k (g .pages j) → Good (k ∷ ks) (suc j) h → (link n h k ≡ link n (r .heap) k) × Good ks (suc j) (own n j k h)
   unfolding link own
   turn j k ks h jR m H = (
-    H .words (k * P) (λ l q e. second-none P k l (descriptor-fits s S) (sym e)),
+    H .words (k * P) (λ l q e. second-none P k l (descriptor-fits S) (sym e)),
     record {
       size = length-set h (k * P + 1) (suc j) ∙ H .size;
       words = λ x ne.
@@ -65,7 +66,7 @@ module _ (s : Store) (S : Sound s) (g : Ghost) (r : Run) (I : Inv s S g r) (d : 
   begin =
       record {
         size = M .heap-length;
-        words = λ x ne. M .words x (λ k j o. let t = I .owned .mines k j o in ne k (inr (j, zero-le, t .0, t .1)));
+        words = λ x ne. M .words x (λ k j o. let t = owned-mine (I .laid) (I .owned) o in ne k (inr (j, zero-le, t .0, t .1)));
       }
 
   pub origins-set : ownAll n N R (d .notes) (d .heap) ≡ r .heap

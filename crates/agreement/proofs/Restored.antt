@@ -19,15 +19,16 @@ use Rattle.laws.specs.Loop.{more, over}
 use Rattle.laws.proofs.Loops.{loop-more, loop-over, loop-end}
 use Rattle.rules.specs.Memory.{Store, pageCount, link}
 use Rattle.facts.proofs.Laid.{old≢mine, old≢beyond, old, Body, chain-body}
-use Rattle.rules.proofs.Steps.{Stands, Steps, here, over as passes, steps-le, steps-then, not-header, no-zero}
+use Rattle.rules.proofs.Steps.{Stands, Steps, OnPage, here, over as passes, steps-le, steps-then, not-header, no-zero}
 use Rattle.facts.proofs.Copied.{to}
 use Rattle.facts.proofs.Sound.{Sound}
 use Rattle.facts.proofs.Goods.{page-ends}
 use Rattle.rules.specs.Pages.{Run}
 use Rattle.rules.proofs.Chains.{page-of}
 use Rattle.rules.proofs.Headers.{header-odd}
-use Rattle.working.proofs.Invariant.{Ghost, Kept}
-use Rattle.working.proofs.Log.{in-log, Copy, copy-page}
+use Rattle.working.proofs.Invariant.{Ghost}
+use Rattle.laws.proofs.Once.{member?}
+use Rattle.working.proofs.Log.{olds, in-olds, copy-on}
 use Rattle.motion.specs.Leaves.{Desk}
 use Rattle.motion.specs.Whole.{undoOf, undoTurn, undoVals, undoPage, undoHeaders}
 use Rattle.agreement.proofs.Matching.{Matching}
@@ -35,7 +36,7 @@ use Rattle.agreement.proofs.Frames.{set-as, value-plain, old-plain}
 use Rattle.agreement.proofs.Stuck.{Stuck}
 use Rattle.agreement.proofs.Walked.{regions-keep, Ahead, ahead-enter, ahead-tail, ahead-none}
 
-module _ (s : Store) (S : Sound s) (d : Desk) (A : Stuck s S d) where
+module _ {s : Store} {S : Sound s} {d : Desk} (A : Stuck s S d) where
   abbrev g : Ghost
   g = A .ghost
 
@@ -77,29 +78,18 @@ module _ (s : Store) (S : Sound s) (d : Desk) (A : Stuck s S d) where
   inside : (k x : ℕ) → g .own k ≡ old → In k x → x < length (s .heap)
   inside k x o p = let a = page-ends n (s .heap) (S .within .paged) k (A .known k (old≢beyond o)) in let hi = p .1 in omega arith
 
-  -- a logged value stands in its page
-  module _ (k x b : ℕ) (p : In k x) (m : List·Memᴰ (to x b) (g .log)) where
-    abbrev C : Copy n s (Kept s) (g .own) (g .fin) (r .heap) (g .log) (g .count) x b
-    C = A .logged .copies m
-
-    logged-steps : Steps (s .heap) (k * P + P) (k * P + 2) x
-    logged-steps = subst (λ y. Steps (s .heap) (y * P + P) (y * P + 2) x) (copy-page C k (p .0) (p .1)) (C .from-steps)
-
-    logged-stands : Stands (s .heap) (k * P + P) x (C .len)
-    logged-stands = subst (λ y. Stands (s .heap) (y * P + P) x (C .len)) (copy-page C k (p .0) (p .1)) (C .from-stands)
-
   -- where no value stands, the word is as before
-  same-if : (left : ℕ → Type 0) (h : List ℕ) → Half left h → (k x : ℕ) → g .own k ≡ old → In k x
-      → ((l : ℕ) → Steps (s .heap) (k * P + P) (k * P + 2) x → Stands (s .heap) (k * P + P) x l → ⊥) → at h x ≡ at (s .heap) x
-  same-if left h H k x o p none = go (H .either k x o p)
+  same-if : {left : ℕ → Type 0} {h : List ℕ} → Half left h → (k x : ℕ) → g .own k ≡ old → In k x
+      → ((l : ℕ) → OnPage n (s .heap) k x l → ⊥) → at h x ≡ at (s .heap) x
+  same-if {h = h} H k x o p none = go (H .either k x o p)
     where
       go : Either h x → at h x ≡ at (s .heap) x
       go (inl e) = e
-      go (inr t) = absurd (none (C k x (t .0) p (t .1) .len) (logged-steps k x (t .0) p (t .1)) (logged-stands k x (t .0) p (t .1)))
+      go (inr t) = let C = A .logged .copies (t .1) in absurd (none (C .len) (copy-on C k (p .0) (p .1)))
 
   -- one word put back
-  put-back : (left : ℕ → Type 0) (h : List ℕ) → Half left h → (k x v : ℕ) → g .own k ≡ old → In k x → v ≡ at (s .heap) x → Half left (set h x v)
-  put-back left h H k x v o p e =
+  put-back : {left : ℕ → Type 0} {h : List ℕ} → Half left h → (k x v : ℕ) → g .own k ≡ old → In k x → v ≡ at (s .heap) x → Half left (set h x v)
+  put-back {h = h} H k x v o p e =
       record {
         size = length-set h x v ∙ H .size;
         others = λ l y ne q. getD-set-other h x y v 0 (λ z. ne (other-page l y q z)) ∙ H .others l y ne q;
@@ -119,52 +109,49 @@ module _ (s : Store) (S : Sound s) (d : Desk) (A : Stuck s S d) where
       by l y q (inr t) (no ne) = inr (t .0, t .1, getD-set-other h x y v 0 ne ∙ t .2)
 
   -- the copy still has the header
-  copy-head : (left : ℕ → Type 0) (h : List ℕ) → Half left h → (x b : ℕ) → List·Memᴰ (to x b) (g .log) → at h b ≡ at (s .heap) x
-  copy-head left h H x b m =
+  copy-head : {left : ℕ → Type 0} {h : List ℕ} {x b : ℕ} → Half left h → List·Memᴰ (to x b) (g .log) → at h b ≡ at (s .heap) x
+  copy-head {b = b} H m =
       let D = A .logged .copies m in
-      let lo = steps-le (D .into-steps) in
-      let hi = D .into-stands .ends in
+      let lo = steps-le (D .now .steps) in
+      let hi = D .now .stands .ends in
       let p : In (D .into) b = (omega arith, omega arith) in
       H .others (D .into) b (λ o. old≢mine o (D .into-mine)) p
-      ∙ M .words b (value-plain s S g (D .into) (D .into-steps) (D .into-stands))
+      ∙ M .words b (value-plain S (g .own) (D .now))
       ∙ D .head
 
   -- ---- one page
 
-  module _ (left : ℕ → Type 0) (k j : ℕ) (own-k : g .own k ≡ old) (body : Body n (s .heap) k j (S .fin k)) where
-    abbrev hi : ℕ
-    hi = k * P + P
+  -- what stepping through page k has come to, from its third word on
+  record PageBack (left : ℕ → Type 0) (k : ℕ) (h : List ℕ) : Type 0 where
+    pub half : Half left h
+    pub page : (y : ℕ) → In k y → at h y ≡ at (s .heap) y
 
-    -- what stepping has come to, from the page's third word on
-    pub record PageBack (h : List ℕ) : Type 0 where
-      pub half : Half left h
-      pub page : (y : ℕ) → In k y → at h y ≡ at (s .heap) y
+  -- one value of l words at x: the next one's address, and the heap with its header back
+  record Stepped (left : ℕ → Type 0) (k : ℕ) (h : List ℕ) (x l : ℕ) : Type 0 where
+    pub heap : List ℕ
+    pub turn : undoTurn (k * P + P) (after x h) ≡ more (after (x + suc l) heap)
+    pub half : Half left heap
+    pub below : (y : ℕ) → k * P ≤ y → y < x + suc l → at heap y ≡ at (s .heap) y
 
+  module _ {left : ℕ → Type 0} {k j : ℕ} (own-k : g .own k ≡ old) (body : Body n (s .heap) k j (S .fin k)) where
     -- no value stands past the last
-    past-end : (h : List ℕ) → Half left h → (y : ℕ) → S .fin k ≤ y → y < hi → at h y ≡ at (s .heap) y
-    past-end h H y lo up =
+    past-end : {h : List ℕ} → Half left h → (y : ℕ) → S .fin k ≤ y → y < k * P + P → at h y ≡ at (s .heap) y
+    past-end H y lo up =
         let q = steps-le (body .filled) in
-        same-if left h H k y own-k (omega arith, up) (λ l t st. no-zero st (body .rest y lo up))
+        same-if H k y own-k (omega arith, up) (λ l v. no-zero (v .stands) (body .rest y lo up))
 
     -- inside a value no other stands
-    between : (h : List ℕ) → Half left h → (x l : ℕ) → Steps (s .heap) hi (k * P + 2) x → Stands (s .heap) hi x l
+    between : {h : List ℕ} {x l : ℕ} → Half left h → Steps (s .heap) (k * P + P) (k * P + 2) x → Stands (s .heap) (k * P + P) x l
         → (y : ℕ) → x < y → y < x + suc l → at h y ≡ at (s .heap) y
-    between h H x l t st y lo up =
+    between H t st y lo up =
         let q = steps-le t in
         let e = st .ends in
-        same-if left h H k y own-k (omega arith, omega arith) (λ m u v. not-header t st lo up u refl)
+        same-if H k y own-k (omega arith, omega arith) (λ m v. not-header t st lo up (v .steps) refl)
 
-    -- one value: the next one's address, and the heap with its header back
-    pub record Stepped (h : List ℕ) (x l : ℕ) : Type 0 where
-      pub heap : List ℕ
-      pub turn : undoTurn hi (after x h) ≡ more (after (x + suc l) heap)
-      pub half : Half left heap
-      pub below : (y : ℕ) → k * P ≤ y → y < x + suc l → at heap y ≡ at (s .heap) y
-
-    undo-step : (h : List ℕ) → Half left h → (x l : ℕ) → Steps (s .heap) hi (k * P + 2) x → Stands (s .heap) hi x l
-        → ((y : ℕ) → k * P ≤ y → y < x → at h y ≡ at (s .heap) y) → Stepped h x l
+    undo-step : {h : List ℕ} {x l : ℕ} → Half left h → Steps (s .heap) (k * P + P) (k * P + 2) x → Stands (s .heap) (k * P + P) x l
+        → ((y : ℕ) → k * P ≤ y → y < x → at h y ≡ at (s .heap) y) → Stepped left k h x l
     unfolding undoTurn undoOf
-    undo-step h H x l t st below = go (H .either k x own-k p)
+    undo-step {h} {x} {l} H t st below = go (H .either k x own-k p)
       where
         p : In k x
         p = let a = steps-le t in let b = st .ends in (omega arith, omega arith)
@@ -175,12 +162,12 @@ module _ (s : Store) (S : Sound s) (d : Desk) (A : Stuck s S d) where
         len : at (s .heap) x / 8 ≡ l
         len = header-odd (at (s .heap) x) l (st .head) .1
 
-        not-past : leb hi x ≡ false
-        not-past = let b = st .ends in lt-leb hi x (omega arith)
+        not-past : leb (k * P + P) x ≡ false
+        not-past = let b = st .ends in lt-leb (k * P + P) x (omega arith)
 
-        below-by : (h′ : List ℕ) → Half left h′ → ((y : ℕ) → y ≢ x → at h′ y ≡ at h y) → at h′ x ≡ at (s .heap) x
+        below-by : {h′ : List ℕ} → Half left h′ → ((y : ℕ) → y ≢ x → at h′ y ≡ at h y) → at h′ x ≡ at (s .heap) x
             → (y : ℕ) → k * P ≤ y → y < x + suc l → at h′ y ≡ at (s .heap) y
-        below-by h′ H′ same e y lo up = by (ℕ-discrete y x)
+        below-by {h′} H′ same e y lo up = by (ℕ-discrete y x)
           where
             by : Dec (y ≡ x) → at h′ y ≡ at (s .heap) y
             by (yes z) = rw z e
@@ -188,9 +175,9 @@ module _ (s : Store) (S : Sound s) (d : Desk) (A : Stuck s S d) where
               where
                 at-other : Dec (y < x) → at h′ y ≡ at (s .heap) y
                 at-other (yes q) = same y ne ∙ below y lo q
-                at-other (no q) = between h′ H′ x l t st y (omega arith) up
+                at-other (no q) = between H′ t st y (omega arith) up
 
-        go : Either h x → Stepped h x l
+        go : Either h x → Stepped left k h x l
         go (inl e) =
             let nz : eqb (at h x) 0 ≡ false = ne-eqb (at h x) 0 (λ z. no-zero st (sym e ∙ z)) in
             let o : eqb (at h x % 2) 1 ≡ true = eq-eqb (at h x % 2) 1 (ap (λ w. w % 2) e ∙ odd) in
@@ -199,75 +186,75 @@ module _ (s : Store) (S : Sound s) (d : Desk) (A : Stuck s S d) where
               heap = h;
               turn = rw (undoTurn, not-past, nz, undoOf, o, n);
               half = H;
-              below = below-by h H (λ y ne. refl) e;
+              below = below-by H (λ y ne. refl) e;
             }
         go (inr u) =
             let b = u .0 in
             let D = A .logged .copies (u .1) in
             let w = u .2 in
-            let lo = steps-le (D .into-steps) in
+            let lo = steps-le (D .now .steps) in
             let nz : eqb (at h x) 0 ≡ false = ne-eqb (at h x) 0 (λ (z : at h x ≡ 0). omega arith) in
             let o : eqb (at h x % 2) 1 ≡ false = ne-eqb (at h x % 2) 1 (λ (z : at h x % 2 ≡ 1). omega arith) in
             let to-b : at h x / 4 ≡ b = omega arith in
-            let c : at h (at h x / 4) ≡ at (s .heap) x = ap (at h) to-b ∙ copy-head left h H x b (u .1) in
+            let c : at h (at h x / 4) ≡ at (s .heap) x = ap (at h) to-b ∙ copy-head H (u .1) in
             let m : x + (at h (at h x / 4) / 8 + 1) ≡ x + suc l = (let a = len in let q : at h (at h x / 4) / 8 ≡ at (s .heap) x / 8 = ap (λ v. v / 8) c in omega arith) in
-            let H′ = put-back left h H k x (at h (at h x / 4)) own-k p c in
+            let H′ = put-back H k x (at h (at h x / 4)) own-k p c in
             let z = inside k x own-k p in
             let z′ = H .size in
             record {
               heap = set h x (at h (at h x / 4));
               turn = rw (undoTurn, not-past, nz, undoOf, o, m);
               half = H′;
-              below = below-by (set h x (at h (at h x / 4))) H′ (λ y ne. getD-set-other h x y (at h (at h x / 4)) 0 ne)
+              below = below-by H′ (λ y ne. getD-set-other h x y (at h (at h x / 4)) 0 ne)
                   (getD-set-same h x (at h (at h x / 4)) 0 (omega arith) ∙ c);
             }
 
-    undo-from : (f x : ℕ) (h : List ℕ) → Half left h → Steps (s .heap) hi (k * P + 2) x → Steps (s .heap) hi x (S .fin k) → S .fin k ≤ x + f
-        → ((y : ℕ) → k * P ≤ y → y < x → at h y ≡ at (s .heap) y) → PageBack (undoVals f hi (after x h))
+    undo-from : {h : List ℕ} (f x : ℕ) → Half left h → Steps (s .heap) (k * P + P) (k * P + 2) x → Steps (s .heap) (k * P + P) x (S .fin k) → S .fin k ≤ x + f
+        → ((y : ℕ) → k * P ≤ y → y < x → at h y ≡ at (s .heap) y) → PageBack left k (undoVals f (k * P + P) (after x h))
     unfolding undoTurn
-    undo-from f x h H t here b below = ends f
+    undo-from {h} f x H t here b below = ends f
       where
         page : (y : ℕ) → In k y → at h y ≡ at (s .heap) y
         page y p = go (decLt y x)
           where
             go : Dec (y < x) → at h y ≡ at (s .heap) y
             go (yes q) = below y (p .0) q
-            go (no q) = past-end h H y (omega arith) (p .1)
+            go (no q) = past-end H y (omega arith) (p .1)
 
-        stays : PageBack h
+        stays : PageBack left k h
         stays = record { half = H; page = page }
 
         -- the end of the page, or a 0
-        over-is : undoTurn hi (after x h) ≡ over h
-        over-is = go (decLt x hi)
+        over-is : undoTurn (k * P + P) (after x h) ≡ over h
+        over-is = go (decLt x (k * P + P))
           where
-            go : Dec (x < hi) → undoTurn hi (after x h) ≡ over h
+            go : Dec (x < k * P + P) → undoTurn (k * P + P) (after x h) ≡ over h
             go (yes q) =
                 let lo = steps-le t in
                 let z : at h x ≡ 0 = page x (omega arith, q) ∙ body .rest x (le-refl x) q in
-                rw (undoTurn, lt-leb hi x q, eq-eqb (at h x) 0 z)
-            go (no q) = rw (undoTurn, le-leb hi x (omega arith))
+                rw (undoTurn, lt-leb (k * P + P) x q, eq-eqb (at h x) 0 z)
+            go (no q) = rw (undoTurn, le-leb (k * P + P) x (omega arith))
 
-        ends : (f : ℕ) → PageBack (undoVals f hi (after x h))
-        ends zero = rw (loop-end 0 (undoTurn hi) (λ o. o .state) (after x h) (le-refl 0)) stays
-        ends (suc f) = rw (loop-over (suc f) (undoTurn hi) (λ o. o .state) (after x h) h (omega arith) over-is) stays
-    undo-from zero x h H t (passes {l = l} st rest) b below = let q = steps-le rest in absurd (omega arith)
-    undo-from (suc f) x h H t (passes {l = l} st rest) b below =
-        let T = undo-step h H x l t st below in
-        let on = undo-from f (x + suc l) (T .heap) (T .half) (steps-then t (passes st here)) rest (omega arith) (T .below) in
-        rw (loop-more (suc f) (undoTurn hi) (λ o. o .state) (after x h) (after (x + suc l) (T .heap)) (omega arith) (T .turn), sub-one (suc f)) on
+        ends : (f : ℕ) → PageBack left k (undoVals f (k * P + P) (after x h))
+        ends zero = rw (loop-end 0 (undoTurn (k * P + P)) (λ o. o .state) (after x h) (le-refl 0)) stays
+        ends (suc f) = rw (loop-over (suc f) (undoTurn (k * P + P)) (λ o. o .state) (after x h) h (omega arith) over-is) stays
+    undo-from zero x H t (passes {l = l} st rest) b below = let q = steps-le rest in absurd (omega arith)
+    undo-from {h} (suc f) x H t (passes {l = l} st rest) b below =
+        let T = undo-step H t st below in
+        let on = undo-from f (x + suc l) (T .half) (steps-then t (passes st here)) rest (omega arith) (T .below) in
+        rw (loop-more (suc f) (undoTurn (k * P + P)) (λ o. o .state) (after x h) (after (x + suc l) (T .heap)) (omega arith) (T .turn), sub-one (suc f)) on
 
     -- the page's descriptor is never a value
-    descriptor : (h : List ℕ) → Half left h → (y : ℕ) → k * P ≤ y → y < k * P + 2 → at h y ≡ at (s .heap) y
-    descriptor h H y lo up =
+    descriptor : {h : List ℕ} → Half left h → (y : ℕ) → k * P ≤ y → y < k * P + 2 → at h y ≡ at (s .heap) y
+    descriptor H y lo up =
         let c = S .laid .big in
-        same-if left h H k y own-k (lo, omega arith) (λ l t st. let q = steps-le t in omega arith)
+        same-if H k y own-k (lo, omega arith) (λ l v. let q = steps-le (v .steps) in omega arith)
 
-    pub undo-page : (h : List ℕ) → Half left h → PageBack (undoPage n k h)
+    undo-page : {h : List ℕ} → Half left h → PageBack left k (undoPage n k h)
     unfolding undoPage
-    undo-page h H =
+    undo-page H =
         let a = body .inside in
-        undo-from P (k * P + 2) h H here (body .filled) (omega arith) (descriptor h H)
+        undo-from P (k * P + 2) H here (body .filled) (omega arith) (descriptor H)
 
   -- ---- all pages
 
@@ -277,21 +264,18 @@ module _ (s : Store) (S : Sound s) (d : Desk) (A : Stuck s S d) where
   turn : (j k : ℕ) (ks : List ℕ) (h : List ℕ) → j < R → List·Memᴰ k (S .pages j) → Good (k ∷ ks) (suc j) h → (link n h k ≡ link n (s .heap) k) × Good ks (suc j) (undoPage n k h)
   unfolding link
   turn j k ks h jR m H = (
-    let c = S .laid .big in descriptor left k j o B h H (k * P) (le-refl _) (omega arith),
+    let c = S .laid .big in descriptor o B H (k * P) (le-refl _) (omega arith),
     record { size = U .half .size; others = U .half .others; either = U .half .either; back = λ l x w ne p. back l x w ne p (ℕ-discrete l k) },
   )
     where
-      left : ℕ → Type 0
-      left = Ahead R (S .pages) (k ∷ ks) (suc j)
-
       o : g .own k ≡ old
       o = A .from-space k .1 (j, jR, m)
 
       B : Body n (s .heap) k j (S .fin k)
       B = chain-body (S .laid) j k jR m
 
-      U : PageBack left k j o B (undoPage n k h)
-      U = undo-page left k j o B h H
+      U : PageBack (Ahead R (S .pages) (k ∷ ks) (suc j)) k (undoPage n k h)
+      U = undo-page o B H
 
       back : (l x : ℕ) → g .own l ≡ old → (Ahead R (S .pages) ks (suc j) l → ⊥) → In l x → Dec (l ≡ k) → at (undoPage n k h) x ≡ at (s .heap) x
       back l x w ne p (yes e) = U .page x (subst (λ y. In y x) e p)
@@ -303,16 +287,16 @@ module _ (s : Store) (S : Sound s) (d : Desk) (A : Stuck s S d) where
       record {
         size = M .heap-length ∙ A .size ∙ sym (S .laid .size);
         others = λ k x ne p. refl;
-        either = λ k x o p. rw (M .words x (old-plain s S g k x o (p .0) (p .1))) (either k x o p);
+        either = λ k x o p. rw (M .words x (old-plain S (g .own) k o (p .0) (p .1))) (either k x o p);
         back = λ k x o ne p. let t = A .from-space k .0 o in absurd (ne (inr (t .0, zero-le, t .1, t .2)));
       }
     where
       either : (k x : ℕ) → g .own k ≡ old → In k x → Either (r .heap) x
-      either k x o p = go (in-log x (g .log))
+      either k x o p = go (member? x (olds (g .log)))
         where
-          go : ((b : ℕ) × List·Memᴰ (to x b) (g .log)) ⊎ ((b : ℕ) → List·Memᴰ (to x b) (g .log) → ⊥) → Either (r .heap) x
-          go (inl t) = inr (t .0, t .1, A .logged .copies (t .1) .forward)
-          go (inr new) = inl (A .logged .unmoved k x o (p .0) (p .1) new)
+          go : Dec (List·Memᴰ x (olds (g .log))) → Either (r .heap) x
+          go (yes m) = let t = in-olds (g .log) m in inr (t .0, t .1, A .logged .copies (t .1) .forward)
+          go (no new) = inl (A .logged .unmoved k x o (p .0) (p .1) new)
 
   pub headers-back : Half (Ahead R (S .pages) [] R) (undoHeaders n N R (s .table) (d .heap))
   headers-back = regions-keep (S .laid) (s .table) (λ j jR. refl) (link n) (λ j. undoPage n) Good (λ j h jR H. half-more (ahead-enter R (S .pages) j) H) turn (d .heap) begin

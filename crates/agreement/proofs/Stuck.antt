@@ -3,13 +3,13 @@
 use Prim.Native.Nat.{ℕ, _*_, _^_, _<_}
 use native.Mathlib.Omega.{arith}
 use mathlib.Core.Path.{_≡_}
-use mathlib.Core.Logic.{_≢_, _↔_}
+use mathlib.Core.Logic.{_≢_, _↔_, _⊎_, inl, inr}
 use mathlib.Core.List.{[], List·Memᴰ}
 use lib.ListN.{length}
 use Rattle.rules.specs.Memory.{Store, pageCount}
 use Rattle.rules.specs.Pages.{Run, withTable}
 use Rattle.facts.proofs.Laid.{old, beyond}
-use Rattle.facts.proofs.Sound.{Sound}
+use Rattle.facts.proofs.Sound.{Chained, in-free, in-region, Sound}
 use Rattle.working.proofs.Owned.{Owned}
 use Rattle.working.proofs.Log.{Log}
 use Rattle.working.proofs.Invariant.{Ghost, Kept, Inv}
@@ -30,8 +30,8 @@ pub record Stuck (s : Store) (S : Sound s) (d : Desk) : Type 0 where
   pub owned : Owned (pageCount (s .ctl .n) (s .heap)) (s .ctl .regions) (ghost .own) (ghost .pages) (ghost .free)
 
 -- while values are moved
-pub stuck-moving : (s : Store) (S : Sound s) (g : Ghost) (r : Run) (d : Desk) → Inv s S g r → Matching s S g r d → g .free ≡ [] → Stuck s S d
-stuck-moving s S g r d I M e =
+pub stuck-moving : {s : Store} {S : Sound s} {g : Ghost} {r : Run} {d : Desk} → Inv s S g r → Matching s S g r d → g .free ≡ [] → Stuck s S d
+stuck-moving {g = g} {r} I M e =
     record {
       ghost = g;
       run = r;
@@ -47,8 +47,8 @@ stuck-moving s S g r d I M e =
 -- ---- while the regions get their fresh pages
 
 -- rows that are not written yet do not count
-pub stuck-fresh : (s : Store) (S : Sound s) (j : ℕ) (r : Run) (d : Desk) → j < s .ctl .regions → (F : Fresh s S j r) → Matching s S (unmoved F) (withTable r (d .notes)) d → F .free ≡ [] → Stuck s S d
-stuck-fresh s S j r d jR F M e =
+pub stuck-fresh : {s : Store} {S : Sound s} {j : ℕ} {r : Run} {d : Desk} → j < s .ctl .regions → (F : Fresh s S j r) → Matching s S (unmoved F) (withTable r (d .notes)) d → F .free ≡ [] → Stuck s S d
+stuck-fresh {s} {j = j} {r} {d} jR F M e =
     record {
       ghost = unmoved F;
       run = withTable r (d .notes);
@@ -58,10 +58,10 @@ stuck-fresh s S j r d jR F M e =
       known = F .laid .known;
       logged = unmoved-log F;
       from-space = F .from-space;
-      owned =
-          record {
-            whole = F .owned .whole;
-            spares = F .owned .spares;
-            mines = λ k i o. let t = F .owned .mines k i o in let b = t .0 in (omega arith, t .1);
-          };
+      owned = record { chain = λ k b. wider k (F .owned .chain k b) };
     }
+  where
+    wider : (k : ℕ) → (F .own k ≡ old) ⊎ Chained j (F .own) (F .pages) (F .free) k → (F .own k ≡ old) ⊎ Chained (s .ctl .regions) (F .own) (F .pages) (F .free) k
+    wider k (inl o) = inl o
+    wider k (inr (in-free o m)) = inr (in-free o m)
+    wider k (inr (in-region i b o m)) = inr (in-region i (omega arith) o m)

@@ -5,20 +5,21 @@ use native.Mathlib.Nat.{le-refl, div-add-mod', mod-lt}
 use native.Mathlib.Omega.{arith}
 use native.Mathlib.Decide.{ℕ-discrete}
 use mathlib.Core.Path.{_≡_, refl, sym, ap, _∙_, subst}
-use mathlib.Core.Logic.{_≢_}
-use mathlib.Core.List.{List, [], _∷_, _++_, List·Memᴰ, List·Memᴰ·head, List·Memᴰ·tail, List·Memᴰ·not-nil, Memᴰ·append-left}
+use mathlib.Core.Logic.{_≢_, _⊎_, inl, inr}
+use mathlib.Core.List.{List, [], _∷_, List·Memᴰ, List·Memᴰ·head, List·Memᴰ·tail, List·Memᴰ·not-nil, Memᴰ·append-left}
 use lib.ListN.{length, set, length-set}
 use lib.Seq.{ext-getD}
 use Rattle.laws.proofs.Lists.{set-elsewhere}
 use Rattle.laws.specs.Lists.{at}
-use Rattle.laws.proofs.Once.{Once, once-none, once-more, once-tail, once-head, in-tail, Linked}
+use Rattle.laws.proofs.Once.{Once, once-tail, once-head, in-tail, Linked, once-split}
+use Rattle.laws.proofs.Each.{along-keep}
 use Rattle.rules.specs.declared.Refusal.{Refusal}
 use Rattle.rules.specs.Memory.{Store, pageCount, link, origin}
 use Rattle.rules.specs.Refusals.{refused}
 use Rattle.rules.specs.Pages.{clearPage}
 use Rattle.rules.proofs.Limits.{page-known}
-use Rattle.facts.proofs.Laid.{old≢mine, spare≢beyond, Owner, old, spare, beyond, mine}
-use Rattle.facts.proofs.Sound.{Sound}
+use Rattle.facts.proofs.Laid.{old≢mine, spare≢beyond, old, spare}
+use Rattle.facts.proofs.Sound.{Chained, in-free, in-region, Sound}
 use Rattle.facts.proofs.Goods.{page-ends}
 use Rattle.working.proofs.Invariant.{Ghost}
 use Rattle.motion.specs.Leaves.{Desk, taken}
@@ -27,14 +28,9 @@ use Rattle.agreement.proofs.Matching.{Matching}
 use Rattle.agreement.proofs.Frames.{set-as}
 use Rattle.agreement.proofs.Stuck.{Stuck}
 use Rattle.facts.proofs.Cleared.{clear-length, clear-else, clear-in}
-use Rattle.agreement.proofs.Walked.{along-keep}
 use Rattle.agreement.proofs.Restored.{headers-back, old-back}
 
-once-front : (ks ms : List ℕ) → Once (ks ++ ms) → Once ks
-once-front [] ms o = once-none
-once-front (k ∷ ks) ms o = once-more (λ m. once-head o (Memᴰ·append-left ms m)) (once-front ks ms (once-tail o))
-
-module _ (s : Store) (S : Sound s) (d : Desk) (A : Stuck s S d) where
+module _ {s : Store} {S : Sound s} {d : Desk} (A : Stuck s S d) where
   abbrev g : Ghost
   g = A .ghost
 
@@ -66,18 +62,16 @@ module _ (s : Store) (S : Sound s) (d : Desk) (A : Stuck s S d) where
     pub back : (k x : ℕ) → k < N → (List·Memᴰ k ks → ⊥) → k * P ≤ x → x < k * P + P → at h x ≡ at (s .heap) x
     pub kept : (k : ℕ) → List·Memᴰ k ks → at h (k * P + 1) ≡ link n (s .heap) k
     pub once : Once ks
-    pub free : (k : ℕ) → List·Memᴰ k ks → S .own k ≡ spare
 
-  turn : (k : ℕ) (ks : List ℕ) (h : List ℕ) → Linking (k ∷ ks) h → (origin n h k ≡ link n (s .heap) k) × Linking ks (relink n k h)
+  turn : (k : ℕ) (ks : List ℕ) (h : List ℕ) → List·Memᴰ k (M .took) → Linking (k ∷ ks) h → (origin n h k ≡ link n (s .heap) k) × Linking ks (relink n k h)
   unfolding origin link relink
-  turn k ks h L = (
+  turn k ks h here L = (
     L .kept k (List·Memᴰ·head refl),
     record {
       size = length-set h₂ (k * P) w ∙ clear-length n h k k-in ∙ L .size;
       back = λ l x b ne p q. back l x b ne p q (ℕ-discrete l k);
       kept = λ l m. kept l m;
       once = once-tail (L .once);
-      free = λ l m. L .free l (List·Memᴰ·tail m);
     },
   )
     where
@@ -88,7 +82,7 @@ module _ (s : Store) (S : Sound s) (d : Desk) (A : Stuck s S d) where
       h₂ = clearPage n h k
 
       own-k : S .own k ≡ spare
-      own-k = L .free k (List·Memᴰ·head refl)
+      own-k = was-free k here
 
       there : k < N
       there = S .laid .known k (spare≢beyond own-k)
@@ -122,30 +116,27 @@ module _ (s : Store) (S : Sound s) (d : Desk) (A : Stuck s S d) where
   begin : Linking (M .took) h₁
   begin =
       record {
-        size = headers-back s S d A .size;
-        back = λ k x b ne p q. by k x b ne p q (g .own k) refl;
+        size = headers-back A .size;
+        back = λ k x b ne p q. by k x ne p q (A .owned .chain k b);
         kept = kept;
-        once = once-front (M .took) (g .free) (subst Once (M .front) (S .laid .free-once));
-        free = was-free;
+        once = once-split (M .took) (subst Once (M .front) (S .laid .free-once)) .0;
       }
     where
-      by : (k x : ℕ) → k < N → (List·Memᴰ k (M .took) → ⊥) → k * P ≤ x → x < k * P + P → (o : Owner) → g .own k ≡ o → at h₁ x ≡ at (s .heap) x
-      by k x b ne p q old e = old-back s S d A k x e (p, q)
-      by k x b ne p q spare e = absurd (List·Memᴰ·not-nil (subst (List·Memᴰ k) (A .none-free) (A .owned .spares k e)))
-      by k x b ne p q beyond e = absurd (A .owned .whole k b e)
-      by k x b ne p q (mine j) e = absurd (ne (M .owned k .1 (j, e)))
+      by : (k x : ℕ) → (List·Memᴰ k (M .took) → ⊥) → k * P ≤ x → x < k * P + P → (g .own k ≡ old) ⊎ Chained R (g .own) (g .pages) (g .free) k → at h₁ x ≡ at (s .heap) x
+      by k x ne p q (inl o) = old-back A k x o (p, q)
+      by k x ne p q (inr (in-free o m)) = absurd (List·Memᴰ·not-nil (subst (List·Memᴰ k) (A .none-free) m))
+      by k x ne p q (inr (in-region j b o m)) = absurd (ne (M .owned k .1 (j, o)))
 
       kept : (k : ℕ) → List·Memᴰ k (M .took) → at h₁ (k * P + 1) ≡ link n (s .heap) k
       kept k m =
           let c = S .laid .big in
           let o = M .owned k .0 m in
-          headers-back s S d A .others k (k * P + 1) (λ q. old≢mine q (o .1)) (omega arith, omega arith) ∙ M .kept-link k m
+          headers-back A .others k (k * P + 1) (λ q. old≢mine q (o .1)) (omega arith, omega arith) ∙ M .kept-link k m
 
   end : Linking [] (relinkAll n (length (M .took)) N (s .ctl .first) h₁)
   end =
-      along-keep N (origin n) (relink n) (link n (s .heap)) Linking turn (length (M .took)) (M .took) (g .free) (s .ctl .first) h₁
-      (subst (λ ks. Linked (link n (s .heap)) (s .ctl .first) ks) (M .front) (S .laid .free-links))
-      (λ k m. S .laid .known k (spare≢beyond (was-free k m))) (le-refl _) (λ q. absurd (omega arith)) begin
+      along-keep N (origin n) (relink n) (link n (s .heap)) Linking (M .took) (λ k m. S .laid .known k (spare≢beyond (was-free k m))) turn (length (M .took)) (M .took) (g .free)
+      (s .ctl .first) h₁ (λ k m. m) (subst (λ ks. Linked (link n (s .heap)) (s .ctl .first) ks) (M .front) (S .laid .free-links)) (le-refl _) (λ q. absurd (omega arith)) begin
 
   pub undo-back : undo n (at (d .notes) taken) N R (s .ctl .first) (s .table) (d .heap) ≡ s .heap
   undo-back =
@@ -158,6 +149,6 @@ module _ (s : Store) (S : Sound s) (d : Desk) (A : Stuck s S d) where
       let v = mod-lt x {m = P} (omega arith) in
       end .back (x / P) x (page-known n (length (s .heap)) x (S .within .paged) (omega arith)) (λ m. List·Memᴰ·not-nil m) (omega arith) (omega arith)))
 
-pub lacking-is : (s : Store) (S : Sound s) (d : Desk) → Stuck s S d → lacking s (pageCount (s .ctl .n) (s .heap)) d ≡ refused s Refusal.NoPage
+pub lacking-is : {s : Store} {S : Sound s} {d : Desk} → Stuck s S d → lacking s (pageCount (s .ctl .n) (s .heap)) d ≡ refused s Refusal.NoPage
 unfolding lacking
-lacking-is s S d A = rw (undo-back s S d A)
+lacking-is A = rw (undo-back A)

@@ -1,4 +1,4 @@
--- What an allocation has tested, as facts: the tests of `rowFits` one by one.
+-- What an allocation has tested, as facts: the tests of `rowFits` one by one. Each fact is one of the tests that it joins.
 use Prim.Native.Nat.{ℕ, _+_, _%_, _^_, _≤_, _<_}
 use mathlib.Core.Path.{_≡_}
 use mathlib.Core.Bool.{true}

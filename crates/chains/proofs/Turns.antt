@@ -1,6 +1,6 @@
 -- The turn laws of rule 3's walks: at each region, at each page and at the end of a chain, what is left to test is what was left before, and
 -- the pages that are left are one fewer. Each follows the definition's own turn.
-use Prim.Native.Nat.{ℕ, zero, suc, _+_, _-_, _*_, _/_, _%_, _^_, _≤_, _<_}
+use Prim.Native.Nat.{ℕ, zero, suc, _+_, _-_, _*_, _/_, _%_, _^_, _≤_, _<_, zero-le, suc-le-suc}
 use mathlib.Core.Path.{_≡_, refl, ap, _∙_}
 use mathlib.Core.Bool.{Bool, true, false, _&&_, and-true, and-assoc}
 use mathlib.Core.List.{List, [], _∷_}
@@ -11,11 +11,12 @@ use lib.Dec.{ltb, eqb}
 use lib.ListN.{length, getD, length-append}
 use Rattle.laws.specs.Lists.{allFrom, allBelow, lastOr}
 use Rattle.laws.proofs.Tests.{from-go, from-stop}
-use Rattle.rules.specs.Memory.{addressPage, link, origin, firstOf, firstLink, chain, chainEnd, regionPages, freePages, pagesFrom}
+use Rattle.rules.specs.Memory.{addressPage, origin, firstOf, firstLink, chain, chainEnd, regionPages, freePages, pagesFrom}
 use Rattle.rules.specs.Audit.{opens, endsWell, lastLink}
 use Rattle.rules.specs.Refusals.{Paged}
 use Rattle.rules.proofs.Limits.{pages-few}
-use Rattle.rules.proofs.Nests.{next-chain, next-end, Over, pages-go, pages-over}
+use Rattle.rules.proofs.Chains.{chain-by, Next, Over}
+use Rattle.rules.proofs.Nests.{pages-go, pages-over}
 use Rattle.chains.specs.declared.Chained.{Chained}
 use Rattle.chains.specs.declared.Listed.{Listed}
 use Rattle.chains.specs.Walked.{bear, regionChained, regionsChained, freeListed}
@@ -51,50 +52,44 @@ module _ (n N : ℕ) (h t : List ℕ) (e : N ≡ length h / 2 ^ n) (m j : ℕ) (
 
 -- ---- the pages of a chain that bear the origin o, from the link k on
 
-module _ (n N : ℕ) (h : List ℕ) (e : N ≡ length h / 2 ^ n) (f k o : ℕ) (r : Bool) where
-  -- what is left to test
-  abbrev pub Rest : ℕ → ℕ → Bool
-  Rest f k = bear n h o (chain f n h k) && (eqb (chainEnd f n h k) 0 && r)
+-- what is left to test
+abbrev pub Rest : ℕ → List ℕ → ℕ → Bool → ℕ → ℕ → Bool
+Rest n h o r f k = bear n h o (chain f n h k) && (eqb (chainEnd f n h k) 0 && r)
 
-  module _ (b : ℕ) (q : b ≡ (k - 1) * 2 ^ n) (l : 0 < f) (z : k ≡ 0 → ⊥) (c : k ≤ N) where
-    turn : Rest f k ≡ (eqb (getD h (b + 1) 0) o && Rest (f - 1) (getD h b 0))
+module _ {n : ℕ} {h : List ℕ} {f k : ℕ} (o : ℕ) (r : Bool) where
+  module _ {b : ℕ} (x : Next n h f k b) where
+    turn : Rest n h o r f k ≡ (eqb (getD h (b + 1) 0) o && Rest n h o r (f - 1) (getD h b 0))
     unfolding origin
-    turn = pages-go n N h e f k (λ k. eqb (origin n h k) o) (eqb (chainEnd f n h k) 0 && r) b q l z c ∙ rw (next-end n N h e f k b q l z c, q)
+    turn = pages-go (λ k. eqb (origin n h k) o) (eqb (chainEnd f n h k) 0 && r) x ∙ rw (x .end, x .start)
 
-    pub chained-page : getD h (b + 1) 0 ≡ o → Rest f k ≡ Rest (f - 1) (getD h b 0)
+    pub chained-page : getD h (b + 1) 0 ≡ o → Rest n h o r f k ≡ Rest n h o r (f - 1) (getD h b 0)
     chained-page w = turn ∙ rw (eq-eqb _ _ w)
 
-    pub chained-other : (getD h (b + 1) 0 ≡ o → ⊥) → Rest f k ≡ false
+    pub chained-other : (getD h (b + 1) 0 ≡ o → ⊥) → Rest n h o r f k ≡ false
     chained-other w = turn ∙ rw (ne-eqb _ _ w)
 
-    pub length-page : length (chain f n h k) ≡ 1 + length (chain (f - 1) n h (getD h b 0))
-    length-page = ap length (next-chain n N h e f k b q l z c) ∙ (omega arith)
+  module _ (v : Over n h f k) where
+    pub chained-ends : k ≡ 0 → Rest n h o r f k ≡ r
+    chained-ends z = pages-over (λ k. eqb (origin n h k) o) (eqb (chainEnd f n h k) 0 && r) v ∙ rw (v .end, eq-eqb _ _ z)
 
-  module _ (v : Over n N h e f k) where
-    pub chained-ends : k ≡ 0 → Rest f k ≡ r
-    chained-ends z = pages-over n N h e f k (λ k. eqb (origin n h k) o) (eqb (chainEnd f n h k) 0 && r) v ∙ rw (v .end, eq-eqb _ _ z)
+    pub chained-hangs : (k ≡ 0 → ⊥) → Rest n h o r f k ≡ false
+    chained-hangs z = pages-over (λ k. eqb (origin n h k) o) (eqb (chainEnd f n h k) 0 && r) v ∙ rw (v .end, ne-eqb _ _ z)
 
-    pub chained-hangs : (k ≡ 0 → ⊥) → Rest f k ≡ false
-    chained-hangs z = pages-over n N h e f k (λ k. eqb (origin n h k) o) (eqb (chainEnd f n h k) 0 && r) v ∙ rw (v .end, ne-eqb _ _ z)
+-- ---- how many pages a chain has
 
-    pub length-over : length (chain f n h k) ≡ 0
-    length-over = rw (v .none)
+module _ {n : ℕ} {h : List ℕ} {f k : ℕ} where
+  pub length-page : {b : ℕ} → Next n h f k b → length (chain f n h k) ≡ 1 + length (chain (f - 1) n h (getD h b 0))
+  length-page x = ap length (x .pages) ∙ (omega arith)
 
--- ---- how many pages there can be
+  pub length-over : Over n h f k → length (chain f n h k) ≡ 0
+  length-over v = rw (v .none)
 
-chain-short : (f n : ℕ) (h : List ℕ) (k : ℕ) → length (chain f n h k) ≤ f
-unfolding chain
-chain-short zero n h k = omega arith
-chain-short (suc f) n h zero = omega arith
-chain-short (suc f) n h (suc k) = go (ltb k (length h / 2 ^ n)) refl (chain-short f n h (link n h k))
-  where
-    go : (b : Bool) → ltb k (length h / 2 ^ n) ≡ b → length (chain f n h (link n h k)) ≤ f → length (chain (suc f) n h (suc k)) ≤ suc f
-    go true e r = rw (chain, e) (omega arith)
-    go false e r = rw (chain, e) (omega arith)
+chain-short : (n : ℕ) (h : List ℕ) (f k : ℕ) → length (chain f n h k) ≤ f
+chain-short n h = chain-by n h (λ f k ks e. length ks ≤ f) (λ f k. zero-le) (λ f k ks e b rest. suc-le-suc rest)
 
 pub free-short : (n : ℕ) (h : List ℕ) (first : ℕ) → Paged n (length h) → length (freePages n h first) ≤ 65536
 unfolding freePages
-free-short n h first g = let s = chain-short (length h / 2 ^ n) n h first in let b = pages-few n (length h) (length h / 2 ^ n) g refl in omega arith
+free-short n h first g = let s = chain-short n h (length h / 2 ^ n) first in let b = pages-few n (length h) (length h / 2 ^ n) g refl in omega arith
 
 pub pages-short : (n : ℕ) (h t : List ℕ) (m j : ℕ) → Paged n (length h) → length (pagesFrom n h t m j) ≤ 65536 * m
 unfolding pagesFrom regionPages freePages
@@ -147,14 +142,12 @@ unfolding lastBy lastLink
 last-by [] = refl
 last-by (k ∷ ks) = last-suc k ks
 
-module _ (n N : ℕ) (h : List ℕ) (e : N ≡ length h / 2 ^ n) (f k l : ℕ) where
-  pub last-page : (b : ℕ) → b ≡ (k - 1) * 2 ^ n → 0 < f → (k ≡ 0 → ⊥) → k ≤ N → lastBy l (chain f n h k) ≡ lastBy k (chain (f - 1) n h (getD h b 0))
+module _ {n : ℕ} {h : List ℕ} {f k : ℕ} (l : ℕ) where
+  pub last-page : {b : ℕ} → Next n h f k b → 0 < k → lastBy l (chain f n h k) ≡ lastBy k (chain (f - 1) n h (getD h b 0))
   unfolding lastBy
-  last-page b q c z d =
-      let s : suc (k - 1) ≡ k = omega arith in
-      ap (lastBy l) (next-chain n N h e f k b q c z d) ∙ ap (λ x. lastBy x (chain (f - 1) n h (getD h b 0))) s
+  last-page x c = let s : suc (k - 1) ≡ k = omega arith in rw (x .pages, lastBy, s)
 
-  pub last-over : Over n N h e f k → lastBy l (chain f n h k) ≡ l
+  pub last-over : Over n h f k → lastBy l (chain f n h k) ≡ l
   unfolding lastBy
   last-over o = rw (o .none)
 

@@ -8,9 +8,8 @@ use Rattle.rules.specs.Memory.{Store}
 use Rattle.rules.specs.Refusals.{refused}
 use Rattle.rules.specs.Calls.{audit}
 use Rattle.rules.specs.Collection.{collected, collect}
-use Rattle.rules.proofs.Judged.{judged-refuse}
+use Rattle.rules.proofs.Judged.{judged-refuse, judged-collects}
 use Rattle.facts.proofs.Passing.{judged-sound}
-use Rattle.facts.proofs.Judged.{judged-collects}
 use Rattle.motion.specs.Whole.{workingCollect}
 use Rattle.agreement.proofs.Agrees.{agrees}
 
@@ -20,4 +19,4 @@ judged-broken s why c e = judged-refuse (refused s) (collected s) s e
 
 -- what the collection at work leaves is what the call leaves
 pub judged-passing : (s : Store) (c : Control) → Plain.Done c ≡ audit s → workingCollect s ≡ collect s
-judged-passing s c e = agrees s (judged-sound s c e) ∙ sym (judged-collects s c e)
+judged-passing s c e = agrees s (judged-sound s c e) ∙ sym (judged-collects s e)

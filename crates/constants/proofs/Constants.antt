@@ -1,4 +1,5 @@
--- Rule 8 by its parts: the constants from their first word to their last, a field by its remainder, and the two tests.
+-- Rule 8 by its parts: the constants from their first word to their last, a field by its remainder, and the two tests. Each part is one of the
+-- tests that rule 8 joins.
 use Prim.Native.Nat.{ℕ, _/_, _%_}
 use mathlib.Core.Path.{_≡_}
 use mathlib.Core.Bool.{Bool, true, false, _&&_, and-true}

@@ -15,7 +15,7 @@ use Rattle.rules.specs.Words.{fits, valsIn, pageVals, usedOf}
 use Rattle.rules.specs.Audit.{ifLast, filled, pageFilled}
 use Rattle.rules.proofs.Headers.{fit-of}
 use Rattle.rules.proofs.Stepping.{vals-step}
-use Rattle.rules.proofs.Chains.{page-part}
+use Rattle.rules.proofs.Chains.{page-part, Next}
 use Rattle.rules.proofs.Nests.{pages-go, last-not, last-is}
 
 -- ---- values, then zeros
@@ -92,11 +92,10 @@ module _ {h : List ℕ} {a e x t : ℕ} {r w : Bool} (p : Passed h a e x t r w) 
   page-off z b q = sym (last-is x (eqb a t) r b ∙ rw (ne-eqb a t q)) ∙ zeros-on z
 
 -- a page of region j, whose a is d; p is its size, its values begin at s, and it ends at g
-pub five-page : (n N : ℕ) (h t : List ℕ) (e : N ≡ length h / 2 ^ n) (f k j d p : ℕ) → d ≡ topOf t j → p ≡ 2 ^ n → (r : Bool) (b : ℕ) → b ≡ (k - 1) * 2 ^ n → 0 < f → (k ≡ 0 → ⊥) → k ≤ N
-    → (s g : ℕ) → s ≡ b + 2 → g ≡ b + p
+pub five-page : {n : ℕ} {h : List ℕ} {f k b : ℕ} → Next n h f k b → (t : List ℕ) (j d p : ℕ) → d ≡ topOf t j → p ≡ 2 ^ n → (r : Bool) (s g : ℕ) → s ≡ b + 2 → g ≡ b + p
     → (all (pageFilled n h t j) (chain f n h k) && r) ≡ Rest h s g (getD h b 0) d (all (pageFilled n h t j) (chain (f - 1) n h (getD h b 0)) && r)
 unfolding pageFilled filled link pageVals valsIn
-five-page n N h t e f k j d p qd qp r b q l z c s g qs qg =
-    pages-go n N h e f k (pageFilled n h t j) r b q l z c
+five-page {n} {h} {k = k} x t j d p qd qp r s g qs qg =
+    pages-go (pageFilled n h t j) r x
     ∙ and-assoc (filled ((k - 1) * 2 ^ n + 2) (drop 2 (pageWords n h (k - 1)))) _ _
-    ∙ rw (qs, qg, q, qd, qp, page-part n h (k - 1))
+    ∙ rw (qs, qg, x .start, qd, qp, page-part n h (k - 1))

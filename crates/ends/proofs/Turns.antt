@@ -1,5 +1,5 @@
 -- The turn laws of rules 4 and 9: at each region and at each page, what is left to test is what was left before.
-use Prim.Native.Nat.{ℕ, _+_, _-_, _*_, _/_, _^_, _≤_, _<_}
+use Prim.Native.Nat.{ℕ, _+_, _-_, _/_, _^_, _≤_, _<_}
 use mathlib.Core.Path.{_≡_, _∙_}
 use mathlib.Core.Bool.{Bool, true, false, _&&_, and-true, and-comm}
 use mathlib.Core.List.{List}
@@ -13,7 +13,7 @@ use Rattle.laws.proofs.Facts.{below-and}
 use Rattle.rules.specs.declared.Control.{Control}
 use Rattle.rules.specs.Memory.{lent, link, endOf, topOf, firstLink, chain, regionPages, freePages}
 use Rattle.rules.specs.Audit.{ifLast, endsAt, topFits, clean, rule4, rule9}
-use Rattle.rules.proofs.Chains.{page-from}
+use Rattle.rules.proofs.Chains.{page-from, Next}
 use Rattle.rules.proofs.Nests.{pages-go, last-not, last-is}
 
 -- ---- a
@@ -51,23 +51,22 @@ module _ (n N : ℕ) (h t : List ℕ) (e : N ≡ length h / 2 ^ n) (m j : ℕ) (
 -- ---- the pages of a region
 
 -- a page of region j, whose e is d; p is its size
-module _ (n N : ℕ) (h t : List ℕ) (e : N ≡ length h / 2 ^ n) (f k j d p : ℕ) (qd : d ≡ endOf t j) (qp : p ≡ 2 ^ n) (r : Bool)
-    (b : ℕ) (q : b ≡ (k - 1) * 2 ^ n) (l : 0 < f) (z : k ≡ 0 → ⊥) (c : k ≤ N) where
+module _ {n : ℕ} {h : List ℕ} {f k b : ℕ} (x : Next n h f k b) (t : List ℕ) (j d p : ℕ) (qd : d ≡ endOf t j) (qp : p ≡ 2 ^ n) (r : Bool) where
   abbrev pub Rest : Bool
   Rest = all (endsAt n h t j) (chain (f - 1) n h (getD h b 0)) && r
 
   turn : (all (endsAt n h t j) (chain f n h k) && r) ≡ (ifLast (getD h b 0) (eqb d (b + p)) && Rest)
   unfolding endsAt link
-  turn = pages-go n N h e f k (endsAt n h t j) r b q l z c ∙ rw (q, qd, qp)
+  turn = pages-go (endsAt n h t j) r x ∙ rw (x .start, qd, qp)
 
   pub four-on : 0 < getD h b 0 → (all (endsAt n h t j) (chain f n h k) && r) ≡ Rest
-  four-on x = turn ∙ last-not (getD h b 0) (eqb d (b + p)) Rest x
+  four-on on = turn ∙ last-not (getD h b 0) (eqb d (b + p)) Rest on
 
   pub four-at : getD h b 0 ≤ 0 → d ≡ b + p → (all (endsAt n h t j) (chain f n h k) && r) ≡ Rest
-  four-at x y = turn ∙ last-is (getD h b 0) (eqb d (b + p)) Rest x ∙ rw (eq-eqb _ _ y)
+  four-at last y = turn ∙ last-is (getD h b 0) (eqb d (b + p)) Rest last ∙ rw (eq-eqb _ _ y)
 
   pub four-off : getD h b 0 ≤ 0 → (d ≡ b + p → ⊥) → (all (endsAt n h t j) (chain f n h k) && r) ≡ false
-  four-off x y = turn ∙ last-is (getD h b 0) (eqb d (b + p)) Rest x ∙ rw (ne-eqb _ _ y)
+  four-off last y = turn ∙ last-is (getD h b 0) (eqb d (b + p)) Rest last ∙ rw (ne-eqb _ _ y)
 
 -- ---- rule 9
 
@@ -76,11 +75,10 @@ unfolding rule9 freePages
 nine-open h t r k c N e = rw e (and-true _)
 
 -- a page whose words from s up to d, all but its link, are tested; p is its size
-module _ (n N : ℕ) (h : List ℕ) (e : N ≡ length h / 2 ^ n) (f k p : ℕ) (qp : p ≡ 2 ^ n) (r : Bool) (b : ℕ) (q : b ≡ (k - 1) * 2 ^ n) (l : 0 < f) (z : k ≡ 0 → ⊥) (c : k ≤ N)
-    (s d : ℕ) (qs : s ≡ b + 1) (qd : d ≡ b + p) where
+module _ {n : ℕ} {h : List ℕ} {f k b : ℕ} (x : Next n h f k b) (p : ℕ) (qp : p ≡ 2 ^ n) (r : Bool) (s d : ℕ) (qs : s ≡ b + 1) (qd : d ≡ b + p) where
   turn9 : (all (clean n h) (chain f n h k) && r) ≡ (zeros (slice s d h) && (all (clean n h) (chain (f - 1) n h (getD h b 0)) && r))
   unfolding clean
-  turn9 = pages-go n N h e f k (clean n h) r b q l z c ∙ rw (page-from 1 n h (k - 1), qs, qd, q, qp)
+  turn9 = pages-go (clean n h) r x ∙ rw (page-from 1 n h (k - 1), qs, qd, x .start, qp)
 
   pub nine-go : zeros (slice s d h) ≡ true → (all (clean n h) (chain f n h k) && r) ≡ (all (clean n h) (chain (f - 1) n h (getD h b 0)) && r)
   nine-go t = turn9 ∙ rw t

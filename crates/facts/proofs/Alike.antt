@@ -35,7 +35,7 @@ pub data AlikeWalks (R : ℕ → ℕ → Type 0) : Walked → Walked → Type 0 
   both-end : {v w : ℕ} → R v w → AlikeWalks R (ends v) (ends w)
   both-stop : {k : Refusal} → AlikeWalks R (stops k) (stops k)
 
-same-there : (x y : List ℕ) → length x ≡ length y → isThere x ≡ isThere y
+same-there : (x y : List ℕ) → length x ≡ length y → isThere y ≡ isThere x
 same-there [] [] e = refl
 same-there [] (y ∷ ys) e = absurd (omega arith)
 same-there (x ∷ xs) [] e = absurd (omega arith)
@@ -49,7 +49,7 @@ module _ {R : ℕ → ℕ → Type 0} where
   steps-alike x y a go go′ rest f = by (isThere x) refl (isRecord (headerIn x)) refl (leb (fieldsIn x) f) refl
     where
       there : isThere y ≡ isThere x
-      there = sym (same-there x y (a .size))
+      there = same-there x y (a .size)
 
       kind : isRecord (headerIn y) ≡ isRecord (headerIn x)
       kind = ap isRecord (sym (a .header))
@@ -70,7 +70,7 @@ module _ (X Y : View) (R : ℕ → ℕ → Type 0) (same : Same X Y R) where
   walks [] v w r = go (isNumber (wordOf v)) refl (isThere (X .value v)) refl
     where
       there : isThere (Y .value w) ≡ isThere (X .value v)
-      there = sym (same-there (X .value v) (Y .value w) (same .values v w r .size))
+      there = same-there (X .value v) (Y .value w) (same .values v w r .size)
 
       go : (b : Bool) → isNumber (wordOf v) ≡ b → (t : Bool) → isThere (X .value v) ≡ t → AlikeWalks R (walkFrom (X .value) v []) (walkFrom (Y .value) w [])
       go true e t q = rw (← same .numbers v w r, e) (both-end r)
@@ -85,21 +85,20 @@ module _ (X Y : View) (R : ℕ → ℕ → Type 0) (same : Same X Y R) where
 
 -- ---- what is read
 
-pub masked-same : {R : ℕ → ℕ → Type 0} → ((v w : ℕ) → R v w → isNumber (wordOf v) ≡ isNumber (wordOf w)) → ((v w : ℕ) → R v w → isNumber (wordOf v) ≡ true → v ≡ w)
-    → (vs ws : List ℕ) → length vs ≡ length ws → ((f : ℕ) → f < length vs → R (at vs f) (at ws f)) → masked vs ≡ masked ws
+masked-same : {X Y : View} {R : ℕ → ℕ → Type 0} → Same X Y R → (vs ws : List ℕ) → length vs ≡ length ws → ((f : ℕ) → f < length vs → R (at vs f) (at ws f)) → masked vs ≡ masked ws
 unfolding masked
-masked-same n e [] [] l r = refl
-masked-same n e [] (w ∷ ws) l r = absurd (omega arith)
-masked-same n e (v ∷ vs) [] l r = absurd (omega arith)
-masked-same {R} n e (v ∷ vs) (w ∷ ws) l r =
-    go (isNumber (wordOf v)) refl (masked-same n e vs ws (omega arith) (λ f b. r (suc f) (suc-le-suc b)))
+masked-same same [] [] l r = refl
+masked-same same [] (w ∷ ws) l r = absurd (omega arith)
+masked-same same (v ∷ vs) [] l r = absurd (omega arith)
+masked-same {R = R} same (v ∷ vs) (w ∷ ws) l r =
+    go (isNumber (wordOf v)) refl (masked-same same vs ws (omega arith) (λ f b. r (suc f) (suc-le-suc b)))
   where
     r₀ : R v w
     r₀ = r 0 (suc-le-suc zero-le)
 
     go : (b : Bool) → isNumber (wordOf v) ≡ b → masked vs ≡ masked ws → masked (v ∷ vs) ≡ masked (w ∷ ws)
-    go true q rest = let p : v ≡ w = e v w r₀ q in rw (p, rest)
-    go false q rest = let q′ : isNumber (wordOf w) ≡ false = sym (n v w r₀) ∙ q in rw (q, q′, rest)
+    go true q rest = let p : v ≡ w = same .value-of v w r₀ q in rw (p, rest)
+    go false q rest = let q′ : isNumber (wordOf w) ≡ false = sym (same .numbers v w r₀) ∙ q in rw (q, q′, rest)
 
 -- the words behind a header
 behind : (R : ℕ → ℕ → Type 0) (x y : List ℕ) → length x ≡ length y → ((f : ℕ) → f < fieldsIn x → R (at x (suc f)) (at y (suc f)))
@@ -117,7 +116,7 @@ module _ (X Y : View) (R : ℕ → ℕ → Type 0) (same : Same X Y R) where
       go : (k : Bool) → isRecord (headerIn x) ≡ k → readValue home x ≡ readValue home y
       go true k =
           let u = behind R x y (a .size) (a .fields k) in
-          rw (← a .header, k) (ap (ofRecord home) (masked-same (same .numbers) (same .value-of) (drop 1 x) (drop 1 y) (u .0) (u .1)))
+          rw (← a .header, k) (ap (ofRecord home) (masked-same same (drop 1 x) (drop 1 y) (u .0) (u .1)))
       go false k = rw (a .text k)
 
   pub ends-read : (v w : ℕ) → R v w → readBy X (ends v) ≡ readBy Y (ends w)

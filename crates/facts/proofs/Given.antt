@@ -1,6 +1,6 @@
 -- Pages given back: each is cleared and follows the last free page, so the heap stays laid out, and no other page changes but for the link
 -- of the page that was last.
-use Prim.Native.Nat.{ℕ, zero, suc, _+_, _-_, _*_, _^_, _≤_, _<_}
+use Prim.Native.Nat.{ℕ, zero, suc, _+_, _*_, _^_, _≤_, _<_}
 use native.Mathlib.Nat.{le-refl}
 use native.Mathlib.Omega.{arith}
 use native.Mathlib.Decide.{ℕ-discrete}
@@ -10,11 +10,11 @@ use mathlib.Core.List.{List, [], _∷_, _++_, append-nil, List·Memᴰ, List·Me
 use lib.ListN.{length, set, length-set, length-append}
 use lib.Seq.{append-snoc, getD-set-same}
 use Rattle.laws.specs.Lists.{at, lastOr}
-use Rattle.laws.proofs.Once.{Once, once-more, in-tail, Last, only, later, last-in, Linked, linked-single, linked-same, linked-snoc, last-snoc, in-snoc, once-snoc, member?}
+use Rattle.laws.proofs.Once.{Once, once-none, once-more, in-tail, Last, only, later, last-in, Linked, linked-single, linked-snoc, last-snoc, in-snoc, once-snoc, member?}
 use Rattle.rules.specs.Memory.{link}
 use Rattle.rules.specs.Audit.{lastLink}
 use Rattle.rules.specs.Pages.{Run, withFree, clearPage, giveBack, giveBackAll}
-use Rattle.facts.proofs.Laid.{upd, upd-same, upd-other, old≢spare, old≢mine, old≢beyond, spare≢mine, spare≢beyond, old-mine-apart, Owner, old, spare, mine, Body, Clean, Like, like-itself, like-then, body-like, clean-like, like-relinked, link-relinked, Layout, page-in, like-kept, chain-apart, upd-back, upd-known}
+use Rattle.facts.proofs.Laid.{upd, upd-same, upd-other, old≢spare, old≢mine, old≢beyond, spare≢mine, spare≢beyond, old-mine-apart, Owner, old, spare, mine, Body, Clean, Like, like-itself, like-then, body-like, clean-like, like-relinked, link-relinked, first-same, Layout, page-in, like-kept, chain-apart, upd-back, upd-known}
 use Rattle.facts.proofs.Sound.{Chained, in-free, in-region}
 use Rattle.facts.proofs.Cleared.{clear-length, clear-else, clear-link, clear-in}
 
@@ -61,8 +61,7 @@ module _ (n : ℕ) (r : Run) (k : ℕ) where
       go zero e = rw (giveBack, e) (f e)
       go (suc z) e = rw (giveBack, e) (g z e)
 
-module _ (n N R : ℕ) (own : ℕ → Owner) (fin : ℕ → ℕ) (pages : ℕ → List ℕ) (free : List ℕ) (r : Run) (L : Layout n N R own fin pages free r)
-    (k : ℕ) (own-k : own k ≡ old) where
+module _ {n N R : ℕ} {own : ℕ → Owner} {fin : ℕ → ℕ} {pages : ℕ → List ℕ} {free : List ℕ} {r : Run} (L : Layout n N R own fin pages free r) (k : ℕ) (own-k : own k ≡ old) where
   abbrev P : ℕ
   P = 2 ^ n
 
@@ -147,7 +146,7 @@ module _ (n N R : ℕ) (own : ℕ → Owner) (fin : ℕ → ℕ) (pages : ℕ �
           free-clean = cleans;
           mine-own = λ i l b m. upd-other own k spare l (chain-apart L (λ j. old≢mine own-k) i l b m) ∙ L .mine-own i l b m;
           mine-once = L .mine-once;
-          mine-links = λ i b. let t = L .mine-links i b in (t .0, t .1, linked-same (λ l m. mine-links′ i l b m) (t .2));
+          mine-links = λ i b. first-same refl (λ l m. mine-links′ i l b m) (L .mine-links i b);
           mine-body = λ i l o. bodies i l (mine-back i l o);
           mine-top = L .mine-top;
         }
@@ -170,19 +169,20 @@ module _ (n N R : ℕ) (own : ℕ → Owner) (fin : ℕ → ℕ) (pages : ℕ �
       (linked-snoc (L .free-links) last (L .free-once) (link₂ z (suc k) own-z) (sym (links₂ k (λ q. free-not-k z (last-in last) (sym q))) ∙ link-k)
       (λ y m ne. links₁ y (free-not-k y m) ∙ links₂ y ne))
 
-  pub record Given : Type 0 where
-    pub laid : Layout n N R (upd own k spare) fin pages (free ++ k ∷ []) (giveBack n k r)
-    pub like : (l : ℕ) → l ≢ k → Like n (r .heap) (giveBack n k r .heap) l
-    pub table : giveBack n k r .table ≡ r .table
+  pub record Given (x : Run) : Type 0 where
+    pub laid : Layout n N R (upd own k spare) fin pages (free ++ k ∷ []) x
+    pub like : (l : ℕ) → l ≢ k → Like n (r .heap) (x .heap) l
+    pub table : x .table ≡ r .table
 
-  pub given : Given
+  pub given : Given (giveBack n k r)
   given =
-      let g =
-      given-by n r k
-      (λ x. Layout n N R (upd own k spare) fin pages (free ++ k ∷ []) x × ((l : ℕ) → l ≢ k → Like n (r .heap) (x .heap) l) × (x .table ≡ r .table))
-      (λ e. (given-first (none-linked free (sym (L .free-last) ∙ e)), like₁, refl))
-      (λ z e. (given-later z (last-linked free z (sym (L .free-last) ∙ e)), λ l ne. like-then (like₁ l ne) (like-relinked n h₁ z (suc k) l), refl)) in
-      record { laid = g .0; like = g .1; table = g .2 }
+      given-by n r k Given (λ e. record { laid = given-first (none-linked free (sym (L .free-last) ∙ e)); like = like₁; table = refl })
+      (λ z e.
+      record {
+        laid = given-later z (last-linked free z (sym (L .free-last) ∙ e));
+        like = λ l ne. like-then (like₁ l ne) (like-relinked n h₁ z (suc k) l);
+        table = refl;
+      })
 
 -- ---- all pages of a list
 
@@ -216,16 +216,14 @@ pub record GivenAll (n N R : ℕ) (own : ℕ → Owner) (fin : ℕ → ℕ) (pag
   pub like : (l : ℕ) → (List·Memᴰ l ks → ⊥) → Like n (r .heap) (r′ .heap) l
   pub table : r′ .table ≡ r .table
 
-pub given-all : (n N R : ℕ) (fin : ℕ → ℕ) (pages : ℕ → List ℕ) (ks : List ℕ) → Once ks → (own : ℕ → Owner) (free : List ℕ) (r : Run) → Layout n N R own fin pages free r
+pub given-all : {n N R : ℕ} {own : ℕ → Owner} {fin : ℕ → ℕ} {pages : ℕ → List ℕ} {free ks : List ℕ} {r : Run} → Once ks → Layout n N R own fin pages free r
     → ((k : ℕ) → List·Memᴰ k ks → own k ≡ old) → GivenAll n N R own fin pages free ks r (giveBackAll n ks r)
 unfolding giveBackAll spared
-given-all n N R fin pages [] o own free r L f =
+given-all {free = free} once-none L f =
     record { laid = rw (append-nil free) L; like = λ l ne. like-itself; table = refl }
-given-all n N R fin pages (k ∷ ks) (once-more new o) own free r L f =
-    let g = given n N R own fin pages free r L k (f k (List·Memᴰ·head refl)) in
-    let rest =
-    given-all n N R fin pages ks o (upd own k spare) (free ++ k ∷ []) (giveBack n k r) (g .laid)
-    (λ l m. upd-other own k spare l (λ e. new (rw e at m)) ∙ f l (List·Memᴰ·tail m)) in
+given-all {own = own} {free = free} (once-more {k} {ks} new o) L f =
+    let g = given L k (f k (List·Memᴰ·head refl)) in
+    let rest = given-all o (g .laid) (λ l m. upd-other own k spare l (λ e. new (rw e at m)) ∙ f l (List·Memᴰ·tail m)) in
     record {
       laid = rw (append-snoc free k ks) at (rest .laid);
       like = λ l ne. like-then (g .like l (λ e. ne (List·Memᴰ·head e))) (rest .like l (λ m. ne (List·Memᴰ·tail m)));

@@ -16,10 +16,11 @@ use Rattle.rules.specs.Words.{Word, number, inHeap, inConst, wordOf, pageVals, 
 use Rattle.rules.specs.Audit.{constField}
 use Rattle.rules.specs.Refusals.{Paged}
 use Rattle.rules.proofs.Limits.{paged-size, page-inside}
-use Rattle.rules.proofs.Chains.{page-part, page-of}
+use Rattle.rules.proofs.Chains.{page-part}
 use Rattle.rules.proofs.Good.{past-pages}
 use Rattle.rules.proofs.Looks.{good-parts}
-use Rattle.rules.proofs.Steps.{steps-le, Holds, slice-holds, Listed, vals-listed, stands-from, stands-to, all-listed}
+use Rattle.rules.proofs.Steps.{Holds, slice-holds, Listed, vals-listed, stands-from, stands-to, all-listed}
+use Rattle.facts.proofs.Inside.{page-at}
 use Rattle.facts.proofs.Sound.{InHeap, InConst, Good, a-number, to-heap, to-const, GoodConst, number-there, const-there}
 
 -- ---- the words of a page
@@ -70,24 +71,19 @@ module _ (n R : ℕ) (heap : List ℕ) (p : Paged n (length heap)) where
         there = there;
         known = omega arith;
         whose = omega arith;
-        steps = f .1;
-        stands = f .2;
+        value = record { steps = f .1; stands = f .2 };
       }
-
-  -- the page of the address
-  pub page-at : (a : ℕ) (g : InHeap n R heap a) → a / 2 ^ n ≡ g .page
-  page-at a g = let lo = steps-le (g .steps) in let hi = g .stands .ends in page-of n (g .page) a (omega arith) (omega arith)
 
   on-page : (a : ℕ) (g : InHeap n R heap a) → goodOn n R heap (g .page) a ≡ true
   unfolding goodOn origin
   on-page a g =
       let e₁ : leb 1 (suc (g .region)) ≡ true = le-leb 1 (suc (g .region)) (omega arith) in
       let e₂ : leb (suc (g .region)) R ≡ true = le-leb (suc (g .region)) R (g .known) in
-      rw (g .whose, goodOn, e₁, e₂) (stands-to heap (g .page * 2 ^ n + 2 ^ n) (g .steps) (body-listed n heap p (g .page) (g .there)) (g .stands))
+      rw (g .whose, goodOn, e₁, e₂) (stands-to heap (g .page * 2 ^ n + 2 ^ n) (g .value .steps) (body-listed n heap p (g .page) (g .there)) (g .value .stands))
 
   pub heap-in : (a : ℕ) → InHeap n R heap a → goodHeap n R heap a ≡ true
   unfolding goodHeap
-  heap-in a g = rw (page-at a g) (on-page a g)
+  heap-in a g = rw (page-at (g .value)) (on-page a g)
 
 -- ---- the constants
 
@@ -103,7 +99,7 @@ const-in consts a g = stands-to consts (length consts) (g .steps) (all-listed co
 
 -- ---- words
 
-module _ (n R : ℕ) (heap consts : List ℕ) (p : Paged n (length heap)) (w : ℕ) where
+module _ {n R : ℕ} {heap consts : List ℕ} (p : Paged n (length heap)) {w : ℕ} where
   pub good-of : goodIn n R heap consts w ≡ true → Good n R heap consts w
   unfolding goodIn
   good-of t = go (wordOf w) refl
@@ -119,7 +115,7 @@ module _ (n R : ℕ) (heap consts : List ℕ) (p : Paged n (length heap)) (w : �
   of-good (to-heap a e g) = rw (goodIn, e) (heap-in n R heap p a g)
   of-good (to-const a e g) = rw (goodIn, e) (const-in consts a g)
 
-module _ (consts : List ℕ) (w : ℕ) where
+module _ {consts : List ℕ} {w : ℕ} where
   pub const-of : constField consts w ≡ true → GoodConst consts w
   unfolding constField
   const-of t = go (wordOf w) refl

@@ -1,10 +1,11 @@
--- How a heap under collection is laid out: whose each page is, and what stands in it. Every fact is about single words.
+-- How a heap under collection is laid out: whose each page is, and what stands in it. Every fact is about single words. A chain's pages are pages
+-- of the heap and each stands once, so they are at most N.
 use Prim.Native.Nat.{ℕ, suc, _+_, _-_, _*_, _^_, _≤_, _<_}
 use native.Mathlib.Nat.{le-refl, mul-le-mul-right}
 use native.Mathlib.Omega.{arith}
 use native.Mathlib.Decide.{ℕ-discrete}
 use mathlib.Core.Path.{_≡_, refl, sym, ap, _∙_, subst}
-use mathlib.Core.Logic.{_≢_, _⊎_, inl, inr, ⊎-elim}
+use mathlib.Core.Logic.{_≢_}
 use mathlib.Core.Bool.{Bool, true, false, false≢true}
 use mathlib.Core.Option.{some}
 use mathlib.Core.List.{List, [], _∷_, List·Memᴰ, List·Memᴰ·head}
@@ -18,9 +19,9 @@ use Rattle.laws.specs.Lists.{at}
 use Rattle.rules.specs.Audit.{lastLink}
 use Rattle.rules.specs.Pages.{Scan, Run, withHeap, withTable, withStack}
 use Rattle.laws.proofs.Lists.{part-length, one-part, starts-differ, begins-none}
-pub use Rattle.laws.proofs.Once.{Once, once-none, once-more, Last, only, later, last-in, Linked, stop, goes, linked-same}
+use Rattle.laws.proofs.Once.{Once, Last, last-in, Linked, linked-same}
 use Rattle.laws.proofs.Once.{once-most, linked-none, linked-first}
-use Rattle.rules.proofs.Steps.{Stands, Steps, steps-le, steps-same}
+use Rattle.rules.proofs.Steps.{PageSteps, OnPage, steps-le, steps-same}
 
 -- ---- a function changed at one place
 module _ {A : Type 0} where
@@ -43,16 +44,9 @@ module _ {A : Type 0} where
       go true q = absurd (ne (eqb-true x k q))
       go false q = rw (q, upd)
 
-  -- what it is there came from the change, or was so before
-  pub upd-cases : (f : ℕ → A) (k : ℕ) (a : A) (x : ℕ) (b : A) → upd f k a x ≡ b → ((x ≡ k) × (b ≡ a)) ⊎ ((x ≢ k) × (f x ≡ b))
-  upd-cases f k a x b e = go (ℕ-discrete x k)
-    where
-      go : Dec (x ≡ k) → ((x ≡ k) × (b ≡ a)) ⊎ ((x ≢ k) × (f x ≡ b))
-      go (yes q) = inl (q, sym e ∙ upd-same f k a x q)
-      go (no ne) = inr (ne, sym (upd-other f k a x ne) ∙ e)
-
+  -- what is not the change was so before
   pub upd-back : (f : ℕ → A) (k : ℕ) (a : A) (x : ℕ) (b : A) → b ≢ a → upd f k a x ≡ b → f x ≡ b
-  upd-back f k a x b ne e = ⊎-elim (λ t. absurd (ne (t .1))) (λ t. t .1) (upd-cases f k a x b e)
+  upd-back f k a x b ne e = sym (upd-other f k a x (λ q. ne (sym e ∙ upd-same f k a x q))) ∙ e
 
 -- ---- pages
 pub data Owner : Type 0 where
@@ -88,7 +82,7 @@ old-mine-apart own o m e = old≢mine o (ap own e ∙ m)
 -- page k of region j: its values end at f, and then zeros
 pub record Body (n : ℕ) (h : List ℕ) (k j f : ℕ) : Type 0 where
   pub whose : at h (k * 2 ^ n + 1) ≡ suc j
-  pub filled : Steps h (k * 2 ^ n + 2 ^ n) (k * 2 ^ n + 2) f
+  pub filled : PageSteps n h k f
   pub inside : f ≤ k * 2 ^ n + 2 ^ n
   pub rest : (x : ℕ) → f ≤ x → x < k * 2 ^ n + 2 ^ n → at h x ≡ 0
 
@@ -138,6 +132,29 @@ pub link-relinked : (n : ℕ) (h : List ℕ) (z v l : ℕ) → 0 < 2 ^ n → l �
 unfolding link
 link-relinked n h z v l p ne = sym (getD-set-other h (z * 2 ^ n) (l * 2 ^ n) v 0 (starts-differ (2 ^ n) l z p ne))
 
+-- ---- a region's row
+
+-- its fp is the address of the page that opens the chain ks
+pub record RowFirst (n : ℕ) (t h : List ℕ) (j : ℕ) (ks : List ℕ) : Type 0 where
+  pub page : ℕ
+  pub first : firstOf t j ≡ page * 2 ^ n
+  pub links : Linked (link n h) (suc page) ks
+
+-- its e is the end of the chain's last page, and its a the end of that page's values
+pub record RowLast (n : ℕ) (t : List ℕ) (fin : ℕ → ℕ) (j : ℕ) (ks : List ℕ) : Type 0 where
+  pub page : ℕ
+  pub last : Last ks page
+  pub end : endOf t j ≡ page * 2 ^ n + 2 ^ n
+  pub top : topOf t j ≡ fin page
+
+-- the same words, links and ends
+pub first-same : {n : ℕ} {t t′ h h′ : List ℕ} {j : ℕ} {ks : List ℕ} → firstOf t′ j ≡ firstOf t j → ((k : ℕ) → List·Memᴰ k ks → link n h k ≡ link n h′ k) → RowFirst n t h j ks → RowFirst n t′ h′ j ks
+first-same e same F = record { page = F .page; first = e ∙ F .first; links = linked-same same (F .links) }
+
+pub last-same : {n : ℕ} {t t′ : List ℕ} {fin fin′ : ℕ → ℕ} {j : ℕ} {ks : List ℕ} → endOf t′ j ≡ endOf t j → topOf t′ j ≡ topOf t j → ((k : ℕ) → List·Memᴰ k ks → fin k ≡ fin′ k)
+    → RowLast n t fin j ks → RowLast n t′ fin′ j ks
+last-same e a same F = record { page = F .page; last = F .last; end = e ∙ F .end; top = a ∙ F .top ∙ same (F .page) (last-in (F .last)) }
+
 -- ---- the whole
 pub record Layout (n N R : ℕ) (own : ℕ → Owner) (fin : ℕ → ℕ) (pages : ℕ → List ℕ) (free : List ℕ) (r : Run) : Type 0 where
   pub size : length (r .heap) ≡ N * 2 ^ n
@@ -154,10 +171,9 @@ pub record Layout (n N R : ℕ) (own : ℕ → Owner) (fin : ℕ → ℕ) (pages
   -- the regions' new pages
   pub mine-own : (j k : ℕ) → j < R → List·Memᴰ k (pages j) → own k ≡ mine j
   pub mine-once : (j : ℕ) → j < R → Once (pages j)
-  pub mine-links : (j : ℕ) → j < R → (k : ℕ) × (firstOf (r .table) j ≡ k * 2 ^ n) × Linked (link (n) (r .heap)) (suc k) (pages j)
+  pub mine-links : (j : ℕ) → j < R → RowFirst n (r .table) (r .heap) j (pages j)
   pub mine-body : (j k : ℕ) → own k ≡ mine j → Body (n) (r .heap) k j (fin k)
-  pub mine-top : (j : ℕ) → j < R
-      → (k : ℕ) × Last (pages j) k × (endOf (r .table) j ≡ k * 2 ^ n + 2 ^ n) × (topOf (r .table) j ≡ fin k)
+  pub mine-top : (j : ℕ) → j < R → RowLast n (r .table) fin j (pages j)
 
 -- the first page of the free list is nobody's
 pub first-spare : {n N R : ℕ} {own : ℕ → Owner} {fin : ℕ → ℕ} {pages : ℕ → List ℕ} {k : ℕ} {ks : List ℕ} {r : Run} → Layout n N R own fin pages (k ∷ ks) r → own k ≡ spare
@@ -176,8 +192,8 @@ module _ {n N R : ℕ} {own : ℕ → Owner} {fin : ℕ → ℕ} {pages : ℕ �
   page-in k ne = let s = L .size in let p = mul-le-mul-right (2 ^ n) (L .known k ne) in omega arith
 
   -- and a value there has all its words
-  pub words-in : {h : List ℕ} (k a l : ℕ) → own k ≢ beyond → Stands h (k * 2 ^ n + 2 ^ n) a l → length (take (suc l) (drop a (r .heap))) ≡ suc l
-  words-in k a l ne st = let p = page-in k ne in let e = st .ends in part-length (r .heap) a (suc l) (omega arith)
+  pub words-in : {h : List ℕ} {k a l : ℕ} → own k ≢ beyond → OnPage n h k a l → length (take (suc l) (drop a (r .heap))) ≡ suc l
+  words-in {k = k} {a} {l} ne v = let p = page-in k ne in let e = v .stands .ends in part-length (r .heap) a (suc l) (omega arith)
 
   -- the pages of a chain are the heap's, and no more than those
   pub chain-known : (j : ℕ) → j < R → (k : ℕ) → List·Memᴰ k (pages j) → k < N
@@ -214,42 +230,38 @@ module _ {n N R : ℕ} {own : ℕ → Owner} {fin : ℕ → ℕ} {pages : ℕ �
 
   -- the last page of region j's chain: a lies behind its descriptor and not behind e, and what ends by e ends in the heap
   module _ (j : ℕ) (jR : j < R) where
-    pub last-own : own (L .mine-top j jR .0) ≡ mine j
-    last-own = L .mine-own j (L .mine-top j jR .0) jR (last-in (L .mine-top j jR .1))
+    pub last-own : own (L .mine-top j jR .page) ≡ mine j
+    last-own = L .mine-own j (L .mine-top j jR .page) jR (last-in (L .mine-top j jR .last))
 
-    pub last-start : endOf (r .table) j - 2 ^ n ≡ L .mine-top j jR .0 * 2 ^ n
-    last-start = let e = L .mine-top j jR .2 in omega arith
+    pub last-start : endOf (r .table) j - 2 ^ n ≡ L .mine-top j jR .page * 2 ^ n
+    last-start = let e = L .mine-top j jR .end in omega arith
 
-    pub last-in-heap : L .mine-top j jR .0 * 2 ^ n + 2 ^ n ≤ length (r .heap)
-    last-in-heap = page-in (L .mine-top j jR .0) (mine≢beyond last-own)
+    pub last-in-heap : L .mine-top j jR .page * 2 ^ n + 2 ^ n ≤ length (r .heap)
+    last-in-heap = page-in (L .mine-top j jR .page) (mine≢beyond last-own)
 
-    pub last-low : L .mine-top j jR .0 * 2 ^ n + 2 ≤ topOf (r .table) j
-    last-low = let b = steps-le (L .mine-body j (L .mine-top j jR .0) last-own .filled) in let a = L .mine-top j jR .3 in omega arith
+    pub last-low : L .mine-top j jR .page * 2 ^ n + 2 ≤ topOf (r .table) j
+    last-low = let b = steps-le (L .mine-body j (L .mine-top j jR .page) last-own .filled) in let a = L .mine-top j jR .top in omega arith
 
-    pub last-high : topOf (r .table) j ≤ L .mine-top j jR .0 * 2 ^ n + 2 ^ n
-    last-high = let b = L .mine-body j (L .mine-top j jR .0) last-own .inside in let a = L .mine-top j jR .3 in omega arith
-
-    -- no other page ends at e
-    pub one-last : (k : ℕ) → endOf (r .table) j ≡ k * 2 ^ n + 2 ^ n → k ≢ L .mine-top j jR .0 → ⊥
-    one-last k e ne = let q = L .mine-top j jR .2 in let b = L .big in starts-differ (2 ^ n) k (L .mine-top j jR .0) (omega arith) ne (omega arith)
+    pub last-high : topOf (r .table) j ≤ L .mine-top j jR .page * 2 ^ n + 2 ^ n
+    last-high = let b = L .mine-body j (L .mine-top j jR .page) last-own .inside in let a = L .mine-top j jR .top in omega arith
 
     -- no other page has a value that begins or ends at a
-    pub not-top : (k t : ℕ) → k * 2 ^ n + 2 ≤ t → t ≤ k * 2 ^ n + 2 ^ n → k ≢ L .mine-top j jR .0 → t ≢ topOf (r .table) j
+    pub not-top : (k t : ℕ) → k * 2 ^ n + 2 ≤ t → t ≤ k * 2 ^ n + 2 ^ n → k ≢ L .mine-top j jR .page → t ≢ topOf (r .table) j
     not-top k t p q ne e =
         let lo = last-low in
         let hi = last-high in
-        one-part (2 ^ n) k (L .mine-top j jR .0) (t - 1) ne (omega arith) (omega arith) (omega arith) (omega arith)
+        one-part (2 ^ n) k (L .mine-top j jR .page) (t - 1) ne (omega arith) (omega arith) (omega arith) (omega arith)
 
     -- nor does a value that ends later in its page begin there
     pub below-top : (k t : ℕ) → k * 2 ^ n + 2 ≤ t → t ≤ k * 2 ^ n + 2 ^ n → t < fin k → t ≢ topOf (r .table) j
-    below-top k t p q b = go (ℕ-discrete k (L .mine-top j jR .0))
+    below-top k t p q b = go (ℕ-discrete k (L .mine-top j jR .page))
       where
-        go : Dec (k ≡ L .mine-top j jR .0) → t ≢ topOf (r .table) j
-        go (yes e) = let a = L .mine-top j jR .3 in let f : fin k ≡ fin (L .mine-top j jR .0) = ap fin e in omega arith
+        go : Dec (k ≡ L .mine-top j jR .page) → t ≢ topOf (r .table) j
+        go (yes e) = let a = L .mine-top j jR .top in let f : fin k ≡ fin (L .mine-top j jR .page) = ap fin e in omega arith
         go (no ne) = not-top k t p q ne
 
     pub top-in-heap : (m : ℕ) → topOf (r .table) j + m ≤ endOf (r .table) j → topOf (r .table) j + m ≤ length (r .heap)
-    top-in-heap m b = let a = last-in-heap in let e = L .mine-top j jR .2 in omega arith
+    top-in-heap m b = let a = last-in-heap in let e = L .mine-top j jR .end in omega arith
 
   -- another heap, with the same links, free pages and bodies
   pub heap-laid : (h : List ℕ) → length h ≡ length (r .heap) → ((k : ℕ) → own k ≢ old → link n (r .heap) k ≡ link n h k)
@@ -269,7 +281,7 @@ module _ {n N R : ℕ} {own : ℕ → Owner} {fin : ℕ → ℕ} {pages : ℕ �
         free-clean = λ k o. clean-like (like k o) (L .free-clean k o);
         mine-own = L .mine-own;
         mine-once = L .mine-once;
-        mine-links = λ i p. let t = L .mine-links i p in (t .0, t .1, linked-same (λ k m. links k (λ q. old≢mine q (L .mine-own i k p m))) (t .2));
+        mine-links = λ i p. first-same refl (λ k m. links k (λ q. old≢mine q (L .mine-own i k p m))) (L .mine-links i p);
         mine-body = bodies;
         mine-top = L .mine-top;
       }
@@ -291,15 +303,9 @@ module _ {n N R : ℕ} {own : ℕ → Owner} {fin : ℕ → ℕ} {pages : ℕ �
         free-clean = L .free-clean;
         mine-own = λ i k b. L .mine-own i k (omega arith);
         mine-once = λ i b. L .mine-once i (omega arith);
-        mine-links = λ i b. let t = L .mine-links i (omega arith) in (t .0, same i (4 * i + 1) b (omega arith) (omega arith) ∙ t .1, t .2);
+        mine-links = λ i b. first-same (same i (4 * i + 1) b (omega arith) (omega arith)) (λ k m. refl) (L .mine-links i (omega arith));
         mine-body = L .mine-body;
-        mine-top = λ i b.
-            let t = L .mine-top i (omega arith) in (
-              t .0,
-              t .1,
-              same i (4 * i) b (le-refl _) (omega arith) ∙ t .2,
-              same i (4 * i + 2) b (omega arith) (omega arith) ∙ t .3,
-            );
+        mine-top = λ i b. last-same (same i (4 * i) b (le-refl _) (omega arith)) (same i (4 * i + 2) b (omega arith) (omega arith)) (λ k m. refl) (L .mine-top i (omega arith));
       }
 
 -- a value's words: a header and as many words as it says

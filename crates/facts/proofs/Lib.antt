@@ -13,4 +13,3 @@ pub mod Given
 pub mod Inside
 pub mod Observing
 pub mod Framed
-pub mod Judged

@@ -16,7 +16,8 @@ use Rattle.rules.specs.Refusals.{Paged}
 use Rattle.rules.proofs.Pointers.{pointer, words-of, is-number}
 use Rattle.facts.proofs.Copied.{Plain}
 use Rattle.facts.proofs.Sound.{InHeap, InConst}
-use Rattle.facts.proofs.Goods.{page-ends, page-at, heap-in, const-in}
+use Rattle.facts.proofs.Goods.{page-ends, heap-in, const-in}
+use Rattle.facts.proofs.Inside.{page-at}
 
 -- a value's header is the first of its words
 pub words-head : (h : List ℕ) (a l : ℕ) → headerIn (take (suc l) (drop a h)) ≡ at h a
@@ -27,16 +28,16 @@ words-head h a l = word-in h a (suc l) 0 (omega arith) ∙ ap (at h) (omega arit
 module _ (s : Store) (p : Paged (s .ctl .n) (length (s .heap))) (a : ℕ) (g : InHeap (s .ctl .n) (s .ctl .regions) (s .heap) a) where
   pub heap-seen : lookIn s (4 * a) ≡ take (suc (g .len)) (drop a (s .heap))
   unfolding look valueAt
-  heap-seen = rw (pointer a, look, heap-in (s .ctl .n) (s .ctl .regions) (s .heap) p a g, words-of (headOf (at (s .heap) a)) (g .len) (g .stands .head))
+  heap-seen = rw (pointer a, look, heap-in (s .ctl .n) (s .ctl .regions) (s .heap) p a g, words-of (headOf (at (s .heap) a)) (g .len) (g .value .stands .head))
 
   pub heap-home : homeIn s (4 * a) ≡ suc (g .region)
   unfolding homeIn origin
-  heap-home = rw (pointer a, page-at (s .ctl .n) (s .ctl .regions) (s .heap) p a g) (g .whose)
+  heap-home = rw (pointer a, page-at (g .value)) (g .whose)
 
   pub words-at-home : wordsAt (seen s) (g .region) (4 * a) ≡ suc (g .len)
   unfolding wordsAt
   words-at-home =
-      let e = g .stands .ends in
+      let e = g .value .stands .ends in
       let i = page-ends (s .ctl .n) (s .heap) p (g .page) (g .there) in
       rw (heap-home, eq-eqb (suc (g .region)) (suc (g .region)) refl, heap-seen) (part-length (s .heap) a (suc (g .len)) (omega arith))
 

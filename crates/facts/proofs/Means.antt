@@ -13,21 +13,22 @@ use borrow.Author.Tests.{ltb-true, lt-ltb, eqb-true}
 use Rattle.laws.specs.Lists.{at, all, allBelow, zeros, times}
 use Rattle.laws.proofs.Tests.{both, all-in, below-in}
 use Rattle.laws.proofs.Facts.{all-at, zeros-behind}
-use Rattle.laws.proofs.Once.{has-last, Last, last-in, Linked, linked-once, linked-last, each-once}
-use Rattle.rules.specs.Memory.{Store, pageCount, addressPage, regionOrigin, pageWords, bodyWords, bodyAddress, pageEnd, link, origin, row, endOf, firstOf, topOf, statusOf, firstLink, regionPages, freePages, pagesFrom}
-use Rattle.rules.specs.Words.{isRecord, vals, pageVals, usedOf, fieldsPass}
+use Rattle.laws.proofs.Once.{has-last, last-in, Linked, linked-once, linked-last, each-once}
+use Rattle.rules.specs.Memory.{Store, pageCount, addressPage, regionOrigin, pageWords, bodyWords, bodyAddress, pageEnd, link, origin, row, endOf, firstOf, statusOf, firstLink, regionPages, freePages, pagesFrom}
+use Rattle.rules.specs.Words.{vals, pageVals, usedOf, fieldsPass}
 use Rattle.rules.specs.Audit.{eachPage, ifLast, rule2, opens, endsWell, lastLink, allChains, rule3, endsAt, rule4, filled, pageFilled, rule5, goodWord, rule6, rule7, constField, rule8, clean, rule9, firstFailing, brokenRule}
 use Rattle.rules.specs.Pages.{begun}
-use Rattle.rules.specs.Refusals.{Admitted, withinLimits, commonTest}
-use Rattle.rules.proofs.Limits.{admits, paged-size, whole-pages}
+use Rattle.rules.specs.Refusals.{Admitted, withinLimits}
+use Rattle.rules.proofs.Limits.{paged-size, whole-pages}
 use Rattle.rules.proofs.Chains.{length-page, at-page}
 use Rattle.rules.proofs.Whole as W
-use Rattle.rules.proofs.Steps.{Stands, Steps, steps-end, holds-all, listed-steps, all-listed}
-use Rattle.facts.proofs.Laid.{spare≢beyond, mine≢beyond, Owner, spare, beyond, mine, Body, Clean, Layout}
+use Rattle.rules.proofs.Steps.{steps-end, holds-all, listed-steps, all-listed}
+use Rattle.facts.proofs.Laid.{spare≢beyond, mine≢beyond, Owner, spare, beyond, mine, Body, Clean, RowLast, Layout}
+use Rattle.rules.proofs.Judged.{Passes, passed-admitted}
 use Rattle.facts.proofs.Filled.{filled-rest, fields-in}
 use Rattle.facts.proofs.Goods.{page-ends, body-holds, body-ends, body-listed, good-of, const-of}
 use Rattle.rules.proofs.Limits as Limits
-use Rattle.facts.proofs.Sound.{Within, Good, Constants, Chained, in-free, in-region, Sound, chained-mine, chained-spare}
+use Rattle.facts.proofs.Sound.{Within, Good, Constants, Chained, in-free, in-region, EachField, Sound, chained-mine, chained-spare}
 
 -- ---- the rules, each by itself
 
@@ -49,7 +50,7 @@ passed i p ps s e = go (p s) refl
     go true q = (q, rw (firstFailing, q) at e)
     go false q = let z : suc i ≡ 0 = rw (firstFailing, q) at e in absurd (omega arith)
 
-pub rules-hold : (s : Store) → brokenRule s ≡ 0 → Rules s
+rules-hold : (s : Store) → brokenRule s ≡ 0 → Rules s
 unfolding brokenRule
 rules-hold s e =
     let p2 = passed 1 rule2 _ s e in
@@ -102,13 +103,12 @@ constants-of s t =
       filled = listed-steps (s .consts) (length (s .consts)) (all-listed (s .consts));
       rest = filled-rest (s .consts) (length (s .consts)) 0 (s .consts) (holds-all (s .consts)) (omega arith) f;
       fields = λ a l i steps st r q.
-          const-of (s .consts) (at (s .consts) (a + suc i))
-          (fields-in (constField (s .consts)) (s .consts) (length (s .consts)) steps (all-listed (s .consts)) st r g i q);
+          const-of (fields-in (constField (s .consts)) (s .consts) (length (s .consts)) steps (all-listed (s .consts)) st r g i q);
     }
 
 -- ---- the facts, rule by rule
 
-module _ (s : Store) (lim : withinLimits s ≡ true) (comm : commonTest s ≡ true) (rules : Rules s) where
+module _ {s : Store} (p : Passes s) where
   abbrev n : ℕ
   n = s .ctl .n
 
@@ -119,7 +119,10 @@ module _ (s : Store) (lim : withinLimits s ≡ true) (comm : commonTest s ≡ tr
   R = s .ctl .regions
 
   adm : Admitted (length (s .heap)) (length (s .table)) (length (s .roots)) (length (s .consts)) (s .ctl)
-  adm = admits (length (s .heap)) (length (s .table)) (length (s .roots)) (length (s .consts)) (s .ctl) lim comm
+  adm = passed-admitted s p
+
+  rules : Rules s
+  rules = rules-hold s (p .unbroken)
 
   big : 16 ≤ 2 ^ n
   big = paged-size n (length (s .heap)) (adm .paged) .0
@@ -247,7 +250,7 @@ module _ (s : Store) (lim : withinLimits s ≡ true) (comm : commonTest s ≡ tr
       }
 
   -- 4 and 5: the last page
-  top : (j : ℕ) → j < R → (k : ℕ) × Last (pages j) k × (endOf (s .table) j ≡ k * 2 ^ n + 2 ^ n) × (topOf (s .table) j ≡ endIn n (s .heap) k)
+  top : (j : ℕ) → j < R → RowLast n (s .table) (endIn n (s .heap)) j (pages j)
   unfolding rule4 rule5 endsAt pageFilled
   top j b =
       let z = has-last (links j b) in
@@ -257,7 +260,7 @@ module _ (s : Store) (lim : withinLimits s ≡ true) (comm : commonTest s ≡ tr
       let (t₄, _) = both {a = eachPage (endsAt n (s .heap) (s .table)) n (s .heap) (s .table) R} (rules .four) in
       let e₄ : ifLast (link n (s .heap) k) (eqb (endOf (s .table) j) (pageEnd n k)) ≡ true = at-page-of (endsAt n (s .heap) (s .table)) t₄ j k b m in
       let (_, e₅) = both {a = filled (bodyAddress n k) (bodyWords n (s .heap) k)} (at-page-of (pageFilled n (s .heap) (s .table)) (rules .five) j k b m) in
-      (k, z .1, eqb-true _ _ (last-page l e₄), sym (eqb-true _ _ (last-page l e₅)))
+      record { page = k; last = z .1; end = eqb-true _ _ (last-page l e₄); top = sym (eqb-true _ _ (last-page l e₅)) }
     where
       last-page : {l : ℕ} {t : Bool} → l ≡ 0 → ifLast l t ≡ true → t ≡ true
       last-page e t = unfold ifLast in (rw e at t)
@@ -289,30 +292,28 @@ module _ (s : Store) (lim : withinLimits s ≡ true) (comm : commonTest s ≡ tr
         free-clean = λ k o. cleans k (spare-there k o);
         mine-own = region-own;
         mine-once = λ j b. linked-once (links j b);
-        mine-links = λ j b. (addressPage n (firstOf (s .table) j), opened j b, links j b);
+        mine-links = λ j b. record { page = addressPage n (firstOf (s .table) j); first = opened j b; links = links j b };
         mine-body = λ j k o. let t = mine-there j k o in body j k (t .0) (t .1);
         mine-top = top;
       }
 
   -- 6
-  fields : (j k a l i : ℕ) → j < R → List·Memᴰ k (pages j) → Steps (s .heap) (k * 2 ^ n + 2 ^ n) (k * 2 ^ n + 2) a → Stands (s .heap) (k * 2 ^ n + 2 ^ n) a l
-      → isRecord (at (s .heap) a) ≡ true → i < l → Good n R (s .heap) (s .consts) (at (s .heap) (a + suc i))
+  fields : EachField n R (s .heap) pages (Good n R (s .heap) (s .consts))
   unfolding rule6
-  fields j k a l i b m steps st r q =
+  fields j k a l i b m v r q =
       let there = region-there j k m in
       let t = at-page-of (λ j k. all (fieldsPass (goodWord s)) (pageVals n (s .heap) k)) (rules .six) j k b m in
-      good-of n R (s .heap) (s .consts) (adm .paged) (at (s .heap) (a + suc i))
-      (fields-in (goodWord s) (s .heap) (k * 2 ^ n + 2 ^ n) steps (body-listed n (s .heap) (adm .paged) k there) st r t i q)
+      good-of (adm .paged) (fields-in (goodWord s) (s .heap) (k * 2 ^ n + 2 ^ n) (v .steps) (body-listed n (s .heap) (adm .paged) k there) (v .stands) r t i q)
 
   -- 7
   roots : (i : ℕ) → i < length (s .roots) → Good n R (s .heap) (s .consts) (at (s .roots) i)
   unfolding rule7
-  roots i b = good-of n R (s .heap) (s .consts) (adm .paged) (at (s .roots) i) (all-at (goodWord s) (s .roots) (rules .seven) i b)
+  roots i b = good-of (adm .paged) (all-at (goodWord s) (s .roots) (rules .seven) i b)
 
-  pub sound : Sound s
-  sound =
+  pub sound-of : Sound s
+  sound-of =
       record {
-        within = within-of s lim;
+        within = within-of s (p .limits);
         own = ownerIn n (s .heap);
         fin = endIn n (s .heap);
         pages = pages;
@@ -326,6 +327,3 @@ module _ (s : Store) (lim : withinLimits s ≡ true) (comm : commonTest s ≡ tr
         roots = roots;
         consts = constants-of s (rules .eight);
       }
-
-pub sound-of : (s : Store) → withinLimits s ≡ true → commonTest s ≡ true → brokenRule s ≡ 0 → Sound s
-sound-of s l c b = sound s l c (rules-hold s b)

@@ -10,14 +10,13 @@ use native.Mathlib.Omega.{arith}
 use borrow.Author.Tests.{lt-leb, leb-false}
 use Rattle.laws.specs.Lists.{at}
 use Rattle.laws.proofs.Choices.{choices-agree, second-chosen}
-use Rattle.rules.specs.declared.Refusal.{Refusal}
 use Rattle.rules.specs.declared.Valued.{Valued}
 use Rattle.rules.specs.Memory.{Store}
 use Rattle.rules.specs.Audit.{usedBy}
 use Rattle.rules.specs.Calls.{lookIn, Walked, ends, stops, walkSays, walk, fetch, usedWords}
 use Rattle.rules.specs.Seen.{seen, readBy, path, reading, readAt, Meet}
+use Rattle.rules.proofs.Judged.{Passes, passed}
 use Rattle.facts.proofs.Alike.{MeetIn, Same, readings}
-use Rattle.facts.proofs.Sound.{Passes}
 
 module _ (s : Store) (p : Passes s) where
   pub walk-is : (i : ℕ) (fs : List ℕ) → walk s i fs ≡ walkSays (s .ctl) (path (seen s) (s .roots) i fs)
@@ -30,15 +29,13 @@ module _ (s : Store) (p : Passes s) where
 
   pub used-is : (j : ℕ) → j < s .ctl .regions → usedWords s j ≡ Valued.Done (usedBy (s .ctl .n) (s .heap) (s .table) j) (s .ctl)
   unfolding usedWords
-  used-is j b = rw (p .limits, p .common, p .unbroken, lt-leb (s .ctl .regions) j b)
+  used-is j b = passed s p (λ r. Valued.Refused r (s .ctl)) _ ∙ rw (lt-leb (s .ctl .regions) j b)
 
   -- no region, no answer
   pub used-known : (j u : ℕ) → usedWords s j ≡ Valued.Done u (s .ctl) → (j < s .ctl .regions) × (usedBy (s .ctl .n) (s .heap) (s .table) j ≡ u)
   unfolding usedWords
   used-known j u e =
-      let (known, is) =
-      second-chosen (leb (s .ctl .regions) j) {y = Valued.Refused Refusal.NoRegion (s .ctl)} {z = Valued.Done (usedBy (s .ctl .n) (s .heap) (s .table) j) (s .ctl)}
-      (sym e ∙ rw (p .limits, p .common, p .unbroken)) (λ z. false≢true cc) in
+      let (known, is) = second-chosen (leb (s .ctl .regions) j) (sym e ∙ passed s p (λ r. Valued.Refused r (s .ctl)) _) (λ z. false≢true cc) in
       let b = leb-false (s .ctl .regions) j known in
       (omega arith, cc)
 

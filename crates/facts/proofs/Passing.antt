@@ -21,15 +21,15 @@ use Rattle.rules.specs.Audit.{eachPage, ifLast, rule2, opens, endsWell, lastLin
 use Rattle.rules.specs.Refusals.{Paged, common, withinLimits, commonTest}
 use Rattle.rules.specs.Calls.{audit}
 use Rattle.rules.specs.Collection.{fromSpace}
+use Rattle.rules.proofs.Judged.{Passes, judged-yes}
 use Rattle.rules.proofs.Chains.{length-page, at-page}
 use Rattle.rules.proofs.Whole.{linked-chain, chains-once, of-pages, pages-of, pages-once}
 use Rattle.rules.proofs.Steps.{holds-all, listed-used, all-listed}
-use Rattle.facts.proofs.Judged.{judged-passes}
 use Rattle.facts.proofs.Laid.{spare-origin, chain-body, chain-known, chain-few, free-known, free-few}
 use Rattle.facts.proofs.Filled.{filled-of, fields-of}
 use Rattle.facts.proofs.Goods.{page-ends, body-holds, body-ends, body-listed, of-good, of-const}
 use Rattle.facts.proofs.Cleared.{first-link}
-use Rattle.facts.proofs.Sound.{top-lies, Within, Chained, in-free, in-region, Sound, Passes}
+use Rattle.facts.proofs.Sound.{top-lies, Within, Chained, in-free, in-region, Sound}
 use Rattle.facts.proofs.Means.{Rules, sound-of}
 
 pub hold-rules : (s : Store) → Rules s → brokenRule s ≡ 0
@@ -45,7 +45,7 @@ within-limits s w =
     (le-leb _ _ (w .paged .low)) (le-leb _ _ (w .paged .high))) (eq-eqb _ _ (w .paged .whole))) (le-leb _ _ (w .two))) (le-leb _ _ (w .paged .size)))
     (eq-eqb _ _ (w .table))) (le-leb _ _ (w .roots))) (le-leb _ _ (w .consts))
 
-module _ (s : Store) (S : Sound s) where
+module _ {s : Store} (S : Sound s) where
   abbrev n : ℕ
   n = s .ctl .n
 
@@ -60,13 +60,13 @@ module _ (s : Store) (S : Sound s) where
 
   -- ---- the chains are those that the facts name
 
-  pub first-page : (j : ℕ) (b : j < R) → firstLink n (s .table) j ≡ suc (S .laid .mine-links j b .0)
-  first-page j b = first-link n (s .table) j (S .laid .mine-links j b .0) (S .laid .big) (S .laid .mine-links j b .1)
+  pub first-page : (j : ℕ) (b : j < R) → firstLink n (s .table) j ≡ suc (S .laid .mine-links j b .page)
+  first-page j b = first-link n (s .table) j (S .laid .mine-links j b .page) (S .laid .big) (S .laid .mine-links j b .first)
 
   chain-is : (j : ℕ) → j < R → (chain N n (s .heap) (firstLink n (s .table) j) ≡ S .pages j) × (chainEnd N n (s .heap) (firstLink n (s .table) j) ≡ 0)
   chain-is j b =
       rw (first-page j b)
-      (linked-chain n (s .heap) N (S .laid .mine-links j b .2) (chain-known (S .laid) j b)
+      (linked-chain n (s .heap) N (S .laid .mine-links j b .links) (chain-known (S .laid) j b)
       (chain-few (S .laid) j b))
 
   free-is : (chain N n (s .heap) (s .ctl .first) ≡ S .free) × (chainEnd N n (s .heap) (s .ctl .first) ≡ 0)
@@ -154,8 +154,8 @@ module _ (s : Store) (S : Sound s) where
   unfolding opens
   opened j b =
       let t = S .laid .mine-links j b in
-      let there : firstLink n (s .table) j ≤ N = rw (first-page j b) (linked-fits (t .2) (chain-known (S .laid) j b)) in
-      and-of (eq-eqb _ _ (ap (λ x. x % 2 ^ n) (t .1) ∙ mul-mod-left (t .0) (2 ^ n))) (lt-ltb _ N there)
+      let there : firstLink n (s .table) j ≤ N = rw (first-page j b) (linked-fits (t .links) (chain-known (S .laid) j b)) in
+      and-of (eq-eqb _ _ (ap (λ x. x % 2 ^ n) (t .first) ∙ mul-mod-left (t .page) (2 ^ n))) (lt-ltb _ N there)
 
   three : rule3 s ≡ true
   unfolding rule3 endsWell
@@ -171,12 +171,12 @@ module _ (s : Store) (S : Sound s) where
       (eq-eqb _ _ (S .laid .free-count ∙ ap length (sym free-are)))
 
   -- a page whose link is 0 is the last
-  if-last : (j k : ℕ) (b : j < R) → List·Memᴰ k (S .pages j) → (t : Bool) → (k ≡ S .laid .mine-top j b .0 → t ≡ true) → ifLast (link n (s .heap) k) t ≡ true
+  if-last : (j k : ℕ) (b : j < R) → List·Memᴰ k (S .pages j) → (t : Bool) → (k ≡ S .laid .mine-top j b .page → t ≡ true) → ifLast (link n (s .heap) k) t ≡ true
   unfolding ifLast
   if-last j k b m t f = go (link n (s .heap) k) refl
     where
       go : (l : ℕ) → link n (s .heap) k ≡ l → ifLast l t ≡ true
-      go zero e = f (last-one (linked-ends (S .laid .mine-links j b .2) m e) (S .laid .mine-top j b .1))
+      go zero e = f (last-one (linked-ends (S .laid .mine-links j b .links) m e) (S .laid .mine-top j b .last))
       go (suc l) e = refl
 
   four : rule4 s ≡ true
@@ -184,10 +184,10 @@ module _ (s : Store) (S : Sound s) where
   four =
       and-of
       (each-page (endsAt n (s .heap) (s .table))
-      (λ j k b m. if-last j k b m _ (λ e. eq-eqb _ _ (S .laid .mine-top j b .2 ∙ ap (λ x. x * 2 ^ n + 2 ^ n) (sym e)))))
+      (λ j k b m. if-last j k b m _ (λ e. eq-eqb _ _ (S .laid .mine-top j b .end ∙ ap (λ x. x * 2 ^ n + 2 ^ n) (sym e)))))
       (below-of (topFits n (s .table)) R
       (λ j b.
-      let t = top-lies s S j b in
+      let t = top-lies S j b in
       and-of (le-leb (endOf (s .table) j + 2) (topOf (s .table) j + 2 ^ n) (t .0)) (le-leb (topOf (s .table) j) (endOf (s .table) j) (t .1))))
 
   -- what stands in a page ends where the list of its values does
@@ -205,7 +205,7 @@ module _ (s : Store) (S : Sound s) where
       let there = chain-known (S .laid) j b k m in
       and-of
       (filled-of (s .heap) (k * 2 ^ n + 2 ^ n) (k * 2 ^ n + 2) (bodyWords n (s .heap) k) (body-holds n (s .heap) paged k there) (body-ends n (s .heap) paged k there) (S .fin k) (x .filled) (x .rest))
-      (if-last j k b m _ (λ e. eq-eqb _ _ (ends-at j k b m ∙ ap (S .fin) e ∙ sym (S .laid .mine-top j b .3)))))
+      (if-last j k b m _ (λ e. eq-eqb _ _ (ends-at j k b m ∙ ap (S .fin) e ∙ sym (S .laid .mine-top j b .top)))))
 
   six : rule6 s ≡ true
   unfolding rule6
@@ -213,11 +213,11 @@ module _ (s : Store) (S : Sound s) where
       each-page (λ j k. all (fieldsPass (goodWord s)) (pageVals n (s .heap) k))
       (λ j k b m.
       fields-of (goodWord s) (s .heap) (k * 2 ^ n + 2 ^ n) (body-listed n (s .heap) paged k (chain-known (S .laid) j b k m))
-      (λ a l i st x r q. of-good n R (s .heap) (s .consts) paged (at (s .heap) (a + suc i)) (S .fields j k a l i b m st x r q)))
+      (λ a l i st x r q. of-good paged (S .fields j k a l i b m (record { steps = st; stands = x }) r q)))
 
   seven : rule7 s ≡ true
   unfolding rule7
-  seven = at-all (goodWord s) (s .roots) (λ i b. of-good n R (s .heap) (s .consts) paged (at (s .roots) i) (S .roots i b))
+  seven = at-all (goodWord s) (s .roots) (λ i b. of-good paged (S .roots i b))
 
   eight : rule8 s ≡ true
   unfolding rule8
@@ -225,7 +225,7 @@ module _ (s : Store) (S : Sound s) where
       and-of
       (filled-of (s .consts) (length (s .consts)) 0 (s .consts) (holds-all (s .consts)) (omega arith) (S .consts .fin) (S .consts .filled) (S .consts .rest))
       (fields-of (constField (s .consts)) (s .consts) (length (s .consts)) (all-listed (s .consts))
-      (λ a l i st x r q. of-const (s .consts) (at (s .consts) (a + suc i)) (S .consts .fields a l i st x r q)))
+      (λ a l i st x r q. of-const (S .consts .fields a l i st x r q)))
 
   nine : rule9 s ≡ true
   unfolding rule9 clean
@@ -247,13 +247,8 @@ module _ (s : Store) (S : Sound s) where
 -- ---- the meaning of yes
 
 pub meaning : (s : Store) → Passes s ↔ Sound s
-meaning s = (λ p. sound-of s (p .limits) (p .common) (p .unbroken), λ S. passes-of s S)
+meaning s = (sound-of, passes-of)
 
 -- after a yes the heap is sound
 pub judged-sound : (s : Store) (c : Control) → Plain.Done c ≡ audit s → Sound s
-judged-sound s c e = meaning s .0 (judged-passes s c e)
-
--- the audit as a call says yes exactly when the heap passes
-pub audit-yes : (s : Store) → (audit s ≡ Plain.Done (s .ctl)) ↔ Passes s
-unfolding audit
-audit-yes s = (λ e. judged-passes s (s .ctl) (sym e), λ p. rw (p .limits, p .common, p .unbroken))
+judged-sound s c e = meaning s .0 (judged-yes s e)

@@ -10,10 +10,8 @@ use Rattle.laws.specs.Lists.{at}
 use Rattle.rules.specs.Memory.{Store, pageCount, endOf, topOf, statusOf}
 use Rattle.rules.specs.Words.{number, inHeap, inConst, wordOf, isRecord}
 use Rattle.rules.specs.Pages.{begun}
-use Rattle.rules.specs.Audit.{brokenRule}
-use Rattle.rules.specs.Refusals.{withinLimits, commonTest}
 use Rattle.rules.proofs.Limits as Limits
-use Rattle.rules.proofs.Steps.{Stands, Steps}
+use Rattle.rules.proofs.Steps.{Stands, Steps, OnPage}
 use Rattle.facts.proofs.Laid.{mine-inj, spare≢mine, Owner, spare, mine, Layout, spare-origin, last-low, last-high}
 
 -- ---- Lengths and n within their limits.
@@ -32,8 +30,7 @@ pub record InHeap (n R : ℕ) (heap : List ℕ) (a : ℕ) : Type 0 where
   pub there : page < pageCount n heap
   pub known : region < R
   pub whose : at heap (page * 2 ^ n + 1) ≡ suc region
-  pub steps : Steps heap (page * 2 ^ n + 2 ^ n) (page * 2 ^ n + 2) a
-  pub stands : Stands heap (page * 2 ^ n + 2 ^ n) a len
+  pub value : OnPage n heap page a len
 
 -- "A constant pointer is good by the same stepping from constant 0."
 pub record InConst (consts : List ℕ) (a : ℕ) : Type 0 where
@@ -79,6 +76,11 @@ module _ {R : ℕ} {own : ℕ → Owner} {pages : ℕ → List ℕ} {free : List
   chained-spare (in-free o m) e = m
   chained-spare (in-region i b o m) e = spare≢mine e o
 
+-- Q of each field of each record in the pages of the regions below R
+abbrev pub EachField : (n R : ℕ) → List ℕ → (ℕ → List ℕ) → (ℕ → Type 0) → Type 0
+EachField n R h pages Q =
+    (j k a l i : ℕ) → j < R → List·Memᴰ k (pages j) → OnPage n h k a l → isRecord (at h a) ≡ true → i < l → Q (at h (a + suc i))
+
 pub record Sound (s : Store) : Type 0 where
   pub within : Within s
   -- whose each page is, where its values end, the chain of each region, the free list
@@ -100,26 +102,15 @@ pub record Sound (s : Store) : Type 0 where
   -- 3. "Every page is in exactly one chain"
   pub chained : (k : ℕ) → k < pageCount (s .ctl .n) (s .heap) → Chained (s .ctl .regions) own pages free k
   -- 6. "Each field of each record in the heap is a number or a good pointer."
-  pub fields : (j k a l i : ℕ) → j < s .ctl .regions → List·Memᴰ k (pages j)
-      → Steps (s .heap) (k * 2 ^ s .ctl .n + 2 ^ s .ctl .n) (k * 2 ^ s .ctl .n + 2) a → Stands (s .heap) (k * 2 ^ s .ctl .n + 2 ^ s .ctl .n) a l
-      → isRecord (at (s .heap) a) ≡ true → i < l
-      → Good (s .ctl .n) (s .ctl .regions) (s .heap) (s .consts) (at (s .heap) (a + suc i))
+  pub fields : EachField (s .ctl .n) (s .ctl .regions) (s .heap) pages (Good (s .ctl .n) (s .ctl .regions) (s .heap) (s .consts))
   -- 7. "Each root is a number or a good pointer."
   pub roots : (i : ℕ) → i < length (s .roots) → Good (s .ctl .n) (s .ctl .regions) (s .heap) (s .consts) (at (s .roots) i)
   -- 8.
   pub consts : Constants (s .consts)
 
--- ---- The audit's yes.
-
--- the heap passes: lengths, common test, audit
-pub record Passes (s : Store) : Type 0 where
-  pub limits : withinLimits s ≡ true
-  pub common : commonTest s ≡ true
-  pub unbroken : brokenRule s ≡ 0
-
 -- ---- The same in other words.
 
-module _ (s : Store) (S : Sound s) where
+module _ {s : Store} (S : Sound s) where
   -- a page has room for its descriptor
   pub descriptor-fits : 2 ≤ 2 ^ s .ctl .n
   descriptor-fits = let b = S .laid .big in omega arith
@@ -129,8 +120,8 @@ module _ (s : Store) (S : Sound s) where
   one-region i j k a b p q = mine-inj (sym (S .laid .mine-own i k a p) ∙ S .laid .mine-own j k b q)
 
   -- the page of a good pointer is in its region's chain
-  pub good-page : (a : ℕ) (p : InHeap (s .ctl .n) (s .ctl .regions) (s .heap) a) → List·Memᴰ (p .page) (S .pages (p .region))
-  good-page a p = go (S .chained (p .page) (p .there))
+  pub good-page : {a : ℕ} (p : InHeap (s .ctl .n) (s .ctl .regions) (s .heap) a) → List·Memᴰ (p .page) (S .pages (p .region))
+  good-page p = go (S .chained (p .page) (p .there))
     where
       go : Chained (s .ctl .regions) (S .own) (S .pages) (S .free) (p .page) → List·Memᴰ (p .page) (S .pages (p .region))
       go (in-free o m) =
@@ -151,5 +142,5 @@ module _ (s : Store) (S : Sound s) where
   top-lies j b =
       let lo = last-low (S .laid) j b in
       let hi = last-high (S .laid) j b in
-      let e = S .laid .mine-top j b .2 in
+      let e = S .laid .mine-top j b .end in
       omega arith

@@ -1,6 +1,6 @@
 -- The turn laws of the tests of roots and fields: at each page and value what is left to test is what was left before; and how the code decides
 -- whether a word points into a region.
-use Prim.Native.Nat.{ℕ, zero, suc, _+_, _-_, _*_, _/_, _%_, _^_, _≤_, _<_}
+use Prim.Native.Nat.{ℕ, zero, suc, _+_, _-_, _*_, _%_, _^_, _≤_}
 use mathlib.Core.Path.{_≡_, refl, _∙_}
 use mathlib.Core.Bool.{Bool, true, false, _&&_, not}
 use mathlib.Core.List.{List}
@@ -14,7 +14,7 @@ use Rattle.rules.specs.Words.{pointerAddress, valsIn, fieldsPass, goodIn}
 use Rattle.rules.specs.Refusals.{Paged}
 use Rattle.rules.specs.Audit.{pagePass, recordsPass}
 use Rattle.rules.specs.Calls.{pointsInto, letGo}
-use Rattle.rules.proofs.Chains.{page-vals}
+use Rattle.rules.proofs.Chains.{page-vals, Next}
 use Rattle.rules.proofs.Good.{origin-out}
 use Rattle.rules.proofs.Nests.{pages-go}
 use Rattle.rules.proofs.Pointers.{Is, heap-pointer, const-pointer, whole-number, word-is, heap-word}
@@ -26,11 +26,10 @@ use Rattle.fields.specs.Passing.{passes}
 abbrev pub Records : (ℕ → Bool) → ℕ → List ℕ → List ℕ → ℕ → ℕ → Bool
 Records g n h t m j = allFrom (λ i. all (pagePass g n h) (regionPages n h t i)) m j
 
--- at the link k; b is the page's address and p its size, its values begin at s, and it ends at d
-pub page-records : (g : ℕ → Bool) (n N : ℕ) (h : List ℕ) (e : N ≡ length h / 2 ^ n) (f k p : ℕ) → p ≡ 2 ^ n → (r : Bool) (b : ℕ) → b ≡ (k - 1) * 2 ^ n → 0 < f → (k ≡ 0 → ⊥) → k ≤ N
-    → (s d : ℕ) → s ≡ b + 2 → d ≡ b + p
+-- at a page; p is its size, its values begin at s, and it ends at d
+pub page-records : {n : ℕ} {h : List ℕ} {f k b : ℕ} → Next n h f k b → (g : ℕ → Bool) (p : ℕ) → p ≡ 2 ^ n → (r : Bool) (s d : ℕ) → s ≡ b + 2 → d ≡ b + p
     → (all (pagePass g n h) (chain f n h k) && r) ≡ (all (fieldsPass g) (valsIn h s d) && (all (pagePass g n h) (chain (f - 1) n h (getD h b 0)) && r))
-page-records g n N h e f k p qp r b q l z c s d qs qd = pages-go n N h e f k (pagePass g n h) r b q l z c ∙ rw (qs, qd, q, qp, ← page-vals n h (k - 1))
+page-records {n} {h} {k = k} x g p qp r s d qs qd = pages-go (pagePass g n h) r x ∙ rw (qs, qd, x .start, qp, ← page-vals n h (k - 1))
 
 -- ---- pointing into region j
 

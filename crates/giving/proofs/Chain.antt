@@ -5,11 +5,10 @@ use native.Mathlib.Nat.{mul-le-mul-right}
 use native.Mathlib.Omega.{arith}
 use mathlib.Core.Path.{_≡_, refl, sym, _∙_}
 use mathlib.Core.Logic.{_≢_}
-use mathlib.Core.List.{List, [], _∷_, List·Memᴰ, List·Memᴰ·head, List·Memᴰ·tail}
+use mathlib.Core.List.{List, _∷_, List·Memᴰ, List·Memᴰ·head, List·Memᴰ·tail}
 use lib.ListN.{length}
-use borrow.Author.Tests.{lt-ltb}
-use Rattle.laws.specs.Each.{along}
-use Rattle.laws.proofs.Once.{Once, once-head, once-tail, Linked, linked-none, linked-first, linked-same}
+use Rattle.laws.proofs.Once.{Once, once-head, once-tail}
+use Rattle.laws.proofs.Each.{chain-keep}
 use Rattle.rules.specs.Memory.{Store, pageCount, link, firstLink, regionPages}
 use Rattle.rules.specs.Pages.{Run, begun, giveBack, giveBackAll}
 use Rattle.facts.proofs.Given.{given-last, given-length, given-link, last-one-of}
@@ -17,29 +16,6 @@ use Rattle.facts.proofs.Laid.{chain-known, chain-few, free-known}
 use Rattle.facts.proofs.Passing.{first-page, pages-are}
 use Rattle.facts.proofs.Sound.{Sound, region-or-free}
 use Rattle.giving.specs.Giving.{linkIn, giveChain}
-
--- the pages ks are still to be given back, and f is how many pages may be passed
-pub chain-given : (n N f : ℕ) → 0 < 2 ^ n → (ks : List ℕ) (x : ℕ) (r : Run) → N * 2 ^ n ≤ length (r .heap) → Linked (link n (r .heap)) x ks → Once ks
-    → ((k : ℕ) → List·Memᴰ k ks → k < N) → ((k : ℕ) → List·Memᴰ k ks → r .last ≢ suc k) → length ks ≤ f
-    → along f N (linkIn n) (giveBack n) x r ≡ giveBackAll n ks r
-unfolding along giveBackAll
-chain-given n N zero p [] x r b t o small out m = refl
-chain-given n N (suc f) p [] x r b t o small out m = rw (linked-none t, along)
-chain-given n N zero p (k ∷ ks) x r b t o small out m = absurd (omega arith)
-chain-given n N (suc f) p (k ∷ ks) x r b t o small out m =
-    let u = linked-first t in
-    let kN = small k (List·Memᴰ·head refl) in
-    let i : k * 2 ^ n + 2 ^ n ≤ length (r .heap) = let q = mul-le-mul-right (2 ^ n) kN in omega arith in
-    let kept : (l : ℕ) → List·Memᴰ l ks → link n (r .heap) l ≡ link n (giveBack n k r .heap) l
-    = λ l q. sym (given-link n r k i p l (λ e. once-head o (rw e at q)) (out l (List·Memᴰ·tail q))) in
-    let e = given-length n r k i in
-    rw (u .0, along, lt-ltb k N kN)
-    (chain-given n N f p ks (link n (r .heap) k) (giveBack n k r) (omega arith) (linked-same kept (u .1)) (once-tail o)
-    (λ l q. small l (List·Memᴰ·tail q))
-    (λ l q d. once-head o (let w : k ≡ l = let g = given-last n r k in omega arith in rw (← w) at q))
-    (omega arith))
-
--- ---- a region of a sound heap
 
 -- the page that the last link names is free
 last-free : (s : Store) (S : Sound s) (k : ℕ) → s .ctl .last ≡ suc k → List·Memᴰ k (S .free)
@@ -60,10 +36,36 @@ module _ (s : Store) (S : Sound s) (j : ℕ) (jR : j < s .ctl .regions) where
   abbrev N : ℕ
   N = pageCount (s .ctl .n) (s .heap)
 
+  -- the pages ks are still to be given back
+  record Giving (ks : List ℕ) (r : Run) : Type 0 where
+    size : N * 2 ^ n ≤ length (r .heap)
+    links : (k : ℕ) → List·Memᴰ k ks → link n (r .heap) k ≡ link n (s .heap) k
+    once : Once ks
+    not-last : (k : ℕ) → List·Memᴰ k ks → r .last ≢ suc k
+    rest : giveBackAll n ks r ≡ giveBackAll n (S .pages j) (begun s)
+
+  turn : (k : ℕ) (ks : List ℕ) (r : Run) → List·Memᴰ k (S .pages j) → Giving (k ∷ ks) r → (linkIn n r k ≡ link n (s .heap) k) × Giving ks (giveBack n k r)
+  unfolding giveBackAll
+  turn k ks r here G =
+      let b = S .laid .big in
+      let z = G .size in
+      let i : k * 2 ^ n + 2 ^ n ≤ length (r .heap) = omega (arith, mul-le-mul-right (2 ^ n) (chain-known (S .laid) j jR k here)) in
+      let new : (l : ℕ) → List·Memᴰ l ks → l ≢ k = λ l m e. once-head (G .once) (rw e at m) in (
+        G .links k (List·Memᴰ·head refl),
+        record {
+          size = let e = given-length n r k i in omega arith;
+          links = λ l m. given-link n r k i (omega arith) l (new l m) (G .not-last l (List·Memᴰ·tail m)) ∙ G .links l (List·Memᴰ·tail m);
+          once = once-tail (G .once);
+          not-last = λ l m d. new l m (let e = given-last n r k in omega arith);
+          rest = G .rest;
+        },
+      )
+
   pub region-given : giveChain n N (firstLink n (s .table) j) (begun s) ≡ giveBackAll n (regionPages n (s .heap) (s .table) j) (begun s)
+  unfolding giveBackAll
   region-given =
-      let g = S .laid .big in
+      let F = S .laid .mine-links j jR in
       let z = S .laid .size in
-      rw (pages-are s S j jR, first-page s S j jR)
-      (chain-given n N N (omega arith) (S .pages j) (suc (S .laid .mine-links j jR .0)) (begun s) (omega arith) (S .laid .mine-links j jR .2)
-      (S .laid .mine-once j jR) (chain-known (S .laid) j jR) (λ k m q. region-or-free s S j k jR m (last-free s S k q)) (chain-few (S .laid) j jR))
+      rw (pages-are S j jR, first-page S j jR)
+      (chain-keep N (linkIn n) (giveBack n) (link n (s .heap)) Giving (S .pages j) (chain-known (S .laid) j jR) turn N (suc (F .page)) (begun s) (F .links) (chain-few (S .laid) j jR)
+      (record { size = omega arith; links = λ k m. refl; once = S .laid .mine-once j jR; not-last = λ k m q. region-or-free S j k jR m (last-free s S k q); rest = refl }) .rest)

@@ -59,12 +59,16 @@ at-map f [] i b = absurd (omega arith)
 at-map f (x ∷ l) zero b = refl
 at-map f (x ∷ l) (suc i) b = at-map f l i (omega arith)
 
-pub front-more : (d s : List ℕ) (i v : ℕ) → i < length d → i < length s → v ≡ at s i → set (paste d 0 s i) i v ≡ paste d 0 s (i + 1)
-front-more d s i v m l e = let q : i ≡ 0 + i = omega arith in ap (λ k. set (paste d 0 s i) k v) q ∙ paste-more d 0 s i v (omega arith) l e
+-- t is what it is so far
+pub front-more : (d s t : List ℕ) (i v : ℕ) → t ≡ paste d 0 s i → i < length d → i < length s → v ≡ at s i → set t i v ≡ paste d 0 s (i + 1)
+front-more d s t i v e m l q = let z : i ≡ 0 + i = omega arith in rw e (ap (λ k. set (paste d 0 s i) k v) z ∙ paste-more d 0 s i v (omega arith) l q)
 
--- what is not replaced yet
-pub front-next : (d s : List ℕ) (i : ℕ) → i ≤ length s → i ≤ length d → at (paste d 0 s i) i ≡ at d i
-front-next d s i l m = at-paste d 0 s i i l (omega arith) (inr (omega arith))
+-- w is the word that is replaced
+pub map-more : (f : ℕ → ℕ) (d t : List ℕ) (i w v : ℕ) → t ≡ paste d 0 (map f d) i → i < length d → w ≡ at t i → v ≡ f w → set t i v ≡ paste d 0 (map f d) (i + 1)
+map-more f d t i w v e b p q =
+    let l : length (map f d) ≡ length d = length-map d f in
+    let old : w ≡ at d i = p ∙ ap (λ x. at x i) e ∙ at-paste d 0 (map f d) i i (omega arith) (omega arith) (inr (omega arith)) in
+    front-more d (map f d) t i v e b (omega arith) (q ∙ ap f old ∙ sym (at-map f d i b))
 
 -- all of it
 pub map-done : (f : ℕ → ℕ) (d : List ℕ) (i : ℕ) → i ≤ length d → length d ≤ i → paste d 0 (map f d) i ≡ map f d

@@ -1,4 +1,5 @@
--- Facts to tests: a test over a list, or over the numbers below a bound, passes where it passes at each; and a list of zeros both ways.
+-- Facts to tests: a test over a list, or over the numbers below a bound, passes where it passes at each; and a list of zeros both ways. By
+-- recursion on the list or on the bound.
 use Prim.Native.Nat.{ℕ, zero, suc, _+_, _-_, _≤_, _<_, zero-le, suc-le-suc}
 use native.Mathlib.Omega.{arith}
 use native.Mathlib.Nat.{le-refl}
@@ -10,7 +11,7 @@ use lib.Seq.{getD-drop}
 use lib.Dec.{eqb}
 use borrow.Author.Tests.{eqb-true, eq-eqb}
 use Rattle.laws.specs.Lists.{at, all, allFrom, allBelow, zeros}
-use Rattle.laws.proofs.Tests.{and-left, and-right, both, all-cons, cons-all, from-step, below-in}
+use Rattle.laws.proofs.Tests.{both, all-cons, cons-all, from-step, below-in}
 
 pub and-of : {a b : Bool} → a ≡ true → b ≡ true → (a && b) ≡ true
 and-of p q = rw (p, q)
@@ -59,7 +60,7 @@ below-of p n f = from-of p n 0 (λ i a b. f i (omega arith))
 pub below-and : (p q : ℕ → Bool) (n : ℕ) → allBelow (λ i. p i && q i) n ≡ (allBelow p n && allBelow q n)
 below-and p q n =
     same-test (allBelow (λ i. p i && q i) n) (allBelow p n && allBelow q n)
-    (λ t. let each = below-in (λ i. p i && q i) n t in and-of (below-of p n (λ i b. and-left (p i) (q i) (each i b))) (below-of q n (λ i b. and-right (p i) (q i) (each i b))))
+    (λ t. let each : (i : ℕ) → i < n → (p i ≡ true) × (q i ≡ true) = λ i b. both (below-in (λ i. p i && q i) n t i b) in and-of (below-of p n (λ i b. each i b .0)) (below-of q n (λ i b. each i b .1)))
     (λ t. let (a, b) = both {a = allBelow p n} t in below-of (λ i. p i && q i) n (λ i l. and-of (below-in p n a i l) (below-in q n b i l)))
 
 -- each word is 0

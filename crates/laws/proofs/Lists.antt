@@ -7,8 +7,9 @@ use mathlib.Core.Path.{_≡_, sym, ap, _∙_}
 use mathlib.Core.Logic.{_≢_, _⊎_, inl, inr}
 use mathlib.Core.List.{List, [], _∷_, _++_}
 use lib.ListN.{length, set, take, drop, length-append, length-take, length-drop, drop-of-length-le, List·getD-append}
-use lib.Seq.{getD-set-other, ext-getD, slice, take-nil, length-take-le, getD-append-add, getD-take, getD-drop}
+use lib.Seq.{getD-set-same, getD-set-other, ext-getD, length-sets, slice, take-nil, length-take-le, getD-append-add, getD-take, getD-drop}
 use Rattle.laws.specs.Lists.{at, put}
+use Rattle.laws.proofs.Writes.{put-sets}
 
 pub drop-take : (m n : ℕ) (l : List ℕ) → drop m (take (m + n) l) ≡ take n (drop m l)
 drop-take zero n l = rw zero-add
@@ -40,10 +41,7 @@ part-same g h a m e agree inside =
 -- ---- writing words into a list
 
 pub length-put : (h : List ℕ) (a : ℕ) (ws : List ℕ) → a + length ws ≤ length h → length (put h a ws) ≡ length h
-unfolding put
-length-put h a ws fits =
-    let l : length (take a h) ≡ a = length-take-le a h (omega arith) in
-    simp (length-append, length-drop) (omega arith)
+length-put h a ws fits = ap length (put-sets h a ws fits) ∙ length-sets h a ws
 
 -- what stands before the words, and the words: their length
 front : (h : List ℕ) (a : ℕ) (ws : List ℕ) → a + length ws ≤ length h → length (take a h ++ ws) ≡ a + length ws
@@ -108,6 +106,14 @@ begins-none size k l x a b e = go (ℕ-discrete k l)
 -- nor at a second place
 pub second-none : (size k l : ℕ) → 2 ≤ size → l * size + 1 ≢ k * size
 second-none size k l b = begins-none size l k (l * size + 1) (omega arith) (omega arith)
+
+-- what holds of the word that is set, and of the others as they were, holds of each
+pub set-keeps : (P : ℕ → Type 0) (h : List ℕ) (x v y : ℕ) → x < length h → (y ≡ x → P v) → (y ≢ x → P (at h y)) → P (at (set h x v) y)
+set-keeps P h x v y b new others = go (ℕ-discrete y x)
+  where
+    go : Dec (y ≡ x) → P (at (set h x v) y)
+    go (yes e) = rw (e, getD-set-same h x v 0 b) (new e)
+    go (no ne) = rw (getD-set-other h x y v 0 ne) (others ne)
 
 -- a word set in part k leaves the other parts as they are
 pub set-elsewhere : (size : ℕ) (h : List ℕ) (k a v l x : ℕ) → k * size ≤ a → a < k * size + size → l ≢ k → l * size ≤ x → x < l * size + size → at (set h a v) x ≡ at h x

@@ -164,6 +164,11 @@ once-append ys (once-more {k} {ks} g t) o f = once-more (λ m. go (List·Memᴰ�
     go (inl p) = g p
     go (inr q) = f k (List·Memᴰ·head refl) q
 
+-- and the parts of such a list
+pub once-split : {ys : List ℕ} (xs : List ℕ) → Once (xs ++ ys) → Once xs × Once ys
+once-split [] o = (once-none, o)
+once-split {ys} (x ∷ xs) o = let t = once-split xs (once-tail o) in (once-more (λ m. once-head o (Memᴰ·append-left ys m)) (t .0), t .1)
+
 pub once-snoc : {k : ℕ} {ks : List ℕ} → Once ks → (List·Memᴰ k ks → ⊥) → Once (ks ++ k ∷ [])
 once-snoc {k} o f = once-append (k ∷ []) o (once-more (λ m. List·Memᴰ·not-nil m) once-none) (λ x p q. f (rw (List·Memᴰ·eq-of-singleton q) at p))
 

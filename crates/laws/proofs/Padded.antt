@@ -1,5 +1,5 @@
 -- Words with zeros behind them: `padded m ws` has m words, and each is that of ws, 0 behind them. By recursion on both.
-use Prim.Native.Nat.{ℕ, zero, suc, _-_, _<_}
+use Prim.Native.Nat.{ℕ, zero, suc, _<_}
 use mathlib.Core.Path.{_≡_, refl, ap}
 use mathlib.Core.List.{List, [], _∷_}
 use native.Mathlib.Omega.{arith}

@@ -1,5 +1,5 @@
--- A part of a list that is lent and given back: the words before it, the part as it was left, and the words after it are the list with
--- the part put in. And words that are filled one by one.
+-- A part of a list that is lent and given back: the words before it, the part as it was left, and the words after it are the list with the part
+-- put in. And words that are filled one by one. By the laws of `take`, `drop` and `++`.
 use Prim.Native.Nat.{ℕ, suc, _+_, _-_, _≤_}
 use mathlib.Core.Path.{_≡_, sym, ap, _∙_}
 use mathlib.Core.List.{List, _∷_, _++_, append-nil, append-assoc}

@@ -1,4 +1,4 @@
--- A sum that is made part by part: u is made, x is what is left here, y what is left further out, and w is the whole.
+-- A sum that is made part by part: u is made, x is what is left here, y what is left further out, and w is the whole. Each is linear arithmetic.
 use Prim.Native.Nat.{ℕ, _+_}
 use native.Mathlib.Omega.{arith}
 use mathlib.Core.Path.{_≡_}

@@ -1,11 +1,12 @@
--- Tests to facts: what a test over a list or over the numbers below a bound says of each; and one turn of such a test.
+-- Tests to facts: what a test over a list or over the numbers below a bound says of each; and one turn of such a test. Each is one recursion or
+-- one turn of it: a test of all tests one, and then the rest.
 use Prim.Native.Nat.{ℕ, zero, suc, _+_, _-_, _≤_, _<_, zero-le}
 use native.Mathlib.Numerals.{sub-one, add-one}
 use native.Mathlib.Nat.{zero-add, add-zero}
 use native.Mathlib.Omega.{arith}
 use native.Mathlib.Decide.{ℕ-discrete}
 use mathlib.Core.Path.{_≡_, refl, sym, ap, _∙_}
-use mathlib.Core.Bool.{Bool, true, false, _&&_, and-true, and-assoc, false≢true}
+use mathlib.Core.Bool.{Bool, true, false, _&&_, and-true, and-assoc, and-eq-true-iff}
 use mathlib.Core.List.{List, [], _∷_, List·Memᴰ, List·Memᴰ·head, List·Memᴰ·tail}
 use lib.ListN.{length, getD, drop, drop-of-length-le}
 use lib.Seq.{slice, slice-cons, drop-cons, take-length}
@@ -24,16 +25,8 @@ is-eqb x w y e q = eq-eqb w y (sym e ∙ q)
 pub not-eqb : (x w y : ℕ) → x ≡ w → (x ≡ y → ⊥) → eqb w y ≡ false
 not-eqb x w y e ne = ne-eqb w y (λ q. ne (e ∙ q))
 
-pub and-left : (a b : Bool) → (a && b) ≡ true → a ≡ true
-and-left true b e = refl
-and-left false b e = e
-
-pub and-right : (a b : Bool) → (a && b) ≡ true → b ≡ true
-and-right true b e = e
-and-right false b e = absurd (false≢true cc)
-
 pub both : {a b : Bool} → (a && b) ≡ true → (a ≡ true) × (b ≡ true)
-both {a} {b} e = (and-left a b e, and-right a b e)
+both {a} {b} e = and-eq-true-iff a b .0 e
 
 -- a test and then the others
 pub then-and : (a b : Bool) → (elim a [ true ↦ b | false ↦ false ]) ≡ (a && b)

@@ -1,4 +1,5 @@
--- A test says the same however it is turned: what lets a proof stand on the fact that a test tells, and not on how the test is written.
+-- A test says the same however it is turned: what lets a proof stand on the fact that a test tells, and not on how the test is written. It holds
+-- because a test passes exactly where its fact holds.
 use Prim.Native.Nat.{ℕ}
 use mathlib.Core.Path.{_≡_, sym, _∙_}
 use mathlib.Core.Bool.{Bool, true, false, not}

@@ -1,6 +1,6 @@
 -- Runs of stores: `sets l i vs` is l with vs stored one after the other from place i on. Two runs that follow one another are one run, and
 -- words that are put into a list are a run of stores. All by recursion on the words stored.
-use Prim.Native.Nat.{ℕ, suc, _+_, _-_, _≤_}
+use Prim.Native.Nat.{ℕ, suc, _+_, _≤_}
 use mathlib.Core.Path.{_≡_, sym, ap, _∙_}
 use mathlib.Core.List.{List, [], _∷_, _++_, append-nil}
 use native.Mathlib.Nat.{add-zero, zero-add}

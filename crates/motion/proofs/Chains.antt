@@ -1,4 +1,5 @@
--- Walks along chains and over regions, a turn by what the calls ensure: what is done with a page, the page that opens a region's chain.
+-- Walks along chains and over regions, a turn by what the calls ensure: what is done with a page, the page that opens a region's chain. With what
+-- the calls ensure, the definition computes.
 use Prim.Native.Nat.{ℕ, suc, _+_, _-_, _*_, _/_, _^_, _<_}
 use mathlib.Core.Path.{_≡_}
 use mathlib.Core.List.{List}

@@ -1,4 +1,4 @@
--- What the tests of the leaves say as facts.
+-- What the tests of the leaves say as facts. Each is one of the tests that `apart` joins.
 use Prim.Native.Nat.{ℕ, _+_, _≤_}
 use mathlib.Core.Path.{_≡_, refl, sym, _∙_}
 use mathlib.Core.Logic.{_⊎_, inl, inr}

@@ -9,7 +9,7 @@ use Rattle.rules.specs.Memory.{link, setLink, setOrigin, regionOrigin}
 use Rattle.rules.specs.Refusals.{Admitted}
 use Rattle.rules.specs.Pages.{lastIf, takePage}
 use Rattle.rules.proofs.Limits.{Inside, page-inside}
-use Rattle.rules.proofs.Pages.{take-some}
+use Rattle.rules.proofs.Pages.{taken, takes}
 use Rattle.pages.specs.Taking.{PageFree, runOf}
 
 -- k is the first free page
@@ -29,4 +29,5 @@ page-free h t r k c a ne =
 pub took : (h t : List ℕ) (c : Control) (j k f l m : ℕ) → 0 < c .first → k ≡ c .first - 1
     → f ≡ link (c .n) h k → l ≡ lastIf (c .count - 1) (c .last) → m ≡ c .count - 1
     → some (k, record { heap = setOrigin (c .n) (setLink (c .n) h k 0) k (regionOrigin j); table = t; first = f; last = l; count = m; stack = [] }) ≡ takePage (c .n) j (runOf h t c)
-took h t c j k f l m b qk qf ql qm = rw (take-some (c .n) j (runOf h t c) b, qf, ql, qm, qk)
+unfolding taken
+took h t c j k f l m b qk qf ql qm = rw (takes (c .n) j k (runOf h t c) (omega arith), qf, ql, qm)

@@ -24,7 +24,7 @@ use Rattle.rules.specs.Image.{Written, writeImage, readImage}
 use Rattle.rules.specs.Order.{Test, First, numbers, Numbers, Refusing, onPlain, onValued, onOpened, onText, toPlain, toValued, toTold, toWorded, toNumbered, setUpTests, pushTests, popTests, allocateTests, fetchTests, assignTests, setRootTests, walkTests, auditTests, dueTests, usedTests, pageTests, collectTests, writeTests, readTests, wordTests, numberTests}
 use Rattle.rules.proofs.Order.{the-numbers}
 use Rattle.promises.proofs.Ordered.{first-number, Lawful, exactly}
-use Rattle.promises.proofs.Outcomes.{set-up-lawful, push-lawful, pop-lawful, allocate-lawful, fetch-lawful, fetch-empty, fetch-there, assign-lawful, set-root-lawful, walk-lawful, audit-lawful, due-lawful, used-lawful, page-lawful, page-empty, page-there, collect-lawful, write-lawful, read-lawful, word-lawful, number-lawful}
+use Rattle.promises.proofs.Outcomes.{set-up-lawful, push-lawful, pop-lawful, allocate-lawful, fetch-lawful, fetch-hands, assign-lawful, set-root-lawful, walk-lawful, audit-lawful, due-lawful, used-lawful, page-lawful, page-hands, collect-lawful, write-lawful, read-lawful, word-lawful, number-lawful}
 
 -- two outcomes are one: the answer, and every lent word
 pub record SameOutcome {A : Type 0} (o p : Outcome A) : Type 0 where
@@ -157,9 +157,9 @@ demand1 = record {
   of-read = λ text heap table roots consts. refuses (read-lawful text heap table roots consts);
   of-word = λ i. refuses (word-lawful i);
   of-number = λ w. refuses (number-lawful w);
-  no-value = fetch-empty;
-  some-value = fetch-there;
-  no-page = page-empty;
-  the-page = page-there;
+  no-value = λ s w. fetch-hands s w .nothing;
+  some-value = λ s w. fetch-hands s w .there;
+  no-page = λ s k. page-hands s k .nothing;
+  the-page = λ s k. page-hands s k .there;
   paper = the-numbers;
 }

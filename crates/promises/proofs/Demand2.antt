@@ -32,8 +32,8 @@ use Rattle.rules.specs.Left.{leftPlain, leftOpened}
 use Rattle.rules.specs.Wanted.{wanted}
 use Rattle.rules.proofs.Left.{left-leaving}
 use Rattle.facts.proofs.Sound.{Sound}
-use Rattle.facts.proofs.Judged.{judged-collects}
-use Rattle.facts.proofs.Passing.{judged-sound, audit-yes}
+use Rattle.rules.proofs.Judged.{audit-yes, judged-collects}
+use Rattle.facts.proofs.Passing.{judged-sound}
 use Rattle.facts.proofs.Observing.{used-is}
 use Rattle.working.proofs.Running.{Collects, runs-dry, runs-through, collects}
 use Rattle.working.proofs.Ending.{left-store}
@@ -88,14 +88,14 @@ pages-of s s′ S e = go (collects s S)
     go : Collects s S → Pages s s′
     go (runs-dry q R) = let t = ap (λ (o : Outcome Plain). o .answer) (sym q ∙ e) in absurd (false≢true cc)
     go (runs-through roots r q A) =
-        let t : left-store s S roots r A ≡ s′ = sym (left-leaving _) ∙ ap leftPlain (sym (q ∙ ran-leaves s S roots r A) ∙ e) ∙ left-leaving s′ in
-        rw t at (done-pages s S roots r A)
+        let t : left-store A ≡ s′ = sym (left-leaving _) ∙ ap leftPlain (sym (q ∙ ran-leaves A) ∙ e) ∙ left-leaving s′ in
+        rw t at (done-pages A)
 
 pub demand2 : Demand2
 demand2 = record {
-  lacks = λ s e. rw (judged-collects s (s .ctl) (sym e)) (refused-wants s (judged-sound s (s .ctl) (sym e)));
+  lacks = λ s e. rw (judged-collects s (sym e)) (refused-wants s (judged-sound s (s .ctl) (sym e)));
   finishes = λ s s′ e f.
-      let t = pages-of s s′ (judged-sound s (s .ctl) (sym e)) (sym (judged-collects s (s .ctl) (sym e)) ∙ f) in
+      let t = pages-of s s′ (judged-sound s (s .ctl) (sym e)) (sym (judged-collects s (sym e)) ∙ f) in
       (t .enough, sym (t .taken), t .left);
   dues = λ s l c. (ltb (3 * s .ctl .count) (pageCount (s .ctl .n) (s .heap)), unfold due in (rw (l, c)), (λ e. ltb-true _ _ e, λ b. lt-ltb _ _ b));
   uses = λ s e j b.

@@ -19,23 +19,22 @@ use Rattle.rules.specs.Memory.{Store, lent}
 use Rattle.rules.specs.Audit.{rule8}
 use Rattle.rules.specs.Refusals.{refused, leaving}
 use Rattle.rules.specs.Calls.{setUp, walk, audit, usedWords}
+use Rattle.rules.specs.Left.{leftPlain}
 use Rattle.rules.specs.Collection.{collect}
 use Rattle.rules.specs.Pages.{Run}
 use Rattle.rules.specs.Runs.{Call, run, fresh}
 use Rattle.rules.specs.Seen.{homeIn, seen, Reached, readValue, ReadsAlike, readAt, Meet, wordsAt}
 use Rattle.rules.proofs.Seen.{reading-tells}
 use Rattle.facts.proofs.Sound.{Sound}
-use Rattle.facts.proofs.Judged.{judged-collects}
-use Rattle.facts.proofs.Passing.{judged-sound, audit-yes}
+use Rattle.rules.proofs.Judged.{audit-yes, judged-collects}
+use Rattle.facts.proofs.Passing.{meaning, judged-sound}
 use Rattle.working.proofs.Running.{Ran, runs-dry, runs-through, collects}
 use Rattle.working.proofs.Ending.{left-store}
-use Rattle.working.proofs.Collecting.{passes′, live as live-values, live-once, live-exactly, left-counts, never-more as no-more, left-reads, left-meets, ran-leaves}
-use Rattle.promises.proofs.Keeps.{fresh-run-passes}
+use Rattle.working.proofs.Collecting.{live as live-values, live-once, live-exactly, left-counts, never-more as no-more, left-reads, left-meets, ran-leaves}
+use Rattle.promises.proofs.Keeps.{collect-keeps, fresh-run-passes}
 
 -- s′ is what a finished collection of s leaves
 pub record Finished (s s′ : Store) : Type 0 where
-  -- 1. the audit answers yes afterwards
-  pub passes : audit s′ ≡ Plain.Done (s′ .ctl)
   -- 2. every path, any root number and any list of field numbers, reads the same: the same refusal, or the same number, or a value of the same
   -- kind and length, with the same numbers in its fields, and for a raw value the same words; and 4. of the same region. (`readAt` is what a
   -- fetch gives of the word that the walk answers, with its region.)
@@ -51,8 +50,10 @@ pub record Finished (s s′ : Store) : Type 0 where
   pub never-more : (j u u′ : ℕ) → usedWords s j ≡ Valued.Done u (s .ctl) → usedWords s′ j ≡ Valued.Done u′ (s′ .ctl) → u′ ≤ u
 
 pub record Demand3 : Type 0 where
-  -- a collection of a heap that passes is refused 4, with all as it was, or finishes, and nothing else
+  -- 1. a collection of a heap that passes is refused 4, with all as it was, or finishes, and nothing else;
   pub collection : (s : Store) → audit s ≡ Plain.Done (s .ctl) → (collect s ≡ refused s Refusal.NoPage) ⊎ ((s′ : Store) × (collect s ≡ leaving s′) × Finished s s′)
+  -- and in both cases the audit answers yes afterwards, of the words and the record that the collection leaves
+  pub passes : (s : Store) → audit s ≡ Plain.Done (s .ctl) → audit (leftPlain (collect s)) ≡ Plain.Done (leftPlain (collect s) .ctl)
   -- what equal readings of two values say: the same region, kind and length, the same numbers in the fields, the same raw words
   pub reading : (home home′ : ℕ) (v v′ : List ℕ) → readValue home v ≡ readValue home′ v′ → ReadsAlike home home′ v v′
   -- 6. from a fresh heap whose constants keep rule 8, any run of calls, refused ones included, each given the same lent words and its own last
@@ -62,27 +63,27 @@ pub record Demand3 : Type 0 where
       → audit (run calls (fresh n heap table roots consts c)) ≡ Plain.Done (run calls (fresh n heap table roots consts c) .ctl)
 
 -- what a run that is done leaves
-finished : (s : Store) (S : Sound s) (roots : List ℕ) (r : Run) (A : Ran s S roots r) → Finished s (left-store s S roots r A)
+finished : (s : Store) (S : Sound s) (roots : List ℕ) (r : Run) (A : Ran s S roots r) → Finished s (left-store A)
 finished s S roots r A = record {
-  passes = audit-yes _ .1 (passes′ s S roots r A);
-  reads = left-reads s S roots r A;
-  meets = left-meets s S roots r A;
-  live = live-values s S roots r A;
-  once = once-nodup (live-once s S roots r A);
-  exactly = live-exactly s S roots r A;
-  counts = λ j b. rw sum-over at (left-counts s S roots r A j b);
-  never-more = no-more s S roots r A;
+  reads = left-reads A;
+  meets = left-meets A;
+  live = live-values A;
+  once = once-nodup (live-once A);
+  exactly = live-exactly A;
+  counts = λ j b. rw sum-over at (left-counts A j b);
+  never-more = no-more A;
 }
 
 pub demand3 : Demand3
 demand3 = record {
   collection = λ s e.
       let S = judged-sound s (s .ctl) (sym e) in
-      let is = judged-collects s (s .ctl) (sym e) in
+      let is = judged-collects s (sym e) in
       elim (collects s S) [
         | runs-dry q R ↦ inl (is ∙ q)
-        | runs-through roots r q A ↦ inr (left-store s S roots r A, is ∙ q ∙ ran-leaves s S roots r A, finished s S roots r A)
+        | runs-through roots r q A ↦ inr (left-store A, is ∙ q ∙ ran-leaves A, finished s S roots r A)
       ];
+  passes = λ s e. audit-yes _ .1 (meaning _ .1 (collect-keeps s (judged-sound s (s .ctl) (sym e))));
   reading = reading-tells;
   any-run = λ n heap table roots consts c t e calls. audit-yes _ .1 (fresh-run-passes n heap table roots consts c t e calls);
 }

@@ -5,7 +5,6 @@ use mathlib.Core.Path.{_≡_, refl, ap, _∙_}
 use mathlib.Core.Bool.{true, not, false≢true}
 use mathlib.Core.List.{List}
 use borrow.Author.Tests.{eq-eqb, not-false}
-use lib.Dec.{ltb}
 use lib.ListN.{length, take, drop}
 use lib.Seq.{take-at}
 use Rattle.laws.specs.Lists.{zeros}
@@ -16,10 +15,11 @@ use Rattle.rules.specs.declared.Valued.{Valued}
 use Rattle.rules.specs.declared.Opened.{Opened}
 use Rattle.rules.specs.Memory.{Store, row}
 use Rattle.rules.specs.Refusals.{Outcome, outcome, Admitted}
-use Rattle.rules.specs.Image.{Written, imageText, refusedText, writeText, writeImage, Frames, frames, malformed, readText, storeOf, sameLengths, readStore, readOn, readImage}
+use Rattle.rules.specs.Image.{Written, imageText, writeText, writeImage, Frames, frames, malformed, readText, storeOf, sameLengths, readStore, readOn, readImage}
 use Rattle.rules.specs.Left.{leftOpened}
 use Rattle.rules.proofs.Limits.{admits}
-use Rattle.promises.proofs.KeepsGood.{admitted-keeps}
+use Rattle.promises.proofs.Ordered.{lawful-keeps}
+use Rattle.promises.proofs.Outcomes.{write-lawful}
 
 -- ---- writing
 
@@ -32,24 +32,16 @@ pub record Wrote (s : Store) (o : Written) (m : ℕ) : Type 0 where
 pub wrote : (s : Store) (bytes : List ℕ) (m : ℕ) (c : Control) → writeImage s bytes .answer ≡ Valued.Done m c → Wrote s (writeImage s bytes) m
 unfolding writeImage writeText
 wrote s bytes m c =
-    admitted-keeps Says (refusedText s bytes) s _ not-done
-    (λ p q.
-    choice-keeps Says (not (zeros (drop (row (s .ctl .regions)) (s .table)))) _ _ (λ e. not-done (Refusal.Broken 0))
-    (λ r.
-    choice-keeps Says (ltb (length bytes) (length (imageText s))) _ _ (λ e. not-done Refusal.Limits)
-    (λ e d.
+    lawful-keeps (λ (o : Written). o .answer ≡ Valued.Done m c → Wrote s o m) (write-lawful s bytes) (λ r e. absurd (false≢true cc))
+    (λ p q r f.
+    rw (p, q, r, f)
+    (λ d.
     let n : length (imageText s) ≡ m = cc in
     record {
-      admitted = admits (length (s .heap)) (length (s .table)) (length (s .roots)) (length (s .consts)) (s .ctl) p q;
+      admitted = admits (length (s .heap)) (length (s .table)) (length (s .roots)) (length (s .consts)) (s .ctl) (not-false _ p) (not-false _ q);
       cleared = not-false _ r;
       text = take-at (imageText s) (drop (length (imageText s)) bytes) m n;
-    })))
-  where
-    Says : Written → Type 0
-    Says o = o .answer ≡ Valued.Done m c → Wrote s o m
-
-    not-done : (r : Refusal) → Says (refusedText s bytes r)
-    not-done r e = absurd (false≢true cc)
+    }))
 
 -- ---- reading
 

@@ -1,9 +1,9 @@
 -- Digits, words and frames, there and back: what is written is read as it was, and what is read is what was written. By recursion on the
 -- digits and on the words; a number of m digits is its first digit and a number of the others.
-use Prim.Native.Nat.{ℕ, zero, suc, _+_, _-_, _*_, _/_, _%_, _^_, _<_}
+use Prim.Native.Nat.{ℕ, zero, suc, _+_, _*_, _/_, _%_, _^_, _<_}
 use mathlib.Core.Path.{_≡_, refl, sym, ap, _∙_}
 use mathlib.Core.Bool.{Bool, true, false, false≢true}
-use mathlib.Core.Option.{Option, none, some, Option·none-ne-some}
+use mathlib.Core.Option.{Option, none, some, Option·none-ne-some, Option·some-ne-none}
 use mathlib.Core.List.{List, [], _∷_, _++_, append-assoc}
 use native.Mathlib.Nat.{pow-succ', one-le-pow, mod-eq-of-lt, mod-lt, mul-add-div-right, mul-add-mod-self-left, mul-assoc, mul-left-comm, mul-one, mod-one, add-mul, zero-mul}
 use native.Mathlib.Omega.{arith}
@@ -11,7 +11,7 @@ use borrow.Author.Tests.{eq-eqb, eqb-true}
 use lib.Arith.{digits-lt, digits-div, mod-mul}
 use lib.Dec.{eqb}
 use lib.ListN.{length}
-use Rattle.laws.specs.Choice.{_⇒_∣_}
+use Rattle.laws.proofs.Choices.{first-chosen}
 use Rattle.rules.specs.Memory.{Small}
 use Rattle.rules.specs.Image.{digitOf, hex, hexWords, frame, valueOf, digits, words, endFrame, readWords, readFrame}
 use Rattle.rules.proofs.Digits.{value-digit, digit-value}
@@ -22,6 +22,11 @@ some-both : {A B : Type 0} {a c : A} {b d : B} → _≡_ {A = Option (A × B)} (
 some-both {A} {B} {a} {c} {b} {d} e =
     let p : _≡_ {A = A × B} (a, b) (c, d) = cc in
     (ap (λ (t : A × B). t .0) p, ap (λ (t : A × B). t .1) p)
+
+-- what was read in two steps: the first gives a, and from there the second gives b
+read-on : {A B X : Type 0} (o : Option A) (f : A → Option B) {b : B} → elim o [ none ↦ none | some a ↦ f a ] ≡ some b → ((a : A) → o ≡ some a → f a ≡ some b → X) → X
+read-on none f {b} e k = absurd (Option·none-ne-some b e)
+read-on (some a) f e k = k a refl e
 
 -- ---- a number
 
@@ -65,32 +70,35 @@ pub record Digits (m v x : ℕ) (bs rest : List ℕ) : Type 0 where
 pub hex-digits : (m v x : ℕ) (bs rest : List ℕ) → digits m v bs ≡ some (x, rest) → Digits m v x bs rest
 unfolding digits hex
 hex-digits zero v x bs rest e =
-    let (q, t) = some-both {a = v} {c = x} {b = bs} {d = rest} e in
+    let (q, t) = some-both e in
     record { number = 0; small = omega arith; value = (let o = mul-one v in omega arith); text = t }
 hex-digits (suc m) v x [] rest e = absurd (false≢true cc)
-hex-digits (suc m) v x (b ∷ bs) rest e = go (valueOf b) refl (λ d. hex-digits m (16 * v + d) x bs rest)
-  where
-    go : (o : Option ℕ) → valueOf b ≡ o → ((d : ℕ) → digits m (16 * v + d) bs ≡ some (x, rest) → Digits m (16 * v + d) x bs rest) → Digits (suc m) v x (b ∷ bs) rest
-    go none q r = absurd (Option·none-ne-some (x, rest) (sym (rw (digits, q)) ∙ e))
-    go (some d) q r =
-        let s : digits m (16 * v + d) bs ≡ some (x, rest) = sym (rw (digits, q)) ∙ e in
-        let g = r d s in
-        let y : ℕ = g .number in
-        let k = digit-value b d q in
-        let l = g .small in
-        let u = g .value in
-        let c : (d * 16 ^ m + y) / 16 ^ m % 16 ≡ d = ap (λ z. z % 16) (digits-div d l) ∙ mod-eq-of-lt (k .1) in
-        record {
-          number = d * 16 ^ m + y;
-          small = (let f = digits-lt {q = d} {m = 16} {r = y} {c = 16 ^ m} (k .1) l in let p = pow-succ' 16 m in omega arith);
-          value =
-              (let p = ap (λ z. v * z) (pow-succ' 16 m) in
-              let i = add-mul (16 * v) d (16 ^ m) in
-              let j = mul-assoc 16 v (16 ^ m) in
-              let h = mul-left-comm v 16 (16 ^ m) in
-              omega arith);
-          text = ap (λ z. z ∷ bs) (k .0) ∙ ap (λ l. digitOf d ∷ l) (g .text) ∙ sym (rw (c, hex-low m d y));
-        }
+hex-digits (suc m) v x (b ∷ bs) rest e =
+    read-on (valueOf b) _ e
+    (λ d q s.
+    let g = hex-digits m (16 * v + d) x bs rest s in
+    let y : ℕ = g .number in
+    let k = digit-value b d q in
+    let l = g .small in
+    let u = g .value in
+    let c : (d * 16 ^ m + y) / 16 ^ m % 16 ≡ d = ap (λ z. z % 16) (digits-div d l) ∙ mod-eq-of-lt (k .1) in
+    record {
+      number = d * 16 ^ m + y;
+      small = (let f = digits-lt {q = d} {m = 16} {r = y} {c = 16 ^ m} (k .1) l in let p = pow-succ' 16 m in omega arith);
+      value =
+          (let p = ap (λ z. v * z) (pow-succ' 16 m) in
+          let i = add-mul (16 * v) d (16 ^ m) in
+          let j = mul-assoc 16 v (16 ^ m) in
+          let h = mul-left-comm v 16 (16 ^ m) in
+          omega arith);
+      text = ap (λ z. z ∷ bs) (k .0) ∙ ap (λ l. digitOf d ∷ l) (g .text) ∙ sym (rw (c, hex-low m d y));
+    })
+
+digits-read : (m x : ℕ) (bs rest : List ℕ) → digits m 0 bs ≡ some (x, rest) → (x < 16 ^ m) × (bs ≡ hex m x ++ rest)
+digits-read m x bs rest e =
+    let d = hex-digits m 0 x bs rest e in
+    let q : d .number ≡ x = (let k = d .value in let z = zero-mul (16 ^ m) in omega arith) in
+    rw (← q) (d .small, d .text)
 
 -- ---- words
 
@@ -112,29 +120,22 @@ pub record Words (m : ℕ) (ws bs rest : List ℕ) : Type 0 where
 pub hex-words : (m : ℕ) (bs ws rest : List ℕ) → words m bs ≡ some (ws, rest) → Words m ws bs rest
 unfolding words hexWords
 hex-words zero bs ws rest e =
-    let (q, t) = some-both {a = []} {c = ws} {b = bs} {d = rest} e in
+    let (q, t) = some-both e in
     rw (← q) (record { count = refl; small = λ i. omega arith; text = t })
-hex-words (suc m) bs ws rest e = go (λ mid us end. hex-words m mid us end) (digits 8 0 bs) refl
-  where
-    more : ((mid us end : List ℕ) → words m mid ≡ some (us, end) → Words m us mid end) → (w : ℕ) (mid : List ℕ) → digits 8 0 bs ≡ some (w, mid) → (o : Option (List ℕ × List ℕ)) → words m mid ≡ o → Words (suc m) ws bs rest
-    more h w mid q none p = absurd (Option·none-ne-some _ (sym (rw (words, q, p)) ∙ e))
-    more h w mid q (some t) p =
-        let (a, b) = some-both {a = w ∷ t .0} {c = ws} {b = t .1} {d = rest} (sym (rw (words, q, p)) ∙ e) in
-        let d = hex-digits 8 0 w bs mid q in
-        let k = d .value in
-        let n : w ≡ d .number = omega arith in
-        let l = d .small in
-        let g = h mid (t .0) (t .1) p in
-        rw (← a, ← b)
-        (record {
-          count = ap suc (g .count);
-          small = small-cons w (t .0) (omega arith) (g .small);
-          text = d .text ∙ rw (← n, g .text, append-assoc (hex 8 w) (hexWords (t .0)) (t .1));
-        })
-
-    go : ((mid us end : List ℕ) → words m mid ≡ some (us, end) → Words m us mid end) → (o : Option (ℕ × List ℕ)) → digits 8 0 bs ≡ o → Words (suc m) ws bs rest
-    go h none q = absurd (Option·none-ne-some _ (sym (rw (words, q)) ∙ e))
-    go h (some t) q = more h (t .0) (t .1) q (words m (t .1)) refl
+hex-words (suc m) bs ws rest e =
+    read-on (digits 8 0 bs) _ e
+    (λ p q e₁.
+    read-on (words m (p .1)) _ e₁
+    (λ t r e₂.
+    let (a, b) = some-both e₂ in
+    let (l, d) = digits-read 8 (p .0) bs (p .1) q in
+    let g = hex-words m (p .1) (t .0) (t .1) r in
+    rw (← a, ← b)
+    (record {
+      count = ap suc (g .count);
+      small = small-cons (p .0) (t .0) (omega arith) (g .small);
+      text = d ∙ rw (g .text, append-assoc (hex 8 (p .0)) (hexWords (t .0)) (t .1));
+    })))
 
 -- ---- a frame
 
@@ -159,52 +160,37 @@ pub record Framed (kind : ℕ) (fits : List ℕ → Bool) (ws bs rest : List ℕ
 
 pub read-framed : (kind : ℕ) (fits : List ℕ → Bool) (bs ws rest : List ℕ) → readFrame kind fits bs ≡ some (ws, rest) → Framed kind fits ws bs rest
 unfolding readFrame readWords endFrame
-read-framed kind fits bs ws rest e = go (digits 2 0 bs) refl
+read-framed kind fits bs ws rest e =
+    read-on (digits 2 0 bs) _ e
+    (λ p q e₁.
+    let (same, e₂) = kinded (eqb (p .0) kind) _ e₁ in
+    read-on (digits 4 0 (p .1)) _ e₂
+    (λ c r e₃.
+    read-on (words (c .0) (c .1)) _ e₃
+    (λ u w e₄.
+    let (f, e₅) = first-chosen (fits (u .0)) (sym e₄) (λ z. Option·some-ne-none _ z) in
+    let (us, end) = ended (u .0) (u .1) (sym e₅) in
+    let (k, head) = digits-read 2 (p .0) bs (p .1) q in
+    let (m, count) = digits-read 4 (c .0) (p .1) (c .1) r in
+    let g = hex-words (c .0) (c .1) (u .0) (u .1) w in
+    let s = eqb-true (p .0) kind same in
+    let z = g .count in
+    rw (← us)
+    (record {
+      text = head ∙ rw (s, count, ← z, g .text, end) (sym (frame-split kind (u .0) rest));
+      words = record { small = g .small; few = omega arith };
+      passes = f;
+      kinds = omega arith;
+    }))))
   where
-    -- the newline, behind the words us
-    ended : (us tail : List ℕ) → (fits us ⇒ endFrame us tail ∣ none) ≡ some (ws, rest) → (us ≡ ws) × (fits us ≡ true) × (tail ≡ 10 ∷ rest)
-    ended us tail q = test (fits us) refl tail q
-      where
-        line : (b : ℕ) (bs : List ℕ) → fits us ≡ true → (t : Bool) → eqb b 10 ≡ t → endFrame us (b ∷ bs) ≡ some (ws, rest) → (us ≡ ws) × (fits us ≡ true) × (b ∷ bs ≡ 10 ∷ rest)
-        line b bs p true r h =
-            let (y, x) = some-both {a = us} {c = ws} {b = bs} {d = rest} (sym (rw (endFrame, r)) ∙ h) in
-            (y, p, rw (eqb-true b 10 r, x))
-        line b bs p false r h = absurd (Option·none-ne-some _ (sym (rw (endFrame, r)) ∙ h))
+    kinded : (t : Bool) (o : Option (List ℕ × List ℕ)) → _≡_ {A = Option (List ℕ × List ℕ)} (elim t [ false ↦ none | true ↦ o ]) (some (ws, rest)) → (t ≡ true) × (o ≡ some (ws, rest))
+    kinded true o h = (refl, h)
+    kinded false o h = absurd (Option·none-ne-some _ h)
 
-        test : (t : Bool) → fits us ≡ t → (tail : List ℕ) → (fits us ⇒ endFrame us tail ∣ none) ≡ some (ws, rest) → (us ≡ ws) × (fits us ≡ true) × (tail ≡ 10 ∷ rest)
-        test false p tail q = absurd (Option·none-ne-some _ (sym (rw p) ∙ q))
-        test true p [] q = absurd (Option·none-ne-some _ (sym (rw p) ∙ q))
-        test true p (b ∷ bs) q = line b bs p (eqb b 10) refl (sym (rw p) ∙ q)
-
-    bodied : (m : ℕ) (mid : List ℕ) → m < 65536 → (o : Option (List ℕ × List ℕ)) → words m mid ≡ o → readWords fits m mid ≡ some (ws, rest)
-        → Countable ws × (length ws ≡ m) × (mid ≡ hexWords ws ++ (10 ∷ rest)) × (fits ws ≡ true)
-    bodied m mid b none p q = absurd (Option·none-ne-some _ (sym (rw (readWords, p)) ∙ q))
-    bodied m mid b (some t) p q =
-        let g = hex-words m mid (t .0) (t .1) p in
-        let h = ended (t .0) (t .1) (sym (rw (readWords, p)) ∙ q) in
-        let n = g .count in
-        rw (← (h .0)) (record { small = g .small; few = omega arith }, n, g .text ∙ rw (h .2), h .1)
-
-    counted : (x : ℕ) (mid : List ℕ) → digits 2 0 bs ≡ some (x, mid) → eqb x kind ≡ true → (o : Option (ℕ × List ℕ)) → digits 4 0 mid ≡ o → Framed kind fits ws bs rest
-    counted x mid p q none r = absurd (Option·none-ne-some _ (sym (rw (readFrame, p, q, r)) ∙ e))
-    counted x mid p q (some t) r =
-        let k = hex-digits 2 0 x bs mid p in
-        let a = k .value in
-        let b = k .small in
-        let s = eqb-true x kind q in
-        let c : k .number ≡ kind = omega arith in
-        let d = hex-digits 4 0 (t .0) mid (t .1) r in
-        let v = d .value in
-        let l = d .small in
-        let n : t .0 ≡ d .number = omega arith in
-        let g = bodied (t .0) (t .1) (omega arith) (words (t .0) (t .1)) refl (sym (rw (readFrame, p, q, r)) ∙ e) in
-        let m : mid ≡ hex 4 (length ws) ++ (hexWords ws ++ (10 ∷ rest)) = d .text ∙ rw (← n, ← (g .1), g .2) in
-        record { text = k .text ∙ rw (c, m) (sym (frame-split kind ws rest)); words = g .0; passes = g .3; kinds = omega arith }
-
-    kinded : (x : ℕ) (mid : List ℕ) → digits 2 0 bs ≡ some (x, mid) → (t : Bool) → eqb x kind ≡ t → Framed kind fits ws bs rest
-    kinded x mid p false q = absurd (Option·none-ne-some _ (sym (rw (readFrame, p, q)) ∙ e))
-    kinded x mid p true q = counted x mid p q (digits 4 0 mid) refl
-
-    go : (o : Option (ℕ × List ℕ)) → digits 2 0 bs ≡ o → Framed kind fits ws bs rest
-    go none p = absurd (Option·none-ne-some _ (sym (rw (readFrame, p)) ∙ e))
-    go (some t) p = kinded (t .0) (t .1) p (eqb (t .0) kind) refl
+    -- the newline behind the words
+    ended : (us tail : List ℕ) → endFrame us tail ≡ some (ws, rest) → (us ≡ ws) × (tail ≡ 10 ∷ rest)
+    ended us [] h = absurd (Option·none-ne-some _ h)
+    ended us (b ∷ bs) h =
+        let (t, o) = first-chosen (eqb b 10) (sym h) (λ z. Option·some-ne-none _ z) in
+        let (y, x) = some-both (sym o) in
+        (y, rw (eqb-true b 10 t, x))

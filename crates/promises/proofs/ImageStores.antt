@@ -1,6 +1,6 @@
 -- A store and the frames of its image, there and back: the frames that writing makes fit, and give the store again; and the store that
--- frames give has their text. Trimming and padding undo one another, and so do cutting a heap into pages and joining them.
-use Prim.Native.Nat.{ℕ, zero, suc, _+_, _-_, _*_, _/_, _^_, _≤_, _<_}
+-- frames give has these frames. Trimming and padding undo one another, and so do cutting a heap into pages and joining them.
+use Prim.Native.Nat.{ℕ, zero, suc, _+_, _*_, _/_, _^_, _≤_, _<_}
 use mathlib.Core.Path.{_≡_, refl, sym, ap, _∙_}
 use mathlib.Core.Bool.{Bool, true, false, false≢true}
 use mathlib.Core.List.{List, [], _∷_, _++_, append-assoc}
@@ -9,8 +9,8 @@ use native.Mathlib.Omega.{arith}
 use borrow.Author.Tests.{le-leb, leb-true, not-true}
 use lib.Dec.{eqb}
 use lib.Pow.{pow-pos}
-use lib.ListN.{length, take, drop, replicate, length-append, length-take}
-use lib.Seq.{getD-drop, take-add, drop-drop, take-at, drop-at, take-length}
+use lib.ListN.{length, take, drop, replicate, length-append, length-take, drop-of-length-le}
+use lib.Seq.{drop-cons, getD-drop, take-add, drop-drop, take-at, drop-at, take-length}
 use Rattle.laws.specs.Lists.{at, padded, zeros}
 use Rattle.laws.proofs.Tests.{both}
 use Rattle.laws.proofs.Padded.{length-padded}
@@ -21,24 +21,12 @@ use Rattle.rules.proofs.FirstFrame.{limited}
 use Rattle.rules.proofs.Limits.{paged-size, whole-pages, two-pages, pages-few}
 use Rattle.rules.proofs.Frames.{trim-take, length-trim, trim-trimmed, padded-trim}
 use Rattle.promises.specs.Texts.{FrameFits, Fits, WellFormed, framesText, textOf}
-use Rattle.promises.proofs.ImageDigits.{small-cons}
 use Rattle.rules.proofs.Chains.{length-page}
 
 -- ---- words of 32 bits
 
 small-nil : Small []
 small-nil i = omega arith
-
-small-eight : (a b c d e f g h : ℕ) → a < 2 ^ 32 → b < 2 ^ 32 → c < 2 ^ 32 → d < 2 ^ 32 → e < 2 ^ 32 → f < 2 ^ 32 → g < 2 ^ 32 → h < 2 ^ 32
-    → Small (a ∷ b ∷ c ∷ d ∷ e ∷ f ∷ g ∷ h ∷ [])
-small-eight a b c d e f g h p q r s t u v w zero = p
-small-eight a b c d e f g h p q r s t u v w (suc zero) = q
-small-eight a b c d e f g h p q r s t u v w (suc (suc zero)) = r
-small-eight a b c d e f g h p q r s t u v w (suc (suc (suc zero))) = s
-small-eight a b c d e f g h p q r s t u v w (suc (suc (suc (suc zero)))) = t
-small-eight a b c d e f g h p q r s t u v w (suc (suc (suc (suc (suc zero))))) = u
-small-eight a b c d e f g h p q r s t u v w (suc (suc (suc (suc (suc (suc zero)))))) = v
-small-eight a b c d e f g h p q r s t u v w (suc (suc (suc (suc (suc (suc (suc i))))))) = small-cons h [] w small-nil i
 
 small-take : (m : ℕ) (ws : List ℕ) → Small ws → Small (take m ws)
 small-take zero ws s i = small-nil i
@@ -168,12 +156,15 @@ module _ (s : Store) (a : Admitted (length (s .heap)) (length (s .table)) (lengt
       )
 
   small-head : Words32 s → Small (headWords s)
-  small-head w =
-      let d = pages-few (s .ctl .n) (length (s .heap)) pages (a .paged) refl in
-      let r = a .roots in
-      let k = a .consts in
-      small-eight (s .ctl .n) pages (s .ctl .regions) (s .ctl .first) (s .ctl .last) (s .ctl .count) (length (s .roots)) (length (s .consts))
-      (w .n) (omega arith) (w .regions) (w .first) (w .last) (w .count) (omega arith) (omega arith)
+  small-head w zero = w .n
+  small-head w (suc zero) = let d = pages-few (s .ctl .n) (length (s .heap)) pages (a .paged) refl in omega arith
+  small-head w (suc (suc zero)) = w .regions
+  small-head w (suc (suc (suc zero))) = w .first
+  small-head w (suc (suc (suc (suc zero)))) = w .last
+  small-head w (suc (suc (suc (suc (suc zero))))) = w .count
+  small-head w (suc (suc (suc (suc (suc (suc zero)))))) = let r = a .roots in omega arith
+  small-head w (suc (suc (suc (suc (suc (suc (suc zero))))))) = let k = a .consts in omega arith
+  small-head w (suc (suc (suc (suc (suc (suc (suc (suc i)))))))) = small-nil i
 
   pub frames-fit : Words32 s → WellFormed (framesOf s)
   unfolding layout framesOf
@@ -211,16 +202,10 @@ module _ (s : Store) (a : Admitted (length (s .heap)) (length (s .table)) (lengt
 
 -- eight words are their words
 eight-words : (ws : List ℕ) → length ws ≡ 8 → at ws 0 ∷ at ws 1 ∷ at ws 2 ∷ at ws 3 ∷ at ws 4 ∷ at ws 5 ∷ at ws 6 ∷ at ws 7 ∷ [] ≡ ws
-eight-words [] e = absurd (omega arith)
-eight-words (a ∷ []) e = absurd (omega arith)
-eight-words (a ∷ b ∷ []) e = absurd (omega arith)
-eight-words (a ∷ b ∷ c ∷ []) e = absurd (omega arith)
-eight-words (a ∷ b ∷ c ∷ d ∷ []) e = absurd (omega arith)
-eight-words (a ∷ b ∷ c ∷ d ∷ x ∷ []) e = absurd (omega arith)
-eight-words (a ∷ b ∷ c ∷ d ∷ x ∷ f ∷ []) e = absurd (omega arith)
-eight-words (a ∷ b ∷ c ∷ d ∷ x ∷ f ∷ g ∷ []) e = absurd (omega arith)
-eight-words (a ∷ b ∷ c ∷ d ∷ x ∷ f ∷ g ∷ h ∷ []) e = refl
-eight-words (a ∷ b ∷ c ∷ d ∷ x ∷ f ∷ g ∷ h ∷ i ∷ ws) e = absurd (omega arith)
+eight-words ws e =
+    let d : (i : ℕ) → i < 8 → drop i ws ≡ at ws i ∷ drop (suc i) ws = λ i b. drop-cons ws i 0 (omega arith) in
+    let z : drop 8 ws ≡ [] = drop-of-length-le ws {i = 8} (omega arith) in
+    sym (d 0 (omega arith) ∙ rw (d 1 (omega arith), d 2 (omega arith), d 3 (omega arith), d 4 (omega arith), d 5 (omega arith), d 6 (omega arith), d 7 (omega arith), z))
 
 -- a part's frame again, from the part padded
 padded-back : (e : Expected) (ws : List ℕ) → FrameFits e ws → trim (padded (e .most) ws) ≡ ws
@@ -237,28 +222,26 @@ joined-length P (suc m) e [] f = absurd f
 joined-length P (suc m) e (p ∷ ps) f =
     length-append (padded P p) (joined P ps) ∙ (let a = length-padded P p in let b = joined-length P m e ps (f .1) in let c = suc-mul m P in omega arith)
 
-joined-text : (n m k : ℕ) (heap : List ℕ) (ps : List (List ℕ)) → Fits (replicate m (expected 5 (2 ^ n))) ps → drop (k * 2 ^ n) heap ≡ joined (2 ^ n) ps
-    → pageFrames n heap m k ≡ framesText (replicate m (expected 5 (2 ^ n))) ps
-unfolding joined pageFrames framesText pageWords
-joined-text n zero k heap [] f e = refl
-joined-text n zero k heap (p ∷ ps) f e = absurd f
-joined-text n (suc m) k heap [] f e = absurd f
-joined-text n (suc m) k heap (p ∷ ps) f e =
+-- a heap of pages joined has these pages
+joined-pages : (n m k : ℕ) (heap : List ℕ) (ps : List (List ℕ)) → Fits (replicate m (expected 5 (2 ^ n))) ps → drop (k * 2 ^ n) heap ≡ joined (2 ^ n) ps → pagesOf n heap m k ≡ ps
+unfolding joined pagesOf pageWords
+joined-pages n zero k heap [] f e = refl
+joined-pages n zero k heap (p ∷ ps) f e = absurd f
+joined-pages n (suc m) k heap [] f e = absurd f
+joined-pages n (suc m) k heap (p ∷ ps) f e =
     let P : ℕ = 2 ^ n in
     let w : pageWords n heap k ≡ padded P p = ap (take P) e ∙ take-at (padded P p) (joined P ps) P (length-padded P p) in
     let d : drop (suc k * P) heap ≡ joined P ps =
     ap (λ x. drop x heap) (suc-mul k P) ∙ sym (drop-drop P (k * P) heap) ∙ ap (drop P) e ∙ drop-at (padded P p) (joined P ps) P (length-padded P p) in
-    ap (λ x. frame 5 (trim x) ++ pageFrames n heap m (suc k)) w
-    ∙ ap (λ x. frame 5 x ++ pageFrames n heap m (suc k)) (padded-back (expected 5 P) p (f .0))
-    ∙ ap (λ t. frame 5 p ++ t) (joined-text n m (suc k) heap ps (f .1) d)
+    rw (w, padded-back (expected 5 P) p (f .0), joined-pages n m (suc k) heap ps (f .1) d)
 
-pub text-back : (fs : List (List ℕ)) → WellFormed fs → imageText (storeOf fs) ≡ textOf fs
-unfolding imageText textOf framesText layout
-text-back [] f = absurd f
-text-back (head ∷ []) f = absurd (f .1)
-text-back (head ∷ t ∷ []) f = absurd (f .1 .1)
-text-back (head ∷ t ∷ r ∷ []) f = absurd (f .1 .1 .1)
-text-back (head ∷ t ∷ r ∷ k ∷ ps) f =
+frames-back : (fs : List (List ℕ)) → WellFormed fs → framesOf (storeOf fs) ≡ fs
+unfolding layout framesOf
+frames-back [] f = absurd f
+frames-back (head ∷ []) f = absurd (f .1)
+frames-back (head ∷ t ∷ []) f = absurd (f .1 .1)
+frames-back (head ∷ t ∷ r ∷ []) f = absurd (f .1 .1 .1)
+frames-back (head ∷ t ∷ r ∷ k ∷ ps) f =
     let l = limited head (f .0 .fits) in
     let P : ℕ = 2 ^ at head 0 in
     let g = l .regions in
@@ -267,7 +250,6 @@ text-back (head ∷ t ∷ r ∷ k ∷ ps) f =
     let rs : trim (take (row (at head 2)) (padded 256 t)) ≡ t =
     ap trim (take-padded (row (at head 2)) 256 t (omega arith)) ∙ padded-back (expected 2 (row (at head 2))) t (f .1 .0) in
     let z : drop (0 * P) (joined P ps) ≡ joined P ps = ap (λ x. drop x (joined P ps)) (zero-mul P) in
-    let pt = joined-text (at head 0) (at head 1) 0 (joined P ps) ps (f .1 .1 .1 .1) z in
     rw (
       N,
       length-padded (at head 6) r,
@@ -276,6 +258,8 @@ text-back (head ∷ t ∷ r ∷ k ∷ ps) f =
       rs,
       padded-back (expected 3 (at head 6)) r (f .1 .1 .0),
       padded-back (expected 4 (at head 7)) k (f .1 .1 .1 .0),
-      pt,
+      joined-pages (at head 0) (at head 1) 0 (joined P ps) ps (f .1 .1 .1 .1) z,
     )
-    (simp append-assoc)
+
+pub text-back : (fs : List (List ℕ)) → WellFormed fs → imageText (storeOf fs) ≡ textOf fs
+text-back fs f = image-text (storeOf fs) ∙ ap textOf (frames-back fs f)

@@ -1,5 +1,5 @@
--- The promises about images. Each is a theorem about the definitions of writing and reading; the contracts of the two calls say that the
--- code computes these.
+-- The promises about images. Each is a theorem about the definitions of writing and reading; the contracts of the two calls say that the code
+-- computes these. They are true because writing and reading undo one another, frame by frame.
 use Prim.Native.Nat.{ℕ}
 use mathlib.Core.Path.{_≡_, sym, ap, _∙_}
 use mathlib.Core.Logic.{_↔_}

@@ -2,27 +2,27 @@
 -- and a refused call changes nothing.
 use Prim.Native.Nat.{ℕ}
 use mathlib.Core.Path.{_≡_, _∙_}
-use mathlib.Core.Bool.{true, not, false≢true}
+use mathlib.Core.Bool.{true, false≢true}
 use mathlib.Core.List.{List, [], _∷_}
-use lib.ListN.{length}
 use borrow.Author.Tests.{not-false}
-use Rattle.laws.proofs.Choices.{choice-keeps}
 use Rattle.rules.specs.declared.Control.{Control}
 use Rattle.rules.specs.declared.Opened.{Opened}
-use Rattle.rules.specs.Memory.{Store, lent, control, limits, pageCount}
+use Rattle.rules.specs.Memory.{Store, lent, control, pageCount}
 use Rattle.rules.specs.Audit.{rule8}
 use Rattle.rules.specs.Refusals.{refused}
 use Rattle.rules.specs.Calls.{setUp}
 use Rattle.rules.specs.Collection.{collected, collect}
 use Rattle.facts.proofs.Means.{constants-of}
+use Rattle.rules.proofs.Judged.{Passes, passed}
 use Rattle.facts.proofs.Passing.{meaning}
-use Rattle.facts.proofs.Sound.{Sound, Passes}
+use Rattle.facts.proofs.Sound.{Sound}
 use Rattle.working.proofs.Running.{Collects, runs-dry, runs-through, collects}
 use Rattle.working.proofs.Ending.{left-sound}
 use Rattle.working.proofs.Collecting.{ran-leaves}
 use Rattle.rules.specs.Left.{recordOpened, leftPlain, leftOpened}
 use Rattle.rules.specs.Runs.{Call, aPush, aPop, aCollect, anAudit, aDue, anAllocate, aFetch, aFetchRefusal, anAssign, aSetRoot, aSetUp, aWalk, aUsedWords, aPage, aPageRefusal, aWordOfNumber, aNumberOfWord, aWriteImage, after, run, fresh}
-use Rattle.promises.proofs.KeepsGood.{audited-keeps}
+use Rattle.promises.proofs.Ordered.{lawful-keeps}
+use Rattle.promises.proofs.Outcomes.{set-up-lawful}
 use Rattle.promises.proofs.KeepsFields.{set-root-keeps, assign-keeps}
 use Rattle.promises.proofs.KeepsPush.{push-keeps}
 use Rattle.promises.proofs.KeepsAllocate.{allocate-keeps}
@@ -35,29 +35,30 @@ pub set-up-passes : (n : ℕ) (heap table roots consts : List ℕ) (c : Control)
     → setUp n heap table roots consts .answer ≡ Opened.Done c → Passes (fresh n heap table roots consts c)
 unfolding setUp
 set-up-passes n heap table roots consts c t =
-    choice-keeps (λ o. o .answer ≡ Opened.Done c → Passes (leftOpened o c)) (not (limits n (length heap) (length table) (length roots) (length consts))) _ _
-    (λ q e. absurd (false≢true cc))
-    (λ q e.
+    lawful-keeps (λ o. o .answer ≡ Opened.Done c → Passes (leftOpened o c)) (set-up-lawful n heap table roots consts) (λ r e. absurd (false≢true cc))
+    (λ q.
+    rw q
+    (λ e.
     let x : control n 0 1 (pageCount n heap) (pageCount n heap) ≡ c = cc in
-    rw (← x) (meaning _ .1 (set-up-sound n (lent heap table roots consts c) (not-false _ q) (constants-of (lent heap table roots consts c) t))))
+    rw (← x) (meaning _ .1 (set-up-sound n (lent heap table roots consts c) (not-false _ q) (constants-of (lent heap table roots consts c) t)))))
 
 -- setting up again is done, on the constants of a sound heap, or refused
 pub set-up-keeps : (n : ℕ) (s : Store) → Sound s → Sound (after (aSetUp n) s)
 unfolding setUp
 set-up-keeps n s S =
-    choice-keeps (λ o. Sound (leftOpened o (recordOpened (s .ctl) (o .answer)))) (not (limits n (length (s .heap)) (length (s .table)) (length (s .roots)) (length (s .consts)))) _ _
-    (λ q. S) (λ q. set-up-sound n s (not-false _ q) (S .consts))
+    lawful-keeps (λ o. Sound (leftOpened o (recordOpened (s .ctl) (o .answer)))) (set-up-lawful n (s .heap) (s .table) (s .roots) (s .consts)) (λ r. S)
+    (λ q. rw q (set-up-sound n s (not-false _ q) (S .consts)))
 
 -- ---- each call
 
 -- a collection is done and leaves a sound heap, or is refused
 pub collect-keeps : (s : Store) → Sound s → Sound (leftPlain (collect s))
 unfolding collect
-collect-keeps s S = audited-keeps (λ o. Sound (leftPlain o)) (refused s) s (collected s) (λ r. S) (λ l c b. go (collects s S))
+collect-keeps s S = rw (passed s (meaning s .1 S) (refused s) (collected s)) (go (collects s S))
   where
     go : Collects s S → Sound (leftPlain (collected s))
     go (runs-dry e R) = rw e S
-    go (runs-through roots r e A) = rw (e ∙ ran-leaves s S roots r A) (left-sound s S roots r A)
+    go (runs-through roots r e A) = rw (e ∙ ran-leaves A) (left-sound A)
 
 pub call-keeps : (c : Call) (s : Store) → Sound s → Sound (after c s)
 call-keeps aPush s S = push-keeps s S

@@ -5,44 +5,36 @@ use native.Mathlib.Nat.{le-refl}
 use native.Mathlib.Omega.{arith}
 use native.Mathlib.Decide.{ℕ-discrete}
 use mathlib.Core.Path.{_≡_, refl, sym, ap, _∙_, subst}
-use mathlib.Core.Logic.{_≢_, _⊎_, inl, inr}
+use mathlib.Core.Logic.{_⊎_, inl, inr}
 use mathlib.Core.Bool.{Bool, true, false, not}
 use mathlib.Core.List.{List, [], _++_, List·Memᴰ}
 use lib.ListN.{length}
 use lib.Dec.{eqb}
 use borrow.Author.Tests.{not-true, not-false, eqb-false}
 use Rattle.laws.specs.Lists.{at, all}
-use Rattle.laws.proofs.Choices.{choice-keeps}
 use Rattle.laws.proofs.Tests.{both, all-in, below-in}
 use Rattle.laws.proofs.Facts.{all-at}
 use Rattle.rules.specs.Memory.{Store, lent, pageCount, origin, setRow, regionPages}
-use Rattle.rules.specs.Words.{inHeap, wordOf, pageVals, fieldsPass, isRecord}
-use Rattle.rules.specs.Refusals.{refused, Paged}
+use Rattle.rules.specs.Words.{inHeap, wordOf, pageVals, fieldsPass}
 use Rattle.rules.specs.Pages.{Run, begun, recordAfter, giveBackAll}
 use Rattle.rules.specs.Calls.{pointsInto, letGo, popOn, popTop, pop}
 use Rattle.rules.proofs.Limits.{within-same}
-use Rattle.rules.proofs.Steps.{Stands, Steps}
 use Rattle.facts.proofs.Laid.{Owner, old, Layout, chain-body, chain-known, rows-laid}
 use Rattle.facts.proofs.Aged.{aged, aged-below, aged-from, aged-laid}
 use Rattle.facts.proofs.Given.{spared, GivenAll, given-all, given-chained}
 use Rattle.facts.proofs.Filled.{fields-in}
 use Rattle.facts.proofs.Framed.{chain-below}
-use Rattle.facts.proofs.Goods.{body-listed, page-at}
-use Rattle.facts.proofs.Passing.{pages-are}
-use Rattle.facts.proofs.Sound.{InHeap, Good, Chained, in-free, in-region, Sound, one-region}
-use Rattle.working.proofs.Fresh.{row-width, row-else, row-end, row-first, row-top, row-status}
+use Rattle.facts.proofs.Goods.{body-listed}
+use Rattle.facts.proofs.Inside.{page-at}
+use Rattle.facts.proofs.Passing.{meaning, pages-are}
+use Rattle.facts.proofs.Sound.{InHeap, Good, Chained, in-free, in-region, EachField, Sound, one-region}
+use Rattle.rules.proofs.Rows.{row-width, row-else, row-end, row-first, row-top, row-status}
 use Rattle.rules.specs.Left.{leftPlain}
-use Rattle.promises.proofs.KeepsGood.{audited-keeps, FieldWas, behind, before, good-kept, field-was}
+use Rattle.promises.proofs.Ordered.{lawful-keeps}
+use Rattle.promises.proofs.Outcomes.{pop-lawful}
+use Rattle.promises.proofs.KeepsGood.{KeepsWords, good-kept, field-kept}
 
 -- ---- a region that is not held
-
--- a good pointer that does not point into region j names another
-pub other-region : (n R : ℕ) (heap : List ℕ) → Paged n (length heap) → (j w a : ℕ) (p : InHeap n R heap a) → wordOf w ≡ inHeap a → pointsInto n heap j w ≡ false
-    → p .region ≢ j
-unfolding pointsInto origin
-other-region n R heap g j w a p e t q =
-    let o : eqb (at heap (a / 2 ^ n * 2 ^ n + 1)) (suc j) ≡ false = rw (pointsInto, e) at t in
-    eqb-false (at heap (a / 2 ^ n * 2 ^ n + 1)) (suc j) o (ap (λ m. at heap (m * 2 ^ n + 1)) (page-at n R heap g a p) ∙ p .whose ∙ ap suc q)
 
 module _ (s : Store) (S : Sound s) (j : ℕ) (top : s .ctl .regions ≡ suc j) (free : letGo (s .ctl .n) (s .heap) (s .table) (s .roots) j ≡ true) where
   abbrev n : ℕ
@@ -66,7 +58,7 @@ module _ (s : Store) (S : Sound s) (j : ℕ) (top : s .ctl .regions ≡ suc j) (
   jR : j < R
   jR = omega arith
 
-  pub below-R : (i : ℕ) → i < j → i < R
+  below-R : (i : ℕ) → i < j → i < R
   below-R i b = omega arith
 
   -- without the top region
@@ -80,7 +72,7 @@ module _ (s : Store) (S : Sound s) (j : ℕ) (top : s .ctl .regions ≡ suc j) (
   r′ = giveBackAll n (S .pages j) (begun s)
 
   G : GivenAll n N j own° (S .fin) (S .pages) (S .free) (S .pages j) (begun s) r′
-  G = given-all n N j (S .fin) (S .pages) (S .pages j) (S .laid .mine-once j jR) own° (S .free) (begun s) L° its
+  G = given-all (S .laid .mine-once j jR) L° its
 
   abbrev own′ : ℕ → Owner
   own′ = spared own° (S .pages j)
@@ -102,52 +94,55 @@ module _ (s : Store) (S : Sound s) (j : ℕ) (top : s .ctl .regions ≡ suc j) (
       rows-laid (G .laid) j (le-refl j) table′ [] (let a = width in let b = S .regions in let w = S .within .table in omega arith)
       (λ i x b lo hi. row-else (r′ .table) j 0 0 0 0 x (inl (omega arith)))
 
-  pub long : length (r′ .heap) ≡ length (s .heap)
-  long = G .laid .size ∙ sym (S .laid .size)
-
   -- the pages of the other regions are not given back
   not-its : (i k : ℕ) → i < j → List·Memᴰ k (S .pages i) → List·Memᴰ k ks → ⊥
-  not-its i k b m m′ = let e = one-region s S i j k (below-R i b) jR m m′ in omega arith
+  not-its i k b m m′ = let e = one-region S i j k (below-R i b) jR m m′ in omega arith
 
-  pub keeps : (i k x : ℕ) → i < R → i < j → List·Memᴰ k (S .pages i) → k * P < x → x < S .fin k → at (s .heap) x ≡ at (r′ .heap) x
-  keeps i k x b c m p q =
-      let hi = chain-body (S .laid) i k b m .inside in
-      G .like k (not-its i k c m) .word x p (omega arith)
+  pub keeps : KeepsWords s S j (r′ .heap)
+  keeps =
+      record {
+        long = G .laid .size ∙ sym (S .laid .size);
+        words = λ i k x b c m p q. let hi = chain-body (S .laid) i k b m .inside in G .like k (not-its i k c m) .word x p (omega arith);
+      }
+
+  -- a good pointer that does not point into region j names one below it
+  pub lower-region : (w a : ℕ) (p : InHeap n R (s .heap) a) → wordOf w ≡ inHeap a → pointsInto n (s .heap) j w ≡ false → p .region < j
+  unfolding pointsInto origin
+  lower-region w a p e t =
+      let o : eqb (at (s .heap) (a / P * P + 1)) (suc j) ≡ false = rw (pointsInto, e) at t in
+      let f = eqb-false (at (s .heap) (a / P * P + 1)) (suc j) o in
+      let w : at (s .heap) (a / P * P + 1) ≡ suc (p .region) = ap (λ m. at (s .heap) (m * P + 1)) (page-at (p .value)) ∙ p .whose in
+      let b = p .known in
+      omega arith
 
   -- a good word that does not point into region j stays good
   pub good′ : (w : ℕ) → pointsInto n (s .heap) j w ≡ false → Good n R (s .heap) (s .consts) w → Good n j (r′ .heap) (s .consts) w
-  good′ w t g =
-      good-kept s S j (r′ .heap) long keeps w
-      (λ a p e. let ne = other-region n R (s .heap) (S .within .paged) j w a p e t in let b = p .known in omega arith) g
+  good′ w t g = good-kept keeps w (λ a p e. lower-region w a p e t) g
 
-  abbrev pub out : ℕ → Bool
+  abbrev out : ℕ → Bool
   out w = not (pointsInto n (s .heap) j w)
 
-  pub roots-out : all out (s .roots) ≡ true
+  -- no root does
+  pub root-out : (i : ℕ) → i < length (s .roots) → pointsInto n (s .heap) j (at (s .roots) i) ≡ false
   unfolding letGo
-  roots-out = both {a = all out (s .roots)} free .0
+  root-out i b = not-true _ (all-at out (s .roots) (both {a = all out (s .roots)} free .0) i b)
 
   -- nor does a field of another region's record
-  pub field-out : (i k a l t : ℕ) → i < j → List·Memᴰ k (S .pages i) → Steps (s .heap) (k * P + P) (k * P + 2) a → Stands (s .heap) (k * P + P) a l
-      → isRecord (at (s .heap) a) ≡ true → t < l → pointsInto n (s .heap) j (at (s .heap) (a + suc t)) ≡ false
+  pub field-out : EachField n j (s .heap) (S .pages) (λ w. pointsInto n (s .heap) j w ≡ false)
   unfolding letGo
-  field-out i k a l t b m r st rec q =
+  field-out i k a l t b m v rec q =
       let there = chain-known (S .laid) i (below-R i b) k m in
       let (_, z) = both {a = all out (s .roots)} free in
       let u = below-in (λ i. all (λ k. all (fieldsPass out) (pageVals n (s .heap) k)) (regionPages n (s .heap) (s .table) i)) j z i b in
-      let v = all-in (λ k. all (fieldsPass out) (pageVals n (s .heap) k)) (regionPages n (s .heap) (s .table) i) u k (rw (pages-are s S i (below-R i b)) m) in
+      let w = all-in (λ k. all (fieldsPass out) (pageVals n (s .heap) k)) (regionPages n (s .heap) (s .table) i) u k (rw (pages-are S i (below-R i b)) m) in
       not-true (pointsInto n (s .heap) j (at (s .heap) (a + suc t)))
-      (fields-in out (s .heap) (k * P + P) r (body-listed n (s .heap) (S .within .paged) k there) st rec v t q)
+      (fields-in out (s .heap) (k * P + P) (v .steps) (body-listed n (s .heap) (S .within .paged) k there) (v .stands) rec w t q)
 
-  fields′ : (i k a l t : ℕ) → i < j → List·Memᴰ k (S .pages i) → Steps (r′ .heap) (k * P + P) (k * P + 2) a → Stands (r′ .heap) (k * P + P) a l
-      → isRecord (at (r′ .heap) a) ≡ true → t < l → Good n j (r′ .heap) (s .consts) (at (r′ .heap) (a + suc t))
-  fields′ i k a l t b m r st rec q = go (field-was s S j (r′ .heap) long keeps i k a l t (below-R i b) b m r st rec q)
-    where
-      go : FieldWas s S (r′ .heap) k a l t → Good n j (r′ .heap) (s .consts) (at (r′ .heap) (a + suc t))
-      go (behind e) =
-          let u = chain-below (G .laid) i k b m r st in
-          absurd (omega arith)
-      go (before r₀ st₀ rec₀ e g) = rw e (good′ _ (field-out i k a l t b m r₀ st₀ rec₀ q) g)
+  fields′ : EachField n j (r′ .heap) (S .pages) (Good n j (r′ .heap) (s .consts))
+  fields′ i k a l t b m v rec q =
+      field-kept keeps i k a l t (below-R i b) b m v rec q
+      (λ e. let u = chain-below (G .laid) i b m v in absurd (omega arith))
+      (λ v₀ rec₀ g. good′ _ (field-out i k a l t b m v₀ rec₀ q) g)
 
   -- ---- whose each page is now
 
@@ -179,7 +174,7 @@ module _ (s : Store) (S : Sound s) (j : ℕ) (top : s .ctl .regions ≡ suc j) (
   pub pop-sound : Sound s′
   pop-sound =
       record {
-        within = within-same long width refl refl (S .within);
+        within = within-same (keeps .long) width refl refl (S .within);
         own = own′;
         fin = S .fin;
         pages = S .pages;
@@ -187,10 +182,10 @@ module _ (s : Store) (S : Sound s) (j : ℕ) (top : s .ctl .regions ≡ suc j) (
         regions = let a = S .regions in omega arith;
         past = past′;
         idle = λ i b. else (4 * i + 3) (inl (omega arith)) ∙ S .idle i (below-R i b);
-        laid = rw long laid;
-        chained = rw long chained′;
+        laid = rw (keeps .long) laid;
+        chained = rw (keeps .long) chained′;
         fields = fields′;
-        roots = λ i b. good′ _ (not-true _ (all-at out (s .roots) roots-out i b)) (S .roots i b);
+        roots = λ i b. good′ _ (root-out i b) (S .roots i b);
         consts = S .consts;
       }
 
@@ -199,15 +194,12 @@ pub pop-leaves : (Q : Store → Type 0) (s : Store) (S : Sound s) → Q s
     → ((j : ℕ) (top : s .ctl .regions ≡ suc j) (free : letGo (s .ctl .n) (s .heap) (s .table) (s .roots) j ≡ true) → Q (s′ s S j top free)) → Q (leftPlain (pop s))
 unfolding pop popTop popOn
 pop-leaves Q s S stays popped =
-    audited-keeps (λ o. Q (leftPlain o)) (refused s) s _ (λ r. stays)
-    (λ l c b.
-    choice-keeps (λ o. Q (leftPlain o)) (eqb (s .ctl .regions) 0) _ _ (λ e. stays)
-    (λ e₁.
+    lawful-keeps (λ o. Q (leftPlain o)) (pop-lawful s) (λ r. stays)
+    (λ l c b e₁ e₂.
     let j : ℕ = s .ctl .regions - 1 in
     let ne = eqb-false (s .ctl .regions) 0 e₁ in
     let top : s .ctl .regions ≡ suc j = omega arith in
-    choice-keeps (λ o. Q (leftPlain o)) (not (letGo (s .ctl .n) (s .heap) (s .table) (s .roots) j)) _ _ (λ e. stays)
-    (λ e₂. rw (pages-are s S j (omega arith)) (popped j top (not-false _ e₂)))))
+    rw (l, c, meaning s .1 S .unbroken, e₁, e₂, pages-are S j (omega arith)) (popped j top (not-false _ e₂)))
 
 pub pop-keeps : (s : Store) → Sound s → Sound (leftPlain (pop s))
 pop-keeps s S = pop-leaves Sound s S S (pop-sound s S)

@@ -1,31 +1,31 @@
 -- Pushing a region keeps a heap sound: the page taken becomes the only page of a new region, holds no value, and no other page changes.
-use Prim.Native.Nat.{ℕ, suc, _+_, _-_, _*_, _^_, _<_}
+use Prim.Native.Nat.{ℕ, suc, _+_, _*_, _^_, _<_}
 use native.Mathlib.Nat.{eq-or-lt-of-le}
 use native.Mathlib.Omega.{arith}
 use mathlib.Core.Path.{_≡_, refl, sym, ap, _∙_, subst}
 use mathlib.Core.Logic.{_≢_, _⊎_, inl, inr}
-use mathlib.Core.Bool.{true, false, not}
+use mathlib.Core.Bool.{false}
 use mathlib.Core.List.{List, [], _∷_, List·Memᴰ, List·Memᴰ·eq-of-singleton}
 use lib.ListN.{length}
-use lib.Dec.{leb, eqb}
+use lib.Dec.{eqb}
 use borrow.Author.Tests.{leb-false, eqb-false}
 use Rattle.laws.specs.Lists.{at}
-use Rattle.laws.proofs.Choices.{choice-keeps}
 use Rattle.rules.specs.Memory.{Store, lent, pageCount, pageEnd, pageAddress, bodyAddress, statusOf, setRow}
-use Rattle.rules.specs.Words.{isRecord}
-use Rattle.rules.specs.Refusals.{refused}
-use Rattle.rules.specs.Pages.{Run, begun, recordAfter, linkFits}
+use Rattle.rules.specs.Pages.{Run, begun, recordAfter}
 use Rattle.rules.specs.Calls.{pushOn, push}
 use Rattle.rules.proofs.Limits.{within-same}
-use Rattle.rules.proofs.Steps.{Stands, Steps, steps-le}
-use Rattle.facts.proofs.Laid.{spare≢mine, upd, upd-same, upd-other, Owner, old, spare, mine, Layout, chain-body, chain-apart, first-spare, first-is}
+use Rattle.rules.proofs.Steps.{steps-le}
+use Rattle.facts.proofs.Laid.{spare≢mine, upd, upd-same, upd-other, Owner, spare, mine, Layout, chain-body, chain-apart, first-spare, first-is}
 use Rattle.facts.proofs.Framed.{below-fin, chain-below}
-use Rattle.facts.proofs.Sound.{Good, Sound}
+use Rattle.facts.proofs.Sound.{Good, EachField, Sound}
 use Rattle.working.proofs.Owned.{sound-owned, Owned, taken-old, owned-chained}
-use Rattle.working.proofs.Taken.{taken, takes, taken-laid, others}
+use Rattle.working.proofs.Taken.{taken-laid, others}
 use Rattle.rules.specs.Left.{leftPlain}
 use Rattle.working.proofs.OneMore.{same-width, else-row, status-new, status-else, own-new, pages-new, pages-old, region-laid, region-owned}
-use Rattle.promises.proofs.KeepsGood.{admitted-keeps, FieldWas, behind, before, good-kept, field-was, not-old}
+use Rattle.promises.proofs.Ordered.{lawful-keeps}
+use Rattle.promises.proofs.Outcomes.{push-lawful}
+use Rattle.promises.proofs.KeepsGood.{KeepsWords, good-kept, field-kept, not-old}
+use Rattle.rules.proofs.Pages.{taken, takes}
 
 module _ (s : Store) (S : Sound s) (k : ℕ) (ks : List ℕ) (free : S .free ≡ k ∷ ks) (below : s .ctl .regions < 64) where
   abbrev n : ℕ
@@ -59,7 +59,7 @@ module _ (s : Store) (S : Sound s) (k : ℕ) (ks : List ℕ) (free : S .free ≡
   wide = let w = S .within .table in omega arith
 
   abbrev L₁ : Layout n N R own′ fin′ (S .pages) ks r₁
-  L₁ = taken-laid n N R (S .own) (S .fin) (S .pages) k ks (begun s) L R
+  L₁ = taken-laid L R
 
   spare-k : S .own k ≡ spare
   spare-k = first-spare L
@@ -69,13 +69,13 @@ module _ (s : Store) (S : Sound s) (k : ℕ) (ks : List ℕ) (free : S .free ≡
 
   -- other rows are as they were
   abbrev else : (x : ℕ) → (x < 4 * R) ⊎ (4 * R + 3 < x) → at table′ x ≡ at (s .table) x
-  else = else-row n N R (S .own) (S .fin) (S .pages) k ks (begun s) L wide
+  else = else-row L wide
 
   abbrev was-old : (j : ℕ) → j ≢ R → pages′ j ≡ S .pages j
-  was-old = pages-old n N R (S .own) (S .fin) (S .pages) k ks (begun s) L wide
+  was-old = pages-old L wide
 
   abbrev is-new : (j : ℕ) → j ≡ R → pages′ j ≡ k ∷ []
-  is-new = pages-new n N R (S .own) (S .fin) (S .pages) k ks (begun s) L wide
+  is-new = pages-new L wide
 
   -- the store after it
   abbrev s′ : Store
@@ -83,66 +83,62 @@ module _ (s : Store) (S : Sound s) (k : ℕ) (ks : List ℕ) (free : S .free ≡
 
   laid : Layout n N (suc R) own′ fin′ pages′ ks (begun s′)
   unfolding taken
-  laid = region-laid n N R (S .own) (S .fin) (S .pages) k ks (begun s) L wide
-
-  -- the heap is as long as it was, and has as many pages
-  long : length (r₁ .heap) ≡ length (s .heap)
-  long = L₁ .size ∙ sym (S .laid .size)
+  laid = region-laid L wide
 
   -- no word of another page changes
   not-k : (j l : ℕ) → j < R → List·Memᴰ l (S .pages j) → l ≢ k
   not-k = chain-apart (S .laid) (λ i. spare≢mine spare-k)
 
-  keeps : (j l x : ℕ) → j < R → j < suc R → List·Memᴰ l (S .pages j) → l * P < x → x < S .fin l → at (s .heap) x ≡ at (r₁ .heap) x
+  keeps : KeepsWords s S (suc R) (r₁ .heap)
   unfolding taken
-  keeps j l x b c m p q =
-      let i = chain-body (S .laid) j l b m .inside in
-      sym (others n N R (S .own) (S .fin) (S .pages) k ks (begun s) L R l x (not-k j l b m) (omega arith) (omega arith))
+  keeps =
+      record {
+        long = L₁ .size ∙ sym (S .laid .size);
+        words = λ j l x b c m p q.
+            let i = chain-body (S .laid) j l b m .inside in
+            sym (others L R l x (not-k j l b m) (omega arith) (omega arith));
+      }
 
   good′ : (w : ℕ) → Good n R (s .heap) (s .consts) w → Good n (suc R) (r₁ .heap) (s .consts) w
-  good′ w g = good-kept s S (suc R) (r₁ .heap) long keeps w (λ a p e. let b = p .known in omega arith) g
+  good′ w g = good-kept keeps w (λ a p e. let b = p .known in omega arith) g
 
-  fields′ : (j l a c i : ℕ) → j < suc R → List·Memᴰ l (pages′ j) → Steps (r₁ .heap) (l * P + P) (l * P + 2) a → Stands (r₁ .heap) (l * P + P) a c
-      → isRecord (at (r₁ .heap) a) ≡ true → i < c → Good n (suc R) (r₁ .heap) (s .consts) (at (r₁ .heap) (a + suc i))
-  fields′ j l a c i b m r st rec q = go (eq-or-lt-of-le {n = j} {m = R} (omega arith))
+  fields′ : EachField n (suc R) (r₁ .heap) pages′ (Good n (suc R) (r₁ .heap) (s .consts))
+  fields′ j l a c i b m v rec q = go (eq-or-lt-of-le {n = j} {m = R} (omega arith))
     where
-      was : j < R → List·Memᴰ l (S .pages j) → FieldWas s S (r₁ .heap) l a c i → Good n (suc R) (r₁ .heap) (s .consts) (at (r₁ .heap) (a + suc i))
-      was u p (behind e) =
-          let f : fin′ l ≡ S .fin l = upd-other (S .fin) k (k * P + 2) l (not-k j l u p) in
-          let t = chain-below L₁ j l u p r st in
-          absurd (omega arith)
-      was u p (before r₀ st₀ rec₀ e g) = rw e (good′ _ g)
-
       -- a region is the new one or an old one
       go : (j ≡ R) ⊎ (j < R) → Good n (suc R) (r₁ .heap) (s .consts) (at (r₁ .heap) (a + suc i))
-      go (inr u) = let p : List·Memᴰ l (S .pages j) = rw (was-old j (omega arith)) at m in was u p (field-was s S (suc R) (r₁ .heap) long keeps j l a c i u b p r st rec q)
+      go (inr u) =
+          let p : List·Memᴰ l (S .pages j) = rw (was-old j (omega arith)) at m in
+          field-kept keeps j l a c i u b p v rec q
+          (λ e.
+          let f : fin′ l ≡ S .fin l = upd-other (S .fin) k (k * P + 2) l (not-k j l u p) in
+          let t = chain-below L₁ j u p v in
+          absurd (omega arith))
+          (λ v₀ rec₀ g. good′ _ g)
       go (inl e) =
           let lk : l ≡ k = List·Memᴰ·eq-of-singleton (rw (is-new j e) at m) in
-          let o : own′ l ≡ mine R = ap own′ lk ∙ own-new n N R (S .own) (S .fin) (S .pages) k ks (begun s) L wide in
+          let o : own′ l ≡ mine R = ap own′ lk ∙ own-new L wide in
           let f : fin′ l ≡ k * P + 2 = upd-same (S .fin) k (k * P + 2) l lk in
-          let t = below-fin L₁ R l o r st in
-          let lo = steps-le r in
+          let t = below-fin L₁ o v in
+          let lo = steps-le (v .steps) in
           let w : l * P ≡ k * P = ap (λ y. y * P) lk in
           absurd (omega arith)
 
   owned′ : Owned N (suc R) own′ pages′ ks
-  owned′ = region-owned n N R (S .own) (S .fin) (S .pages) k ks (begun s) L wide (subst (λ fs. Owned N R (S .own) (S .pages) fs) free (sound-owned s S))
-
-  none-old : (l : ℕ) → own′ l ≢ old
-  none-old l e = not-old s S l (taken-old (S .own) k R spare-k l .1 e)
+  owned′ = region-owned L wide (subst (λ fs. Owned N R (S .own) (S .pages) fs) free (sound-owned S))
 
   idle′ : (j : ℕ) → j < suc R → statusOf table′ j ≡ 0
   idle′ j b = go (eq-or-lt-of-le {n = j} {m = R} (omega arith))
     where
       go : (j ≡ R) ⊎ (j < R) → statusOf table′ j ≡ 0
-      go (inr q) = status-else n N R (S .own) (S .fin) (S .pages) k ks (begun s) L wide j (omega arith) ∙ S .idle j q
-      go (inl e) = status-new n N R (S .own) (S .fin) (S .pages) k ks (begun s) L wide j e
+      go (inr q) = status-else L wide j (omega arith) ∙ S .idle j q
+      go (inl e) = status-new L wide j e
 
   pub push-sound : Sound s′
   push-sound =
-      let w = same-width n N R (S .own) (S .fin) (S .pages) k ks (begun s) L wide in
+      let w = same-width L wide in
       record {
-        within = within-same long w refl refl (S .within);
+        within = within-same (keeps .long) w refl refl (S .within);
         own = own′;
         fin = fin′;
         pages = pages′;
@@ -150,15 +146,15 @@ module _ (s : Store) (S : Sound s) (k : ℕ) (ks : List ℕ) (free : S .free ≡
         regions = below;
         past = λ x p q. else x (inr (omega arith)) ∙ S .past x (omega arith) q;
         idle = idle′;
-        laid = rw long laid;
-        chained = rw long (λ l b. owned-chained owned′ l b (none-old l));
+        laid = rw (keeps .long) laid;
+        chained = rw (keeps .long) (λ l b. owned-chained owned′ l b (λ e. not-old s S l (taken-old (S .own) k R spare-k l .1 e)));
         fields = fields′;
         roots = λ i b. good′ _ (S .roots i b);
         consts = S .consts;
       }
 
 -- a free page is there, as a list
-pub some-free : (s : Store) (S : Sound s) → eqb (s .ctl .count) 0 ≡ false → (k : ℕ) × (ks : List ℕ) × (S .free ≡ k ∷ ks)
+some-free : (s : Store) (S : Sound s) → eqb (s .ctl .count) 0 ≡ false → (k : ℕ) × (ks : List ℕ) × (S .free ≡ k ∷ ks)
 some-free s S e = go (S .free) refl
   where
     go : (fs : List ℕ) → S .free ≡ fs → (k : ℕ) × (ks : List ℕ) × (S .free ≡ k ∷ ks)
@@ -168,14 +164,8 @@ some-free s S e = go (S .free) refl
 pub push-keeps : (s : Store) → Sound s → Sound (leftPlain (push s))
 unfolding push pushOn
 push-keeps s S =
-    admitted-keeps (λ o. Sound (leftPlain o)) (refused s) s _ (λ r. S)
-    (λ l c.
-    choice-keeps (λ o. Sound (leftPlain o)) (leb 64 (s .ctl .regions)) _ _ (λ e. S)
-    (λ e₁.
-    choice-keeps (λ o. Sound (leftPlain o)) (eqb (s .ctl .count) 0) _ _ (λ e. S)
-    (λ e₂.
-    choice-keeps (λ o. Sound (leftPlain o)) (not (linkFits (s .ctl .n) (s .heap) (s .ctl .first - 1) (s .ctl .count))) _ _ (λ e. S)
-    (λ e₃.
+    lawful-keeps (λ o. Sound (leftPlain o)) (push-lawful s) (λ r. S)
+    (λ l c e₁ e₂ e₃.
     let f = some-free s S e₂ in
     let q : s .ctl .first ≡ suc (f .0) = first-is (S .laid) (f .2) in
-    rw (takes (s .ctl .n) (s .ctl .regions) (f .0) (begun s) q, pushOn) (push-sound s S (f .0) (f .1) (f .2) (leb-false 64 (s .ctl .regions) e₁))))))
+    rw (l, c, e₁, e₂, e₃, takes (s .ctl .n) (s .ctl .regions) (f .0) (begun s) q, pushOn) (push-sound s S (f .0) (f .1) (f .2) (leb-false 64 (s .ctl .regions) e₁)))

@@ -1,26 +1,25 @@
 -- Popping a region leaves every path from a root as it was: no value moves, the words of the other regions stay, and no path leads into the
 -- region, since it was not held. A refused pop changes nothing.
-use Prim.Native.Nat.{ℕ, suc, _+_, _-_, _*_, _^_, _≤_, _<_}
+use Prim.Native.Nat.{ℕ, suc, _+_, _*_, _^_, _≤_, _<_}
 use native.Mathlib.Omega.{arith}
 use mathlib.Core.Path.{_≡_, refl, sym, ap, _∙_}
-use mathlib.Core.Bool.{true, false, false≢true}
+use mathlib.Core.Bool.{true, false}
 use mathlib.Core.List.{List, List·Memᴰ}
 use lib.ListN.{length, take, drop}
-use borrow.Author.Tests.{not-true}
 use Rattle.laws.specs.Lists.{at}
 use Rattle.laws.proofs.Lists.{word-in, part-length}
-use Rattle.laws.proofs.Facts.{all-at}
 use Rattle.rules.specs.Memory.{Store}
-use Rattle.rules.specs.Words.{inHeap, inConst, wordOf, headOf, isRecord}
+use Rattle.rules.specs.Words.{inHeap, inConst, wordOf, isRecord}
 use Rattle.rules.specs.Calls.{lookIn, headerIn, fieldsIn, isNumber, Walked, ends, walkSays, walk, pointsInto, letGo, pop}
 use Rattle.rules.specs.Seen.{homeIn, seen, path, readAt}
 use Rattle.rules.proofs.Pointers.{pointer-is}
 use Rattle.facts.proofs.Goods.{page-ends}
 use Rattle.facts.proofs.Looked.{heap-seen, heap-home, const-seen, const-home, seen-plain, words-head}
-use Rattle.facts.proofs.Alike.{Alike, Same, AlikeWalks, both-end, both-stop, paths}
+use Rattle.facts.proofs.Alike.{Same, AlikeWalks, both-end, both-stop, paths}
 use Rattle.facts.proofs.Observing.{walk-is, reads-alike}
 use Rattle.facts.proofs.Passing.{meaning}
-use Rattle.facts.proofs.Sound.{InHeap, InConst, Good, a-number, to-heap, to-const, GoodConst, number-there, const-there, Sound, Passes, good-page}
+use Rattle.rules.proofs.Judged.{Passes}
+use Rattle.facts.proofs.Sound.{InHeap, InConst, Good, a-number, to-heap, to-const, GoodConst, number-there, const-there, Sound, good-page}
 use Rattle.rules.specs.Left.{leftPlain}
 use Rattle.promises.proofs.KeepsGood.{words-there, in-kept}
 use Rattle.promises.proofs.KeepsPop as Pop
@@ -58,13 +57,12 @@ module _ (s : Store) (S : Sound s) (j : ℕ) (top : s .ctl .regions ≡ suc j) (
 
   -- the fields of a value that is seen as before, wherever it stands
   module _ (v a l : ℕ) (ws : List ℕ) (inside : a + suc l ≤ length ws) (is : lookIn s v ≡ take (suc l) (drop a ws)) (same : lookIn s v ≡ lookIn s′ v)
-      (good : isRecord (at ws a) ≡ true → (f : ℕ) → f < l → Good n R (s .heap) (s .consts) (at ws (a + suc f)) × (pointsInto n (s .heap) j (at ws (a + suc f)) ≡ false)) where
+      (good : isRecord (at ws a) ≡ true → (f : ℕ) → f < l → Stays (at ws (a + suc f)) (at ws (a + suc f))) where
     fields-stay : FieldsStay v
     fields-stay rec f b =
         let z = ap length is ∙ part-length ws a (suc l) inside in
         let w : at (lookIn s v) (suc f) ≡ at ws (a + suc f) = ap (λ x. at x (suc f)) is ∙ word-in ws a (suc l) (suc f) (omega arith) in
-        let g = good (ap isRecord (sym (ap headerIn is ∙ words-head ws a l)) ∙ rec) f (omega arith) in
-        record { same = ap (λ x. at x (suc f)) same; good = rw w (g .0); out = rw w (g .1) }
+        rw (← same, w) (good (ap isRecord (sym (ap headerIn is ∙ words-head ws a l)) ∙ rec) f (omega arith))
 
   -- ---- a value of another region
 
@@ -73,10 +71,10 @@ module _ (s : Store) (S : Sound s) (j : ℕ) (top : s .ctl .regions ≡ suc j) (
     k = p .page
 
     low : p .region < j
-    low = let ne = Pop.other-region n R (s .heap) (S .within .paged) j v a p e o in let b = p .known in omega arith
+    low = Pop.lower-region s S j top free v a p e o
 
     mem : List·Memᴰ k (S .pages (p .region))
-    mem = good-page s S a p
+    mem = good-page S p
 
     inside : k * 2 ^ n + 2 ^ n ≤ length (s .heap)
     inside = page-ends n (s .heap) (S .within .paged) k (p .there)
@@ -85,22 +83,17 @@ module _ (s : Store) (S : Sound s) (j : ℕ) (top : s .ctl .regions ≡ suc j) (
     v-is = pointer-is v a e
 
     seen-before : lookIn s v ≡ take (suc (p .len)) (drop a (s .heap))
-    seen-before =
-        ap (lookIn s) v-is ∙ heap-seen s (S .within .paged) a p
-
-    long : length h′ ≡ length (s .heap)
-    long = Pop.long s S j top free
+    seen-before = ap (lookIn s) v-is ∙ heap-seen s (S .within .paged) a p
 
     -- it is good still
     abbrev p′ : InHeap n j h′ a
-    p′ = in-kept s S j h′ long (Pop.keeps s S j top free) a p low
+    p′ = in-kept (Pop.keeps s S j top free) a p low
 
     seen-after : lookIn s′ v ≡ take (suc (p .len)) (drop a h′)
-    seen-after =
-        ap (lookIn s′) v-is ∙ heap-seen s′ (S′ .within .paged) a p′
+    seen-after = ap (lookIn s′) v-is ∙ heap-seen s′ (S′ .within .paged) a p′
 
     pub value-same : lookIn s v ≡ lookIn s′ v
-    value-same = seen-before ∙ words-there s S j h′ long (Pop.keeps s S j top free) a p low ∙ sym seen-after
+    value-same = seen-before ∙ words-there (Pop.keeps s S j top free) a p low ∙ sym seen-after
 
     pub home-same : homeIn s v ≡ homeIn s′ v
     home-same =
@@ -110,12 +103,11 @@ module _ (s : Store) (S : Sound s) (j : ℕ) (top : s .ctl .regions ≡ suc j) (
     pub field-stays : FieldsStay v
     field-stays =
         let i = inside in
-        let e = p .stands .ends in
+        let e = p .value .stands .ends in
         fields-stay v a (p .len) (s .heap) (omega arith) seen-before value-same
-        (λ r f q. (
-          S .fields (p .region) k a (p .len) f (p .known) mem (p .steps) (p .stands) r q,
-          Pop.field-out s S j top free (p .region) k a (p .len) f low mem (p .steps) (p .stands) r q,
-        ))
+        (λ r f q.
+        stays _ (S .fields (p .region) k a (p .len) f (p .known) mem (p .value) r q)
+        (Pop.field-out s S j top free (p .region) k a (p .len) f low mem (p .value) r q))
 
   -- ---- a constant
 
@@ -123,10 +115,10 @@ module _ (s : Store) (S : Sound s) (j : ℕ) (top : s .ctl .regions ≡ suc j) (
     const-same : lookIn s v ≡ lookIn s′ v
     const-same = const-seen s v a e p ∙ sym (const-seen s′ v a e p)
 
-    const-stays : (w : ℕ) → GoodConst (s .consts) w → Good n R (s .heap) (s .consts) w × (pointsInto n (s .heap) j w ≡ false)
+    const-stays : (w : ℕ) → GoodConst (s .consts) w → Stays w w
     unfolding pointsInto
-    const-stays w (number-there q) = (a-number q, rw (pointsInto, q))
-    const-stays w (const-there b q g) = (to-const b q g, rw (pointsInto, q))
+    const-stays w (number-there q) = stays w (a-number q) (rw (pointsInto, q))
+    const-stays w (const-there b q g) = stays w (to-const b q g) (rw (pointsInto, q))
 
     const-field : FieldsStay v
     const-field =
@@ -135,39 +127,30 @@ module _ (s : Store) (S : Sound s) (j : ℕ) (top : s .ctl .regions ≡ suc j) (
 
   -- ---- the two views
 
-  zero-record : isRecord 0 ≡ false
-  unfolding isRecord headOf
-  zero-record = refl
-
   view-same : (v : ℕ) → Good n R (s .heap) (s .consts) v → pointsInto n (s .heap) j v ≡ false
-      → (lookIn s v ≡ lookIn s′ v) × (homeIn s v ≡ homeIn s′ v)
-      × FieldsStay v
+      → (lookIn s v ≡ lookIn s′ v) × (homeIn s v ≡ homeIn s′ v) × FieldsStay v
   view-same v (a-number e) o = (
     seen-plain s .no-value v (ap isNumber e) ∙ sym (seen-plain s′ .no-value v (ap isNumber e)),
     seen-plain s .no-home v (ap isNumber e) ∙ sym (seen-plain s′ .no-home v (ap isNumber e)),
-    λ r. let q : isRecord 0 ≡ true = ap (λ x. isRecord (headerIn x)) (sym (seen-plain s .no-value v (ap isNumber e))) ∙ r in absurd (false≢true (sym zero-record ∙ q)),
+    λ r f b. let z = ap length (seen-plain s .no-value v (ap isNumber e)) in absurd (omega arith),
   )
   view-same v (to-heap a e p) o = (value-same v a e p o, home-same v a e p o, field-stays v a e p o)
   view-same v (to-const a e p) o = (const-same v a e p, const-home s v a e ∙ sym (const-home s′ v a e), const-field v a e p)
-
-  alike : (v : ℕ) → Good n R (s .heap) (s .consts) v → pointsInto n (s .heap) j v ≡ false → Alike Stays (lookIn s v) (lookIn s′ v)
-  alike v g o =
-      let t = view-same v g o in
-      record { header = ap headerIn (t .0); size = ap length (t .0); fields = t .2; text = λ r. t .0 }
 
   same-views : Same (seen s) (seen s′) Stays
   same-views =
       record {
         numbers = λ v w r. ap (λ x. isNumber (wordOf x)) (r .same);
         value-of = λ v w r e. r .same;
-        values = λ v w r. rw (← r .same) (alike v (r .good) (r .out));
+        values = λ v w r.
+            let t = view-same v (r .good) (r .out) in
+            rw (← r .same) (record { header = ap headerIn (t .0); size = ap length (t .0); fields = t .2; text = λ r. t .0 });
         homes = λ v w r. view-same v (r .good) (r .out) .1 ∙ ap (homeIn s′) (r .same);
         once = λ v w v′ w′ r r′. (λ e. sym (r .same) ∙ e ∙ r′ .same, λ e. r .same ∙ e ∙ sym (r′ .same));
       }
 
   roots-stay : (i : ℕ) → i < length (s .roots) → Stays (at (s .roots) i) (at (s .roots) i)
-  roots-stay i b =
-      stays (at (s .roots) i) (S .roots i b) (not-true _ (all-at (Pop.out s S j top free) (s .roots) (Pop.roots-out s S j top free) i b))
+  roots-stay i b = stays (at (s .roots) i) (S .roots i b) (Pop.root-out s S j top free i b)
 
   -- every path ends alike, on the same word
   ended : {x y : Walked} → AlikeWalks Stays x y → x ≡ y

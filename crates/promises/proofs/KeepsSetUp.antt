@@ -1,12 +1,12 @@
 -- Setting up leaves a sound heap, from any words, if the constants keep rule 8: every page is free and linked to the next, no region is
 -- there, and every root is a number.
 use Prim.Native.Nat.{ℕ, zero, suc, _+_, _-_, _*_, _/_, _^_, _≤_, _<_, zero-le}
-use native.Mathlib.Nat.{add-zero, zero-add, zero-mul}
+use native.Mathlib.Nat.{add-zero, zero-add, zero-mul, eq-or-lt-of-le}
 use native.Mathlib.Omega.{arith}
 use mathlib.Core.Path.{_≡_, refl, sym, ap, _∙_, subst}
-use mathlib.Core.Logic.{_≢_}
+use mathlib.Core.Logic.{_≢_, _⊎_, inl, inr}
 use mathlib.Core.Bool.{Bool, true, false}
-use mathlib.Core.List.{List, [], _∷_, _++_, List·Memᴰ}
+use mathlib.Core.List.{List, [], _∷_, List·Memᴰ}
 use lib.ListN.{length, replicate, length-replicate, getD-replicate, length-append, List·getD-append}
 use lib.Seq.{getD-append-add}
 use lib.Dec.{ltb}
@@ -14,12 +14,12 @@ use borrow.Author.Tests.{ltb-true, lt-ltb}
 use Rattle.laws.specs.Lists.{at, lastOr}
 use Rattle.laws.proofs.Once.{counting, counting-length, in-counting, counting-in, counting-linked, Linked, linked-once}
 use Rattle.rules.specs.Memory.{Store, lent, control, limits, pageCount, link}
-use Rattle.rules.specs.Words.{number, wordOf}
 use Rattle.rules.specs.Audit.{lastLink}
 use Rattle.rules.specs.Pages.{begun}
 use Rattle.rules.specs.Refusals.{Paged}
 use Rattle.rules.specs.Calls.{freshPages}
 use Rattle.rules.proofs.Limits.{paged-size, whole-pages, two-pages, within-same}
+use Rattle.rules.proofs.Looks.{word-is-number}
 use Rattle.rules.proofs.Fresh.{page-length}
 use Rattle.facts.proofs.Laid.{spare≢mine, spare≢beyond, mine≢beyond, Owner, spare, beyond, mine, Clean, Layout}
 use Rattle.facts.proofs.Means.{within-of}
@@ -45,48 +45,32 @@ module _ (n : ℕ) (big : 1 ≤ 2 ^ n) where
       length-append (onePage n (suc (suc k))) (freshPages n (suc m) (suc k))
       ∙ (let a = page-length n (suc (suc k)) in let b = fresh-length (suc m) (suc k) in omega arith)
 
-  -- a word of the first page, and of the pages behind it
-  first-word : (l x : ℕ) (rest : List ℕ) → x < 2 ^ n → at (onePage n l ++ rest) x ≡ at (onePage n l) x
-  first-word l x rest b = List·getD-append (onePage n l) rest 0 x (let a = page-length n l in omega arith)
-
-  later-word : (l y : ℕ) (rest : List ℕ) → at (onePage n l ++ rest) (2 ^ n + y) ≡ at rest y
-  later-word l y rest = ap (λ p. at (onePage n l ++ rest) (p + y)) (sym (page-length n l)) ∙ getD-append-add (onePage n l) rest y 0
-
-  -- a word of the pages behind the first
-  later-page : (m k y z : ℕ) → y ≡ 2 ^ n + z → at (freshPages n (suc (suc m)) k) y ≡ at (freshPages n (suc m) (suc k)) z
+  -- a word of page i, which is linked to the next, or to none if it is the last
+  pub fresh-word : (m k i l x : ℕ) → i < m → (suc i < m → l ≡ suc (suc (k + i))) → (suc i ≡ m → l ≡ 0) → x < 2 ^ n
+      → at (freshPages n m k) (i * 2 ^ n + x) ≡ at (onePage n l) x
   unfolding freshPages
-  later-page m k y z q = ap (at (onePage n (suc (suc k)) ++ freshPages n (suc m) (suc k))) q ∙ later-word (suc (suc k)) z (freshPages n (suc m) (suc k))
-
-  pub fresh-zero : (m k i x : ℕ) → i < m → 0 < x → x < 2 ^ n → at (freshPages n m k) (i * 2 ^ n + x) ≡ 0
-  unfolding freshPages
-  fresh-zero zero k i x b lo hi = absurd (omega arith)
-  fresh-zero (suc zero) k zero x b lo hi = let q : 0 * 2 ^ n + x ≡ x = omega arith in ap (at (onePage n 0)) q ∙ page-zero 0 x lo hi
-  fresh-zero (suc zero) k (suc i) x b lo hi = absurd (omega arith)
-  fresh-zero (suc (suc m)) k zero x b lo hi =
+  fresh-word zero k i l x b f g hi = absurd (omega arith)
+  fresh-word (suc zero) k (suc i) l x b f g hi = absurd (omega arith)
+  fresh-word (suc zero) k zero l x b f g hi = let q : 0 * 2 ^ n + x ≡ x = omega arith in rw q (ap (λ y. at (onePage n y) x) (sym (g refl)))
+  fresh-word (suc (suc m)) k zero l x b f g hi =
       let q : 0 * 2 ^ n + x ≡ x = omega arith in
-      ap (at (onePage n (suc (suc k)) ++ freshPages n (suc m) (suc k))) q ∙ first-word (suc (suc k)) x (freshPages n (suc m) (suc k)) hi ∙ page-zero (suc (suc k)) x lo hi
-  fresh-zero (suc (suc m)) k (suc i) x b lo hi =
-      later-page m k (suc i * 2 ^ n + x) (i * 2 ^ n + x) (omega arith) ∙ fresh-zero (suc m) (suc k) i x (omega arith) lo hi
+      let e : suc (suc k) ≡ l = ap (λ y. suc (suc y)) (sym (add-zero k)) ∙ sym (f (omega arith)) in
+      let p = page-length n (suc (suc k)) in
+      rw q (List·getD-append (onePage n (suc (suc k))) (freshPages n (suc m) (suc k)) 0 x (omega arith) ∙ ap (λ y. at (onePage n y) x) e)
+  fresh-word (suc (suc m)) k (suc i) l x b f g hi =
+      let y : ℕ = i * 2 ^ n + x in
+      let q : suc i * 2 ^ n + x ≡ length (onePage n (suc (suc k))) + y = (let p = page-length n (suc (suc k)) in omega arith) in
+      rw q
+      (getD-append-add (onePage n (suc (suc k))) (freshPages n (suc m) (suc k)) y 0
+      ∙ fresh-word (suc m) (suc k) i l x (omega arith) (λ c. let e = f (omega arith) in omega arith) (λ c. g (omega arith)) hi)
 
-  -- each page is linked to the next, the last to none
-  pub fresh-next : (m k i : ℕ) → suc i < m → at (freshPages n m k) (i * 2 ^ n) ≡ suc (suc (k + i))
-  unfolding freshPages
-  fresh-next zero k i b = absurd (omega arith)
-  fresh-next (suc zero) k i b = absurd (omega arith)
-  fresh-next (suc (suc m)) k zero b =
-      let q : 0 * 2 ^ n ≡ 0 = omega arith in
-      ap (at (onePage n (suc (suc k)) ++ freshPages n (suc m) (suc k))) q ∙ ap (λ y. suc (suc y)) (sym (add-zero k))
-  fresh-next (suc (suc m)) k (suc i) b =
-      let e : suc (suc (suc k + i)) ≡ suc (suc (k + suc i)) = omega arith in
-      later-page m k (suc i * 2 ^ n) (i * 2 ^ n) (omega arith) ∙ fresh-next (suc m) (suc k) i (omega arith) ∙ e
-
-  pub fresh-last : (m k i : ℕ) → suc i ≡ m → at (freshPages n m k) (i * 2 ^ n) ≡ 0
-  unfolding freshPages
-  fresh-last zero k i e = absurd (omega arith)
-  fresh-last (suc zero) k i e = let q : i * 2 ^ n ≡ 0 = (let z : i ≡ 0 = omega arith in rw (z, zero-mul)) in ap (at (onePage n 0)) q
-  fresh-last (suc (suc m)) k zero e = absurd (omega arith)
-  fresh-last (suc (suc m)) k (suc i) e =
-      later-page m k (suc i * 2 ^ n) (i * 2 ^ n) (omega arith) ∙ fresh-last (suc m) (suc k) i (omega arith)
+  -- behind its link it is all zero
+  pub fresh-zero : (m k i x : ℕ) → i < m → 0 < x → x < 2 ^ n → at (freshPages n m k) (i * 2 ^ n + x) ≡ 0
+  fresh-zero m k i x b lo hi = go (eq-or-lt-of-le {n = suc i} {m = m} b)
+    where
+      go : (suc i ≡ m) ⊎ (suc i < m) → at (freshPages n m k) (i * 2 ^ n + x) ≡ 0
+      go (inl e) = fresh-word m k i 0 x b (λ c. absurd (omega arith)) (λ c. refl) hi ∙ page-zero 0 x lo hi
+      go (inr c) = fresh-word m k i (suc (suc (k + i))) x b (λ c. refl) (λ e. absurd (omega arith)) hi ∙ page-zero (suc (suc (k + i))) x lo hi
 
 -- ---- the last of the numbers from k on, as a link
 
@@ -157,10 +141,13 @@ module _ (n : ℕ) (s : Store) (fits : limits n (length (s .heap)) (length (s .t
   unfolding free link
   linked =
       subst (λ m. Linked (link n h) 1 (counting m 0)) (sym some-pages)
-      (counting-linked (link n h) N next (λ i q. fresh-last n big N 0 i q) (N - 1) 0 (let e = some-pages in omega arith))
+      (counting-linked (link n h) N next last (N - 1) 0 (let e = some-pages in omega arith))
     where
       next : (i : ℕ) → suc i < N → at h (i * 2 ^ n) ≡ suc (suc i)
-      next i b = fresh-next n big N 0 i b ∙ ap (λ x. suc (suc x)) (zero-add i)
+      next i b = ap (at h) (sym (add-zero (i * 2 ^ n))) ∙ fresh-word n big N 0 i (suc (suc i)) 0 (omega arith) (λ c. omega arith) (λ e. absurd (omega arith)) big
+
+      last : (i : ℕ) → suc i ≡ N → at h (i * 2 ^ n) ≡ 0
+      last i e = ap (at h) (sym (add-zero (i * 2 ^ n))) ∙ fresh-word n big N 0 i 0 0 (omega arith) (λ c. absurd (omega arith)) (λ q. refl) big
 
   last-is : N ≡ lastLink free
   unfolding free
@@ -197,17 +184,13 @@ module _ (n : ℕ) (s : Store) (fits : limits n (length (s .heap)) (length (s .t
         mine-top = λ j b. absurd (omega arith);
       }
 
-  one-word : wordOf 1 ≡ number
-  unfolding wordOf
-  one-word = refl
-
   abbrev ones : List ℕ
   ones = replicate (length (s .roots)) 1
 
   root : (i : ℕ) → i < length ones → Good n 0 h (s .consts) (at ones i)
   root i b =
       let e = length-replicate {A = ℕ} (length (s .roots)) 1 in
-      rw (getD-replicate {A = ℕ} (length (s .roots)) i 1 0 (omega arith)) (a-number one-word)
+      rw (getD-replicate {A = ℕ} (length (s .roots)) i 1 0 (omega arith)) (a-number (word-is-number 1 refl))
 
   pub set-up-sound : Sound (setUpStore n s)
   unfolding free
@@ -224,7 +207,7 @@ module _ (n : ℕ) (s : Store) (fits : limits n (length (s .heap)) (length (s .t
         idle = λ j b. absurd (omega arith);
         laid = rw p laid;
         chained = λ k b. let b′ : k < N = rw p at b in in-free (own-there k b′) (counting-in N 0 k zero-le (omega arith));
-        fields = λ j k a l i b m st x r q. absurd (omega arith);
+        fields = λ j k a l i b m v r q. absurd (omega arith);
         roots = root;
         consts = consts;
       }

@@ -5,7 +5,7 @@ use native.Mathlib.Omega.{arith}
 use mathlib.Core.Path.{_≡_, refl, sym, ap, _∙_}
 use mathlib.Core.Logic.{_↔_}
 use mathlib.Core.Bool.{Bool, true, false, not, true≢false, false≢true}
-use mathlib.Core.Option.{none, some, Option·none-ne-some}
+use mathlib.Core.Option.{Option, none, some, Option·none-ne-some}
 use mathlib.Core.List.{List, [], _∷_, List·Memᴰ, List·Memᴰ·head, List·Memᴰ·tail}
 use lib.Dec.{eqb}
 use borrow.Author.Tests.{not-false, ne-eqb}
@@ -49,38 +49,57 @@ pub record Lawful {O : Type 0} (way : Refusing O) (ts : List Test) (o : O) : Typ
 pub exactly : {O : Type 0} {way : Refusing O} {ts : List Test} {o : O} → Lawful way ts o → (r : Refusal) → (way .why o ≡ some r) ↔ First ts r
 exactly {ts = ts} l r = (λ e. first-is ts r .0 (sym (l .refuses) ∙ e), λ f. l .refuses ∙ first-is ts r .1 f)
 
-module _ {O : Type 0} (way : Refusing O) where
+-- Q where no test holds
+abbrev pub Unless : List Test → Type 0 → Type 0
+Unless [] Q = Q
+Unless (t ∷ ts) Q = t .holds ≡ false → Unless ts Q
+
+-- what holds of every refusal, and of the outcome where no test holds, holds of the outcome
+pub lawful-keeps : {O : Type 0} {way : Refusing O} {ts : List Test} {o : O} (P : O → Type 0) → Lawful way ts o → ((r : Refusal) → P (way .refuse r)) → Unless ts (P o) → P o
+unfolding firstRefusal
+lawful-keeps {way = way} {ts} {o} P l refused rest = go (way .why o) refl
+  where
+    past : (ts : List Test) → firstRefusal ts ≡ none → Unless ts (P o) → P o
+    past [] e f = f
+    past (t ∷ ts) e f = by (t .holds) refl (past ts)
+      where
+        by : (b : Bool) → t .holds ≡ b → (firstRefusal ts ≡ none → Unless ts (P o) → P o) → P o
+        by true q rest = absurd (Option·none-ne-some (t .why) (sym e ∙ rw (firstRefusal, q)))
+        by false q rest = rest (rw (firstRefusal, q) at e) (f q)
+
+    go : (x : Option Refusal) → way .why o ≡ x → P o
+    go (some r) e = rw (l .leaves r e) (refused r)
+    go none e = past ts (sym (l .refuses) ∙ e) rest
+
+module _ {O : Type 0} {way : Refusing O} where
   -- no test is left, and the call is done
-  pub is-done : (o : O) → way .why o ≡ none → Lawful way [] o
+  pub is-done : {o : O} → way .why o ≡ none → Lawful way [] o
   unfolding firstRefusal
-  is-done o e =
-      record { refuses = e; leaves = λ r q. absurd (Option·none-ne-some r (sym e ∙ q)) }
+  is-done e = record { refuses = e; leaves = λ r q. absurd (Option·none-ne-some r (sym e ∙ q)) }
 
   -- one test more
-  pub tested : (b : Bool) (r : Refusal) (ts : List Test) (rest : O) → (b ≡ false → Lawful way ts rest) → Lawful way (test b r ∷ ts) (b ⇒ way .refuse r ∣ rest)
+  pub tested : {b : Bool} {r : Refusal} {ts : List Test} {rest : O} → (b ≡ false → Lawful way ts rest) → Lawful way (test b r ∷ ts) (b ⇒ way .refuse r ∣ rest)
   unfolding firstRefusal
-  tested true r ts rest f =
+  tested {b = true} {r} f =
       record { refuses = way .says r; leaves = λ q e. let e′ : some r ≡ some q = sym (way .says r) ∙ e in let z : r ≡ q = cc in ap (way .refuse) z }
-  tested false r ts rest f = let l = f refl in record { refuses = l .refuses; leaves = l .leaves }
+  tested {b = false} f = let l = f refl in record { refuses = l .refuses; leaves = l .leaves }
 
   -- the test that holds
-  pub stopped : (r : Refusal) (ts : List Test) → Lawful way (test true r ∷ ts) (way .refuse r)
-  stopped r ts = tested true r ts (way .refuse r) (λ e. absurd (true≢false e))
+  pub stopped : {r : Refusal} {ts : List Test} → Lawful way (test true r ∷ ts) (way .refuse r)
+  stopped {r} = tested {rest = way .refuse r} (λ e. absurd (true≢false e))
 
   -- a test that does not hold
-  pub passed : (r : Refusal) (ts : List Test) (rest : O) → Lawful way ts rest → Lawful way (test false r ∷ ts) rest
-  passed r ts rest l = tested false r ts rest (λ e. l)
+  pub passed : {r : Refusal} {ts : List Test} {rest : O} → Lawful way ts rest → Lawful way (test false r ∷ ts) rest
+  passed l = tested (λ e. l)
 
-  module _ (s : Store) (ts : List Test) (rest : O) where
-    pub after-admission : (withinLimits s ≡ true → commonTest s ≡ true → Lawful way ts rest) → Lawful way (limitsTest s ∷ recordTest s ∷ ts) (admitted (way .refuse) s rest)
-    after-admission f =
-        tested (not (withinLimits s)) Refusal.Limits _ _
-        (λ l. tested (not (commonTest s)) (Refusal.Broken 0) _ _ (λ c. f (not-false _ l) (not-false _ c)))
+  module _ {ts : List Test} {rest : O} where
+    pub after-admission : (s : Store) → (withinLimits s ≡ true → commonTest s ≡ true → Lawful way ts rest) → Lawful way (limitsTest s ∷ recordTest s ∷ ts) (admitted (way .refuse) s rest)
+    after-admission s f = tested (λ l. tested (λ c. f (not-false _ l) (not-false _ c)))
 
     after-rules : (i : ℕ) → (i ≡ 0 → Lawful way ts rest) → Lawful way (test (not (eqb i 0)) (Refusal.Broken i) ∷ ts) (unbroken (way .refuse) i rest)
-    after-rules zero f = passed (Refusal.Broken 0) ts rest (f refl)
-    after-rules (suc i) f = let q : eqb (suc i) 0 ≡ false = ne-eqb (suc i) 0 (λ (e : suc i ≡ 0). omega arith) in rw q (stopped (Refusal.Broken (suc i)) ts)
+    after-rules zero f = passed (f refl)
+    after-rules (suc i) f = let q : eqb (suc i) 0 ≡ false = ne-eqb (suc i) 0 (λ (e : suc i ≡ 0). omega arith) in rw q stopped
 
-  pub after-audit : (s : Store) (ts : List Test) (rest : O) → (withinLimits s ≡ true → commonTest s ≡ true → brokenRule s ≡ 0 → Lawful way ts rest)
+  pub after-audit : {ts : List Test} {rest : O} (s : Store) → (withinLimits s ≡ true → commonTest s ≡ true → brokenRule s ≡ 0 → Lawful way ts rest)
       → Lawful way (limitsTest s ∷ recordTest s ∷ auditTest s ∷ ts) (audited (way .refuse) s rest)
-  after-audit s ts rest f = after-admission s (auditTest s ∷ ts) _ (λ l c. after-rules s ts rest (brokenRule s) (λ b. f l c b))
+  after-audit s f = after-admission s (λ l c. after-rules (brokenRule s) (λ b. f l c b))

@@ -6,7 +6,7 @@ use mathlib.Core.List.{List}
 use native.Mathlib.Omega.{arith}
 use borrow.Author.Tests.{ne-eqb}
 use lib.ListN.{drop}
-use Rattle.laws.proofs.Tests.{and-right}
+use Rattle.laws.proofs.Tests.{both}
 use Rattle.rules.specs.Image.{headFits, layout, Frames, frames, malformed, withFrame, readFrames, readText}
 use Rattle.rules.proofs.FirstFrame.{limited}
 use Rattle.reading.specs.declared.Rest.{Rest}
@@ -29,7 +29,7 @@ head-eight m text e = rw e
 module _ (text : List ℕ) (h : Head) (e : h ≡ headFrom (wordsAt 8 text 6)) (f : frameFits 1 headFits text 0 ≡ true) where
   fits : headFits (wordsOf text 0) ≡ true
   unfolding frameFits
-  fits = and-right (frameShape 1 text 0) (headFits (wordsOf text 0)) f
+  fits = both {a = frameShape 1 text 0} f .1
 
   eight : countAt text 0 ≡ 8
   eight = sym (length-words-at (countAt text 0) text 6) ∙ limited (wordsOf text 0) fits .eight

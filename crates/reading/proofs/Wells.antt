@@ -1,6 +1,6 @@
 -- A text that is judged to be well formed: its frames are the words that stand at its places, and the store that they give is what filling
 -- leaves. Then what reading an image answers, by the test of the lengths.
-use Prim.Native.Nat.{ℕ, zero, suc, _+_, _*_, _/_, _^_, _≤_}
+use Prim.Native.Nat.{ℕ, zero, suc, _*_, _/_, _^_, _≤_}
 use mathlib.Core.Path.{_≡_, refl, sym, ap, _∙_}
 use mathlib.Core.Bool.{Bool, true, false, false≢true}
 use mathlib.Core.List.{List, [], _∷_, _++_}

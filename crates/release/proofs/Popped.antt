@@ -15,12 +15,10 @@ use Rattle.rules.specs.Refusals.{outcome, refused}
 use Rattle.rules.specs.Pages.{begun}
 use Rattle.rules.specs.Calls.{audit, letGo, popOn, popTop, pop}
 use Rattle.rules.proofs.Limits.{pages-few}
-use Rattle.facts.proofs.Sound.{Passes}
+use Rattle.rules.proofs.Judged.{Passes, passed, passed-admitted, judged-refuse}
 use Rattle.facts.proofs.Passing.{meaning}
 use Rattle.giving.specs.Giving.{Free, Left, giveChain}
 use Rattle.giving.proofs.Chain.{last-there, region-given}
-use Rattle.rules.proofs.Judged.{judged-refuse}
-use Rattle.facts.proofs.Judged.{passed, passed-admitted}
 
 pub pop-broken : (s : Store) (why : Refusal) (c : Control) → Plain.Refused why c ≡ audit s → refused s why ≡ pop s
 unfolding pop

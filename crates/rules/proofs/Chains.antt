@@ -1,11 +1,14 @@
--- Pages as parts of the heap, and the turn laws of chains: a chain at a link is the page and the chain at its link.
+-- Pages as parts of the heap, and the turn laws of chains: a chain at a link is the page and the chain at its link, or it is over. A page is a
+-- part of the heap by its definition, and `chain` goes one page a turn.
 use Prim.Native.Nat.{ℕ, zero, suc, _+_, _-_, _*_, _/_, _^_, _≤_, _<_}
 use mathlib.Core.Path.{_≡_, refl, sym, ap, _∙_}
+use mathlib.Core.Bool.{Bool, true, false}
 use mathlib.Core.List.{List, [], _∷_}
 use native.Mathlib.Omega.{arith}
 use native.Mathlib.Numerals.{sub-one}
-use borrow.Author.Tests.{lt-ltb, le-ltb}
+use borrow.Author.Tests.{lt-ltb, le-ltb, ltb-true}
 use lib.Arith.{digits-div}
+use lib.Dec.{ltb}
 use lib.ListN.{length, take, drop, getD}
 use lib.Seq.{slice, drop-drop}
 use Rattle.laws.specs.Lists.{at}
@@ -39,35 +42,61 @@ pub page-vals : (n : ℕ) (h : List ℕ) (k : ℕ) → pageVals n h k ≡ valsIn
 unfolding pageVals valsIn
 page-vals n h k = ap (λ ws. vals (k * 2 ^ n + 2) 0 ws) (page-part n h k)
 
--- ---- chains
+-- ---- chains, from the link k on and with fuel f
 
--- a chain, from the link k on; a broken one ends in a page that is not there
-module _ (n : ℕ) (h : List ℕ) where
-  -- at a page
-  pub chain-here : (f k : ℕ) → k < pageCount n h → (chain (suc f) n h (suc k) ≡ k ∷ chain f n h (link n h k)) × (chainEnd (suc f) n h (suc k) ≡ chainEnd f n h (link n h k))
+-- what holds of a chain that is over, and of a page of the heap with the chain at its link where it holds of that, holds of each chain
+module _ (n : ℕ) (h : List ℕ) (P : ℕ → ℕ → List ℕ → ℕ → Type 0) (over : (f k : ℕ) → P f k [] k)
+    (next : (f k : ℕ) (ks : List ℕ) (e : ℕ) → k < pageCount n h → P f (link n h k) ks e → P (suc f) (suc k) (k ∷ ks) e) where
+  pub chain-by : (f k : ℕ) → P f k (chain f n h k) (chainEnd f n h k)
   unfolding chain chainEnd
-  chain-here f k b = (rw (chain, lt-ltb k (pageCount n h) b), rw (chainEnd, lt-ltb k (pageCount n h) b))
+  chain-by zero k = over zero k
+  chain-by (suc f) zero = over (suc f) 0
+  chain-by (suc f) (suc k) = go (ltb k (pageCount n h)) refl (chain-by f (link n h k))
+    where
+      go : (b : Bool) → ltb k (pageCount n h) ≡ b → P f (link n h k) (chain f n h (link n h k)) (chainEnd f n h (link n h k))
+          → P (suc f) (suc k) (chain (suc f) n h (suc k)) (chainEnd (suc f) n h (suc k))
+      go true e rest = rw (chain, chainEnd, e) (next f k _ _ (ltb-true _ _ e) rest)
+      go false e rest = rw (chain, chainEnd, e) (over (suc f) (suc k))
 
-  pub chain-go : (f k : ℕ) → 0 < f → (k ≡ 0 → ⊥) → k ≤ length h / 2 ^ n
-      → (chain f n h k ≡ (k - 1) ∷ chain (f - 1) n h (getD h ((k - 1) * 2 ^ n) 0)) × (chainEnd f n h k ≡ chainEnd (f - 1) n h (getD h ((k - 1) * 2 ^ n) 0))
-  unfolding link
-  chain-go zero k l z b = absurd (omega arith)
-  chain-go (suc f) zero l z b = absurd (z refl)
-  chain-go (suc f) (suc k) l z b = rw (sub-one (suc f), sub-one (suc k)) (chain-here f k b)
+-- the page that k names is there; b is its address
+pub record Next (n : ℕ) (h : List ℕ) (f k b : ℕ) : Type 0 where
+  pub start : b ≡ (k - 1) * 2 ^ n
+  pub pages : chain f n h k ≡ (k - 1) ∷ chain (f - 1) n h (getD h b 0)
+  pub end : chainEnd f n h k ≡ chainEnd (f - 1) n h (getD h b 0)
 
-  -- the ways out, and the link that it ends with then: no link, no such page, no page left to pass
-  pub chain-none : (f k : ℕ) → k ≡ 0 → (chain f n h k ≡ []) × (chainEnd f n h k ≡ k)
-  unfolding chain chainEnd
-  chain-none zero k z = (refl, refl)
-  chain-none (suc f) k z = (rw z, rw z)
+-- the chain is over, and k is the link that it ends with
+pub record Over (n : ℕ) (h : List ℕ) (f k : ℕ) : Type 0 where
+  pub none : chain f n h k ≡ []
+  pub end : chainEnd f n h k ≡ k
 
-  pub chain-bad : (f k : ℕ) → length h / 2 ^ n < k → (chain f n h k ≡ []) × (chainEnd f n h k ≡ k)
-  unfolding chain chainEnd
-  chain-bad zero k b = (refl, refl)
-  chain-bad (suc f) zero b = (refl, refl)
-  chain-bad (suc f) (suc k) b = (rw (chain, le-ltb k (length h / 2 ^ n) (omega arith)), rw (chainEnd, le-ltb k (length h / 2 ^ n) (omega arith)))
+-- at a page
+pub chain-here : (n : ℕ) (h : List ℕ) (f k : ℕ) → k < pageCount n h → (chain (suc f) n h (suc k) ≡ k ∷ chain f n h (link n h k)) × (chainEnd (suc f) n h (suc k) ≡ chainEnd f n h (link n h k))
+unfolding chain chainEnd
+chain-here n h f k b = (rw (chain, lt-ltb k (pageCount n h) b), rw (chainEnd, lt-ltb k (pageCount n h) b))
 
-  pub chain-out : (f k : ℕ) → f ≤ 0 → (chain f n h k ≡ []) × (chainEnd f n h k ≡ k)
-  unfolding chain chainEnd
-  chain-out zero k l = (refl, refl)
-  chain-out (suc f) k l = absurd (omega arith)
+-- the same over code that has N for the number of pages
+pub next-page : (n N : ℕ) (h : List ℕ) → N ≡ length h / 2 ^ n → (f k b : ℕ) → b ≡ (k - 1) * 2 ^ n → 0 < f → (k ≡ 0 → ⊥) → k ≤ N → Next n h f k b
+unfolding link
+next-page n N h e zero k b q l z c = absurd (omega arith)
+next-page n N h e (suc f) zero b q l z c = absurd (z refl)
+next-page n N h e (suc f) (suc k) b q l z c =
+    let t = chain-here n h f k (omega arith) in
+    record { start = q; pages = rw (q, sub-one (suc f), sub-one (suc k)) (t .0); end = rw (q, sub-one (suc f), sub-one (suc k)) (t .1) }
+
+-- the ways out: no page left to pass, no link, no such page
+pub over-fuel : {n : ℕ} {h : List ℕ} {f k : ℕ} → f ≤ 0 → Over n h f k
+unfolding chain chainEnd
+over-fuel {f = zero} l = record { none = refl; end = refl }
+over-fuel {f = suc f} l = absurd (omega arith)
+
+pub over-none : {n : ℕ} {h : List ℕ} {f k : ℕ} → k ≡ 0 → Over n h f k
+unfolding chain chainEnd
+over-none {f = zero} z = record { none = refl; end = refl }
+over-none {f = suc f} z = record { none = rw z; end = rw z }
+
+pub over-bad : {n : ℕ} {h : List ℕ} {f k N : ℕ} → N ≡ length h / 2 ^ n → N < k → Over n h f k
+unfolding chain chainEnd
+over-bad {f = zero} e b = record { none = refl; end = refl }
+over-bad {f = suc f} {k = zero} e b = record { none = refl; end = refl }
+over-bad {n} {h} {f = suc f} {k = suc k} e b =
+    let t = le-ltb k (length h / 2 ^ n) (omega arith) in record { none = rw (chain, t); end = rw (chainEnd, t) }

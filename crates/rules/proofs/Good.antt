@@ -1,5 +1,6 @@
--- The turn laws of good pointers: each way in which the code decides is what the definition decides.
-use Prim.Native.Nat.{ℕ, _+_, _-_, _*_, _/_, _%_, _^_, _≤_, _<_}
+-- The turn laws of good pointers: each way in which the code decides is what the definition decides. The tests are the same, and an address
+-- outside the heap is in a page without an origin.
+use Prim.Native.Nat.{ℕ, _+_, _*_, _/_, _%_, _^_, _≤_, _<_}
 use mathlib.Core.Path.{_≡_, ap}
 use mathlib.Core.Bool.{true, false}
 use mathlib.Core.List.{List}

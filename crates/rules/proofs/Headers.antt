@@ -1,4 +1,4 @@
--- What a header says, from its remainder by 8.
+-- What a header says, from its remainder by 8. By cases on the remainder: only 1 and 3 say a length.
 use Prim.Native.Nat.{ℕ, zero, suc, _/_, _%_, _≤_}
 use mathlib.Core.Path.{_≡_, refl, sym, ap, _∙_}
 use mathlib.Core.Logic.{_⊎_, inl, inr, ⊎-elim}

@@ -1,4 +1,5 @@
--- What the limits and the common test say as facts, and that a page of a heap within them lies inside it.
+-- What the limits and the common test say as facts, and that a page of a heap within them lies inside it. Each fact is one of the tests that the
+-- limits join, and a heap of whole pages ends with its last page.
 use Prim.Native.Nat.{ℕ, zero, suc, zero-le, suc-le-suc, _+_, _-_, _*_, _/_, _^_, _≤_, _<_}
 use mathlib.Core.Path.{_≡_, refl, sym, _∙_}
 use mathlib.Core.Bool.{Bool, true, false, Bool·beq, false≢true}

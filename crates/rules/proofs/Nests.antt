@@ -1,52 +1,25 @@
--- The turn laws of walks over regions and pages, as the code makes them: it has N for the number of pages and b for a page's address. Each
--- is stated with what the outer levels still have to test, `&& r`, so that one law serves every nest.
-use Prim.Native.Nat.{ℕ, suc, _+_, _-_, _*_, _/_, _^_, _≤_, _<_}
-use mathlib.Core.Path.{_≡_, sym, ap, _∙_}
+-- The turn laws of walks over regions and pages, as the code makes them. Each is stated with what the outer levels still have to test, `&& r`, so
+-- that one law serves every nest. They hold because a chain goes one page a turn, and a test of all regions one region.
+use Prim.Native.Nat.{ℕ, suc, _+_, _-_, _/_, _^_, _≤_, _<_}
+use mathlib.Core.Path.{_≡_}
 use mathlib.Core.Bool.{Bool, _&&_}
-use mathlib.Core.List.{List, [], _∷_}
+use mathlib.Core.List.{List}
 use native.Mathlib.Omega.{arith}
 use lib.ListN.{length, getD}
 use Rattle.laws.specs.Lists.{all, allFrom}
 use Rattle.laws.proofs.Tests.{all-turn, from-go}
-use Rattle.rules.specs.Memory.{chain, chainEnd, firstLink, regionPages}
+use Rattle.rules.specs.Memory.{chain, firstLink, regionPages}
 use Rattle.rules.specs.Audit.{ifLast}
-use Rattle.rules.proofs.Chains.{chain-go, chain-none, chain-bad, chain-out}
+use Rattle.rules.proofs.Chains.{Next, Over}
 
--- at the link k, with fuel f
-module _ (n N : ℕ) (h : List ℕ) (e : N ≡ length h / 2 ^ n) (f k : ℕ) where
-  pub next-chain : (b : ℕ) → b ≡ (k - 1) * 2 ^ n → 0 < f → (k ≡ 0 → ⊥) → k ≤ N → chain f n h k ≡ (k - 1) ∷ chain (f - 1) n h (getD h b 0)
-  next-chain b q l z c = chain-go n h f k l z (rw e at c) .0 ∙ ap (λ x. (k - 1) ∷ chain (f - 1) n h (getD h x 0)) (sym q)
+-- a test of each page of a chain
+module _ {n : ℕ} {h : List ℕ} {f k : ℕ} (q : ℕ → Bool) (r : Bool) where
+  pub pages-go : {b : ℕ} → Next n h f k b → (all q (chain f n h k) && r) ≡ (q (k - 1) && (all q (chain (f - 1) n h (getD h b 0)) && r))
+  pages-go x = rw (x .pages) (all-turn q (k - 1) _ r)
 
-  pub next-end : (b : ℕ) → b ≡ (k - 1) * 2 ^ n → 0 < f → (k ≡ 0 → ⊥) → k ≤ N → chainEnd f n h k ≡ chainEnd (f - 1) n h (getD h b 0)
-  next-end b q l z c = chain-go n h f k l z (rw e at c) .1 ∙ ap (λ x. chainEnd (f - 1) n h (getD h x 0)) (sym q)
-
-  -- the chain is over, and the link k is what it ends with
-  pub record Over : Type 0 where
-    pub none : chain f n h k ≡ []
-    pub end : chainEnd f n h k ≡ k
-
-  over : (chain f n h k ≡ []) × (chainEnd f n h k ≡ k) → Over
-  over t = record { none = t .0; end = t .1 }
-
-  -- the ways out: no page left to pass, no link, no such page
-  pub over-fuel : f ≤ 0 → Over
-  over-fuel l = over (chain-out n h f k l)
-
-  pub over-none : k ≡ 0 → Over
-  over-none z = over (chain-none n h f k z)
-
-  pub over-bad : N < k → Over
-  over-bad b = over (chain-bad n h f k (rw e at b))
-
-  -- a test of each page
-  module _ (q : ℕ → Bool) (r : Bool) where
-    pub pages-go : (b : ℕ) → b ≡ (k - 1) * 2 ^ n → 0 < f → (k ≡ 0 → ⊥) → k ≤ N
-        → (all q (chain f n h k) && r) ≡ (q (k - 1) && (all q (chain (f - 1) n h (getD h b 0)) && r))
-    pages-go b p l z c = rw (next-chain b p l z c) (all-turn q (k - 1) _ r)
-
-    pub pages-over : Over → (all q (chain f n h k) && r) ≡ r
-    unfolding all
-    pages-over o = rw (o .none)
+  pub pages-over : Over n h f k → (all q (chain f n h k) && r) ≡ r
+  unfolding all
+  pages-over o = rw (o .none)
 
 -- a test of each page of each region; l is the link to region j's first page
 pub regions-go : (q : ℕ → ℕ → Bool) (n N : ℕ) (h t : List ℕ) (m j l : ℕ) → N ≡ length h / 2 ^ n → l ≡ firstLink n t j → 0 < m

@@ -1,8 +1,9 @@
 -- Clearing and taking pages and placing values, as the code does it: each law says what a definition comes to once the tests before it are known.
+-- With these known, the definition computes.
 use Prim.Native.Nat.{ℕ, zero, suc, _+_, _-_, _*_, _^_, _≤_, _<_}
 use mathlib.Core.Path.{_≡_, refl, sym, ap, _∙_}
 use mathlib.Core.Bool.{true, false}
-use mathlib.Core.Option.{some}
+use mathlib.Core.Option.{none, some}
 use mathlib.Core.List.{List, [], _++_}
 use native.Mathlib.Omega.{arith}
 use native.Mathlib.Numerals.{sub-one}
@@ -14,7 +15,7 @@ use Rattle.laws.proofs.Lists.{part-length}
 use Rattle.laws.proofs.Parts.{part-put}
 use Rattle.rules.specs.declared.Refusal.{Refusal}
 use Rattle.rules.specs.declared.Valued.{Valued}
-use Rattle.rules.specs.Memory.{Store, control, pageLink, pageEnd, bodyAddress, pageWords, link, origin, row, endOf, topOf, setEnd, setTop}
+use Rattle.rules.specs.Memory.{Store, control, pageLink, pageEnd, bodyAddress, pageWords, link, setLink, origin, setOrigin, row, endOf, topOf, setEnd, setTop}
 use Rattle.rules.specs.Words.{addressPointer}
 use Rattle.rules.specs.Refusals.{Paged, outcome, refusedValue}
 use Rattle.rules.proofs.Limits.{paged-size}
@@ -65,15 +66,29 @@ last-stays zero l b ne = absurd (omega arith)
 last-stays (suc zero) l b ne = absurd (ne refl)
 last-stays (suc (suc m)) l b ne = rw (sub-one (suc (suc m)))
 
--- a page is there: the one that free first names
-pub take-some : (n j : ℕ) (r : Run) → 0 < r .first
-    → takePage n j r
-    ≡ some (
-      r .first - 1,
-      withFree r (set (set (r .heap) ((r .first - 1) * 2 ^ n) 0) ((r .first - 1) * 2 ^ n + 1) (suc j)) (link n (r .heap) (r .first - 1)) (lastIf (r .count - 1) (r .last)) (r .count - 1),
-    )
+-- ---- a page taken
+
+-- the run after page k is taken
+unfoldable pub taken : ℕ → ℕ → ℕ → Run → Run
+taken n j k r =
+    withFree r (setOrigin n (setLink n (r .heap) k 0) k (suc j)) (link n (r .heap) k) (lastIf (r .count - 1) (r .last)) (r .count - 1)
+
+pub takes : (n j k : ℕ) (r : Run) → r .first ≡ suc k → takePage n j r ≡ some (k, taken n j k r)
+unfolding takePage taken
+takes n j k r e = rw (e, takePage)
+
+-- the table is as it was, and the heap as long
+pub taken-table : (n j k : ℕ) (r : Run) → taken n j k r .table ≡ r .table
+unfolding taken
+taken-table n j k r = refl
+
+pub taken-long : (n j k : ℕ) (r : Run) → length (taken n j k r .heap) ≡ length (r .heap)
+unfolding taken
+taken-long n j k r = length-set (set (r .heap) (k * 2 ^ n) 0) (k * 2 ^ n + 1) (suc j) ∙ length-set (r .heap) (k * 2 ^ n) 0
+
+pub takes-none : (n j : ℕ) (r : Run) → r .first ≡ 0 → takePage n j r ≡ none
 unfolding takePage
-take-some n j r b = let e : r .first ≡ suc (r .first - 1) = omega arith in rw (e, sub-one (suc (r .first - 1)))
+takes-none n j r e = rw (e, takePage)
 
 -- ---- the allocation rule
 

@@ -1,4 +1,4 @@
--- Pointers and headers read back: what a word or a header says decides what it is.
+-- Pointers and headers read back: what a word or a header says decides what it is. By cases on the remainder by 4, and on what a header says.
 use Prim.Native.Nat.{ℕ, zero, suc, _+_, _*_, _/_, _%_}
 use native.Mathlib.Nat.{mul-mod-right, mul-div-right}
 use native.Mathlib.Omega.{arith}
@@ -43,21 +43,13 @@ pointer-is w a e = go (word-is w)
 
 -- a multiple of 4 is a pointer to the heap
 pub heap-word : (w : ℕ) → w % 4 ≡ 0 → wordOf w ≡ inHeap (w / 4)
-heap-word w m = go (word-is w)
-  where
-    go : Is w → wordOf w ≡ inHeap (w / 4)
-    go (heap-pointer n q) = q
-    go (const-pointer n q) = absurd (omega arith)
-    go (whole-number n q) = absurd (omega arith)
+unfolding wordOf
+heap-word w m = rw (wordOf, m)
 
 -- what leaves 2 is a pointer to a constant
 pub const-word : (w : ℕ) → w % 4 ≡ 2 → wordOf w ≡ inConst (w / 4)
-const-word w m = go (word-is w)
-  where
-    go : Is w → wordOf w ≡ inConst (w / 4)
-    go (heap-pointer n q) = absurd (omega arith)
-    go (const-pointer n q) = q
-    go (whole-number n q) = absurd (omega arith)
+unfolding wordOf
+const-word w m = rw (wordOf, m)
 
 -- a word is a number where it is no pointer
 pub number-word : (w : ℕ) → (w % 4 ≡ 0 → ⊥) → (w % 4 ≡ 2 → ⊥) → wordOf w ≡ number

@@ -1,4 +1,4 @@
--- A row of the region table written: the region's four words are those, and no other word changes.
+-- A row of the region table written: the region's four words are those, and no other word changes. A row is four stores at four places.
 use Prim.Native.Nat.{ℕ, _+_, _*_, _<_}
 use native.Mathlib.Omega.{arith}
 use mathlib.Core.Path.{_≡_, _∙_}

@@ -1,6 +1,6 @@
 -- The starred soundings of document 01: one table, and one theorem that all of it holds. It is true by computation: the definitions are
 -- run on each case, and what they give is compared word by word with what the paper says.
-use Prim.Native.Nat.{ℕ, _+_, _-_, _^_}
+use Prim.Native.Nat.{ℕ, _-_, _^_}
 use Prim.Native.Char.{code}
 use Prim.Native.String.{String}
 use mathlib.Core.Path.{_≡_, refl}

@@ -1,5 +1,5 @@
--- The turn laws of stepping: what one turn of a loop by addresses is to the list of values. At an address where a value fits, the list is
--- that value and the values after it; at the end, or where none fits, it is empty.
+-- The turn laws of stepping: what one turn of a loop by addresses is to the list of values. At an address where a value fits, the list is that
+-- value and the values after it; at the end, or where none fits, it is empty. Each is one step of `vals`.
 use Prim.Native.Nat.{ℕ, zero, suc, _+_, _-_, _/_, _≤_, _<_}
 use mathlib.Core.Path.{_≡_, refl, sym, ap, _∙_}
 use mathlib.Core.Bool.{Bool, true, false, _&&_}
@@ -62,13 +62,9 @@ module _ (h : List ℕ) (a e : ℕ) where
 -- ---- stepping to an address
 
 module _ (x : ℕ) (h : List ℕ) (a e : ℕ) where
-  pub stands-end : e ≤ a → standsAt x (valsIn h a e) ≡ false
+  pub stands-over : valsIn h a e ≡ [] → standsAt x (valsIn h a e) ≡ false
   unfolding standsAt
-  stands-end b = rw (vals-none h a e b)
-
-  pub stands-stop : a < e → e ≤ length h → fits (getD h a 0) (e - (a + 1)) ≡ false → standsAt x (valsIn h a e) ≡ false
-  unfolding standsAt
-  stands-stop b c f = rw (vals-stop h a e b c f)
+  stands-over q = rw q
 
   pub stands-here : a < e → e ≤ length h → fits (getD h a 0) (e - (a + 1)) ≡ true → x ≡ a → standsAt x (valsIn h a e) ≡ true
   unfolding standsAt
@@ -81,25 +77,9 @@ module _ (x : ℕ) (h : List ℕ) (a e : ℕ) where
 -- ---- the fields of the values
 
 -- values, from address a up to address e
-module _ (p : ℕ → Bool) (h : List ℕ) (a e : ℕ) (r : Bool) where
-  pub values-end : e ≤ a → (all (fieldsPass p) (valsIn h a e) && r) ≡ r
-  unfolding all
-  values-end b = rw (vals-none h a e b)
-
-  pub values-stop : a < e → e ≤ length h → fits (getD h a 0) (e - (a + 1)) ≡ false → (all (fieldsPass p) (valsIn h a e) && r) ≡ r
-  unfolding all
-  values-stop b c f = rw (vals-stop h a e b c f)
-
-  values-raw : a < e → e ≤ length h → fits (getD h a 0) (e - (a + 1)) ≡ true → isRecord (getD h a 0) ≡ false
-      → (all (fieldsPass p) (valsIn h a e) && r) ≡ (all (fieldsPass p) (valsIn h (a + 1 + getD h a 0 / 8) e) && r)
-  unfolding fieldsPass
-  values-raw b c f t = rw (vals-step h a e b c f, all-turn (fieldsPass p), t)
-
-  values-rec : a < e → e ≤ length h → fits (getD h a 0) (e - (a + 1)) ≡ true → isRecord (getD h a 0) ≡ true
-      → (all (fieldsPass p) (valsIn h a e) && r)
-      ≡ (all p (slice (a + 1) (a + 1 + getD h a 0 / 8) h) && (all (fieldsPass p) (valsIn h (a + 1 + getD h a 0 / 8) e) && r))
-  unfolding fieldsPass
-  values-rec b c f t = rw (vals-step h a e b c f, all-turn (fieldsPass p), t)
+pub values-over : (p : ℕ → Bool) (h : List ℕ) (a e : ℕ) (r : Bool) → valsIn h a e ≡ [] → (all (fieldsPass p) (valsIn h a e) && r) ≡ r
+unfolding all
+values-over p h a e r q = rw q
 
 -- a value at address a, over code that has the next one's address as d
 module _ (p : ℕ → Bool) (h : List ℕ) (a e : ℕ) (r : Bool) (b : a < e) (c : e ≤ length h) (t : fits (getD h a 0) (e - (a + 1)) ≡ true) (d : ℕ) (q : d ≡ a + (1 + getD h a 0 / 8)) where
@@ -107,8 +87,10 @@ module _ (p : ℕ → Bool) (h : List ℕ) (a e : ℕ) (r : Bool) (b : a < e) (c
   next = omega arith
 
   pub raw-go : isRecord (getD h a 0) ≡ false → (all (fieldsPass p) (valsIn h a e) && r) ≡ (all (fieldsPass p) (valsIn h d e) && r)
-  raw-go u = rw next at (values-raw p h a e r b c t u)
+  unfolding fieldsPass
+  raw-go u = rw (vals-step h a e b c t, all-turn (fieldsPass p), u, next)
 
   -- and its first field's as f
   pub record-go : isRecord (getD h a 0) ≡ true → (f : ℕ) → f ≡ a + 1 → (all (fieldsPass p) (valsIn h a e) && r) ≡ (all p (slice f d h) && (all (fieldsPass p) (valsIn h d e) && r))
-  record-go u f s = rw (next, ← s) at (values-rec p h a e r b c t u)
+  unfolding fieldsPass
+  record-go u f s = rw (vals-step h a e b c t, all-turn (fieldsPass p), u, next, s)

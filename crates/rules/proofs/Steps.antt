@@ -1,6 +1,6 @@
 -- Stepping by headers, as a relation on addresses, and what it has to do with the list of values: at each address either a value stands and the
 -- list goes on with it, or none does and the list ends.
-use Prim.Native.Nat.{ℕ, zero, suc, _+_, _-_, _≤_, _<_, zero-le, suc-le-suc}
+use Prim.Native.Nat.{ℕ, zero, suc, _+_, _-_, _*_, _^_, _≤_, _<_, zero-le, suc-le-suc}
 use native.Mathlib.Nat.{le-refl, add-zero, add-suc, suc-add}
 use native.Mathlib.Omega.{arith}
 use mathlib.Core.Path.{_≡_, refl, sym, ap, _∙_}
@@ -30,6 +30,18 @@ pub data Steps (h : List ℕ) (hi : ℕ) : ℕ → ℕ → Type 0 where
   here : {a : ℕ} → Steps h hi a a
   over : {a b l : ℕ} → Stands h hi a l → Steps h hi (a + suc l) b → Steps h hi a b
 
+-- the same in page k, of 2 ^ n words: from its third word on, and each value ends inside the page
+abbrev pub PageStands : ℕ → List ℕ → ℕ → ℕ → ℕ → Type 0
+PageStands n h k a l = Stands h (k * 2 ^ n + 2 ^ n) a l
+
+abbrev pub PageSteps : ℕ → List ℕ → ℕ → ℕ → Type 0
+PageSteps n h k a = Steps h (k * 2 ^ n + 2 ^ n) (k * 2 ^ n + 2) a
+
+-- stepping through page k comes to a, and a value of l words stands there
+pub record OnPage (n : ℕ) (h : List ℕ) (k a l : ℕ) : Type 0 where
+  pub steps : PageSteps n h k a
+  pub stands : PageStands n h k a l
+
 pub steps-le : {h : List ℕ} {hi a b : ℕ} → Steps h hi a b → a ≤ b
 steps-le (here {a}) = le-refl a
 steps-le (over {a} {l = l} st r) = let k = steps-le r in omega arith
@@ -47,6 +59,13 @@ steps-same agree here = here
 steps-same agree (over {a} {b} {l} st r) =
     let k = steps-le r in
     over (stands-same (agree a (le-refl a) (omega arith)) st) (steps-same (λ x lo hi. agree x (omega arith) hi) r)
+
+pub on-same : {n : ℕ} {g h : List ℕ} {k a l : ℕ} → ((x : ℕ) → k * 2 ^ n + 2 ≤ x → x ≤ a → at g x ≡ at h x) → OnPage n g k a l → OnPage n h k a l
+on-same {a = a} agree v =
+    record {
+      steps = steps-same (λ x lo hi. agree x lo (omega arith)) (v .steps);
+      stands = stands-same (agree a (steps-le (v .steps)) (le-refl a)) (v .stands);
+    }
 
 pub same-length : {h : List ℕ} {hi a l m : ℕ} → Stands h hi a l → Stands h hi a m → l ≡ m
 same-length p q = let e = p .head in let e′ = q .head in cc

@@ -5,46 +5,29 @@ use native.Mathlib.Omega.{arith}
 use native.Mathlib.Nat.{le-refl}
 use native.Mathlib.Decide.{ℕ-discrete}
 use mathlib.Core.Path.{_≡_, refl, ap, _∙_}
-use mathlib.Core.Logic.{_⊎_, inl, inr}
-use mathlib.Core.Bool.{Bool, true, false}
-use mathlib.Core.List.{List, [], _∷_, _++_, List·Memᴰ, List·Memᴰ·head, List·Memᴰ·tail, List·Memᴰ·cases-cons, List·Memᴰ·not-nil, List·Memᴰ·append-cases, Memᴰ·append-left, Memᴰ·append-right}
+use mathlib.Core.Logic.{_⊎_, inl, inr, ⊎-elim}
+use mathlib.Core.Bool.{Bool, true}
+use mathlib.Core.List.{List, _∷_, _++_, List·Memᴰ, List·Memᴰ·head, List·Memᴰ·tail, List·Memᴰ·cases-cons, List·Memᴰ·not-nil, List·Memᴰ·append-cases, Memᴰ·append-left, Memᴰ·append-right}
 use lib.ListN.{length}
-use lib.Dec.{ltb, eqb}
-use borrow.Author.Tests.{ltb-true, eqb-true}
+use lib.Dec.{eqb}
+use borrow.Author.Tests.{eqb-true}
 use Rattle.laws.specs.Lists.{all, allBelow, times}
 use Rattle.laws.proofs.Tests.{all-in, below-in}
 use Rattle.laws.proofs.Once.{Once, once-none, Linked, stop, goes, linked-once, once-append, once-by-count}
 use Rattle.rules.specs.Memory.{pageCount, link, origin, chain, chainEnd, firstLink, regionPages, freePages, pagesFrom, regionOrigin}
 use Rattle.rules.specs.Audit.{endsWell, eachPage, allChains}
-use Rattle.rules.proofs.Chains.{chain-here}
+use Rattle.rules.proofs.Chains.{chain-by, chain-here}
 
 module _ (n : ℕ) (h : List ℕ) where
   -- the pages of a chain are pages of the heap
   pub chain-there : (f x k : ℕ) → List·Memᴰ k (chain f n h x) → k < pageCount n h
-  unfolding chain
-  chain-there zero x k m = absurd (List·Memᴰ·not-nil m)
-  chain-there (suc f) zero k m = absurd (List·Memᴰ·not-nil m)
-  chain-there (suc f) (suc x) k m = go (ltb x (pageCount n h)) refl (λ q. chain-there f (link n h x) k q)
-    where
-      by : x < pageCount n h → (k ≡ x) ⊎ List·Memᴰ k (chain f n h (link n h x)) → (List·Memᴰ k (chain f n h (link n h x)) → k < pageCount n h) → k < pageCount n h
-      by b (inl e) rest = omega arith
-      by b (inr q) rest = rest q
-
-      go : (b : Bool) → ltb x (pageCount n h) ≡ b → (List·Memᴰ k (chain f n h (link n h x)) → k < pageCount n h) → k < pageCount n h
-      go true e rest = by (ltb-true _ _ e) (List·Memᴰ·cases-cons (rw (chain, e) at m)) rest
-      go false e rest = let m′ : List·Memᴰ k [] = rw (chain, e) at m in absurd (List·Memᴰ·not-nil m′)
+  chain-there =
+      chain-by n h (λ f x ks e. (k : ℕ) → List·Memᴰ k ks → k < pageCount n h) (λ f x k m. absurd (List·Memᴰ·not-nil m))
+      (λ f x ks e b rest k m. ⊎-elim (λ q. omega arith) (λ q. rest k q) (List·Memᴰ·cases-cons m))
 
   -- one that ends with link 0 is linked by its pages' links
   pub chain-linked : (f x : ℕ) → chainEnd f n h x ≡ 0 → Linked (link n h) x (chain f n h x)
-  unfolding chain chainEnd
-  chain-linked zero x e = rw e stop
-  chain-linked (suc f) zero e = stop
-  chain-linked (suc f) (suc k) e = go (ltb k (pageCount n h)) refl (λ u. chain-linked f (link n h k) u)
-    where
-      go : (b : Bool) → ltb k (pageCount n h) ≡ b → (chainEnd f n h (link n h k) ≡ 0 → Linked (link n h) (link n h k) (chain f n h (link n h k)))
-          → Linked (link n h) (suc k) (chain (suc f) n h (suc k))
-      go true q rest = rw (chain, q) (goes (rest (rw (q, chainEnd) at e)))
-      go false q rest = let z : suc k ≡ 0 = rw (q, chainEnd) at e in absurd (omega arith)
+  chain-linked = chain-by n h (λ f x ks e. e ≡ 0 → Linked (link n h) x ks) (λ f x z. rw z stop) (λ f x ks e b rest z. goes (rest z))
 
   -- and pages of the heap that are linked are the chain, if there is fuel for them
   pub linked-chain : (f : ℕ) {x : ℕ} {ks : List ℕ} → Linked (link n h) x ks → ((k : ℕ) → List·Memᴰ k ks → k < pageCount n h) → length ks ≤ f

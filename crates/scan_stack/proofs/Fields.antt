@@ -1,4 +1,4 @@
--- The fields of a value, a turn by what `evacuate` ensures: those from the i-th on are what is left of `each`.
+-- The fields of a value, a turn by what `evacuate` ensures: those from the i-th on are what is left of `each`. It is a turn of the definition.
 use Prim.Native.Nat.{ℕ, _+_, _-_, _≤_, _<_}
 use native.Mathlib.Omega.{arith}
 use mathlib.Core.Path.{_≡_}

@@ -1,4 +1,4 @@
--- The bits below a page's size are what an address leaves of whole pages.
+-- The bits below a page's size are what an address leaves of whole pages. That size is a power of two.
 use Prim.Native.Nat.{ℕ, _-_, _%_, _^_}
 use mathlib.Core.Path.{_≡_, sym, ap, _∙_}
 use lib.Bits.{bitAnd, and-mask}

@@ -1,6 +1,6 @@
 -- The turn laws of used words: at each value and at each page, what was counted and what is left to count is the whole.
 use Prim.Native.Nat.{ℕ, _+_, _-_, _*_, _/_, _^_, _≤_, _<_}
-use mathlib.Core.Path.{_≡_, ap, _∙_}
+use mathlib.Core.Path.{_≡_}
 use mathlib.Core.Bool.{true}
 use mathlib.Core.List.{List, []}
 use native.Mathlib.Omega.{arith}
@@ -9,8 +9,7 @@ use Rattle.laws.proofs.Tallies.{sum-done}
 use Rattle.rules.specs.Memory.{chain}
 use Rattle.rules.specs.Words.{fits, valsIn, usedOf}
 use Rattle.rules.specs.Audit.{usedOn}
-use Rattle.rules.proofs.Chains.{page-vals}
-use Rattle.rules.proofs.Nests.{next-chain, Over}
+use Rattle.rules.proofs.Chains.{page-vals, Next, Over}
 use Rattle.contents.proofs.Turns.{end-step}
 
 -- u words are counted, those of the values from address a up to address e are left, and w is the whole
@@ -26,17 +25,14 @@ module _ (h : List ℕ) (a e u w : ℕ) (i : u + usedOf (valsIn h a e) ≡ w) wh
       rw s (omega (arith, end-step h a e b c f))
 
 -- u words are counted, and those of the pages from the link k on are left, with fuel f
-module _ (n N : ℕ) (h : List ℕ) (e : N ≡ length h / 2 ^ n) (f k u w : ℕ) (i : u + usedOn n h (chain f n h k) ≡ w) where
-  -- the page is p, its values take x words, and its link is at address b
-  pub page-used : (p x b : ℕ) → p ≡ k - 1 → x ≡ usedOf (valsIn h (p * 2 ^ n + 2) (p * 2 ^ n + 2 ^ n)) → b ≡ p * 2 ^ n → 0 < f → (k ≡ 0 → ⊥) → k ≤ N
-      → u + x + usedOn n h (chain (f - 1) n h (getD h b 0)) ≡ w
+module _ {n : ℕ} {h : List ℕ} {f k : ℕ} (u w : ℕ) (i : u + usedOn n h (chain f n h k) ≡ w) where
+  -- the page is p, and its values take v words
+  pub page-used : {b : ℕ} → Next n h f k b → (p v : ℕ) → p ≡ k - 1 → v ≡ usedOf (valsIn h (p * 2 ^ n + 2) (p * 2 ^ n + 2 ^ n)) → u + v + usedOn n h (chain (f - 1) n h (getD h b 0)) ≡ w
   unfolding usedOn
-  page-used p x b q r s l z c =
-      let t : usedOn n h (chain f n h k) ≡ x + usedOn n h (chain (f - 1) n h (getD h b 0)) =
-      rw (next-chain n N h e f k b (s ∙ ap (λ y. y * 2 ^ n) q) l z c, ← q, page-vals n h p, ← r)
-      in
+  page-used {b} x p v q r =
+      let t : usedOn n h (chain f n h k) ≡ v + usedOn n h (chain (f - 1) n h (getD h b 0)) = rw (x .pages, ← q, page-vals n h p, ← r) in
       omega arith
 
-  pub pages-used : Over n N h e f k → u ≡ w
+  pub pages-used : Over n h f k → u ≡ w
   unfolding usedOn
   pages-used o = sum-done u (usedOn n h (chain f n h k)) w i (rw (o .none))

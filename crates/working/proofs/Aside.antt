@@ -25,7 +25,7 @@ wake-by n j b r Q slept was-awake = go (statusOf (r .table) j) refl
     go zero e = rw (e, wake) (slept e)
     go (suc c) e = rw (e, wake) (was-awake (λ q. omega arith))
 
-module _ (n N R : ℕ) (own : ℕ → Owner) (fin : ℕ → ℕ) (pages : ℕ → List ℕ) (free : List ℕ) (r : Run) (L : Layout n N R own fin pages free r) where
+module _ {n N R : ℕ} {own : ℕ → Owner} {fin : ℕ → ℕ} {pages : ℕ → List ℕ} {free : List ℕ} {r : Run} (L : Layout n N R own fin pages free r) where
   pub stack-laid : (stack : List Scan) → Layout n N R own fin pages free (withStack r stack)
   stack-laid stack = rows-laid L R (le-refl R) (r .table) stack (L .rows) (λ i x b lo hi. refl)
 

@@ -1,5 +1,6 @@
 -- Demand 3, about the definition of the collection: on a heap that passes it is refused for want of a page, or leaves a heap that passes, on
--- which every path reads and meets as before, and each region's used words are those of its values that a root reached.
+-- which every path reads and meets as before, and each region's used words are those of its values that a root reached. It follows from what it
+-- leaves being a copy of what the roots reach.
 use Prim.Native.Nat.{ℕ, _*_, _≤_, _<_}
 use native.Mathlib.Omega.{arith}
 use native.Mathlib.Decide.{ℕ-discrete}
@@ -20,7 +21,8 @@ use Rattle.rules.specs.Seen.{homeIn, seen, Reached, readAt, Meet, wordsAt}
 use Rattle.facts.proofs.Alike.{Same, meetings}
 use Rattle.facts.proofs.Copied.{Moved, to, Rel, copied-same, reached-moved}
 use Rattle.facts.proofs.Observing.{reads-alike, meet-is, used-is, used-known}
-use Rattle.facts.proofs.Sound.{Sound, Passes, good-page}
+use Rattle.rules.proofs.Judged.{Passes}
+use Rattle.facts.proofs.Sound.{Sound, good-page}
 use Rattle.facts.proofs.Passing.{meaning}
 use Rattle.facts.proofs.Looked.{words-elsewhere}
 use Rattle.working.proofs.Log.{pointers, olds, in-olds, olds-in, of-pointers}
@@ -39,7 +41,7 @@ once-pointers (m ∷ ms) (once-more new o) =
     go : (a b : ℕ) → 4 * m .old ≡ 4 * a → List·Memᴰ (to a b) ms → ⊥
     go a b e q = let e′ : m .old ≡ a = omega arith in new (rw e′ (olds-in q))
 
-module _ (s : Store) (S : Sound s) (roots : List ℕ) (r : Run) (A : Ran s S roots r) where
+module _ {s : Store} {S : Sound s} {roots : List ℕ} {r : Run} (A : Ran s S roots r) where
   abbrev n : ℕ
   n = s .ctl .n
 
@@ -50,7 +52,7 @@ module _ (s : Store) (S : Sound s) (roots : List ℕ) (r : Run) (A : Ran s S roo
   log = A .end .ghost .log
 
   abbrev s′ : Store
-  s′ = left-store s S roots r A
+  s′ = left-store A
 
   abbrev pub live : List ℕ
   live = olds (pointers log)
@@ -59,7 +61,7 @@ module _ (s : Store) (S : Sound s) (roots : List ℕ) (r : Run) (A : Ran s S roo
   passes = meaning s .1 S
 
   pub passes′ : Passes s′
-  passes′ = meaning s′ .1 (left-sound s S roots r A)
+  passes′ = meaning s′ .1 (left-sound A)
 
   pub live-once : Once live
   live-once = once-pointers log (A .end .inv .logged .once)
@@ -67,12 +69,12 @@ module _ (s : Store) (S : Sound s) (roots : List ℕ) (r : Run) (A : Ran s S roo
   -- ---- used words
 
   used′ : (j : ℕ) → j < R → usedBy n (s′ .heap) (s′ .table) j ≡ sumOver (wordsAt (seen s) j) live
-  used′ j jR = used-filled s′ (left-sound s S roots r A) j jR ∙ left-filled s S roots r A j ∙ A .end .inv .tallied j jR
+  used′ j jR = used-filled s′ (left-sound A) j jR ∙ left-filled A j ∙ A .end .inv .tallied j jR
 
   pub live-exactly : (w : ℕ) → List·Memᴰ w live ↔ (Reached (seen s) (s .roots) w × (homeIn s w ≢ 0))
   live-exactly w = (
-    λ m. let t = in-olds (pointers log) m in let c = left-copied s S roots r A in (c .live (t .1), c .moving (t .1) .1),
-    λ t. olds-in (reached-moved (seen s) (seen s′) (Kept s) (pointers log) (s .roots) roots (left-copied s S roots r A) (t .0) (t .1) .1),
+    λ m. let t = in-olds (pointers log) m in let c = left-copied A in (c .live (t .1), c .moving (t .1) .1),
+    λ t. olds-in (reached-moved (seen s) (seen s′) (Kept s) (pointers log) (s .roots) roots (left-copied A) (t .0) (t .1) .1),
   )
 
   pub left-counts : (j : ℕ) → j < R → usedWords s′ j ≡ Valued.Done (sumOver (wordsAt (seen s) j) live) (s′ .ctl)
@@ -88,7 +90,7 @@ module _ (s : Store) (S : Sound s) (roots : List ℕ) (r : Run) (A : Ran s S roo
       go : (a b : ℕ) → w ≡ 4 * a → (q : List·Memᴰ (to a b) log) → Dec (A .end .inv .logged .copies q .region ≡ j) → Counts s S j w
       go a b e q (yes d) =
           let D = A .end .inv .logged .copies q in
-          for-its-words (D .from) a (D .len) e (rw d at (good-page s S a (copy-was (A .end .inv) q))) (D .from-steps) (D .from-stands)
+          for-its-words e (rw d at (good-page S (copy-was (A .end .inv) q))) (D .was)
       go a b e q (no ne) = for-nothing (rw e (words-elsewhere s (S .within .paged) a (copy-was (A .end .inv) q) j (λ t. ne (sym t))))
 
   -- "A collection never raises them"
@@ -107,16 +109,16 @@ module _ (s : Store) (S : Sound s) (roots : List ℕ) (r : Run) (A : Ran s S roo
   -- ---- paths
 
   same : Same (seen s) (seen s′) (Rel (Kept s) (pointers log))
-  same = copied-same (seen s) (seen s′) (Kept s) (pointers log) (s .roots) roots (left-copied s S roots r A)
+  same = copied-same (seen s) (seen s′) (Kept s) (pointers log) (s .roots) roots (left-copied A)
 
   pub left-reads : (i : ℕ) (fs : List ℕ) → readAt s (walk s i fs) ≡ readAt s′ (walk s′ i fs)
   left-reads i fs =
-      let c = left-copied s S roots r A in
+      let c = left-copied A in
       reads-alike s s′ passes passes′ (Rel (Kept s) (pointers log)) same (c .count) (c .roots) i fs
 
   pub left-meets : (i : ℕ) (fs : List ℕ) (j : ℕ) (gs : List ℕ) → Meet s i fs j gs ↔ Meet s′ i fs j gs
   left-meets i fs j gs =
-      let c = left-copied s S roots r A in
+      let c = left-copied A in
       let m = meetings (seen s) (seen s′) (Rel (Kept s) (pointers log)) same (s .roots) roots (c .count) (c .roots) i fs j gs in
       let p = meet-is s passes i fs j gs in
       let q = meet-is s′ passes′ i fs j gs in
@@ -124,6 +126,6 @@ module _ (s : Store) (S : Sound s) (roots : List ℕ) (r : Run) (A : Ran s S roo
 
 -- ---- what the call leaves
 
-pub ran-leaves : (s : Store) (S : Sound s) (roots : List ℕ) (r : Run) (A : Ran s S roots r) → ending s roots (finished r) ≡ leaving (left-store s S roots r A)
+pub ran-leaves : {s : Store} {S : Sound s} {roots : List ℕ} {r : Run} (A : Ran s S roots r) → ending s roots (finished r) ≡ leaving (left-store A)
 unfolding ending leaves
-ran-leaves s S roots r A = refl
+ran-leaves A = refl

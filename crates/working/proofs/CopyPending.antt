@@ -11,17 +11,17 @@ use Rattle.laws.specs.Lists.{at}
 use Rattle.rules.specs.Memory.{Store, statusOf}
 use Rattle.rules.specs.Words.{rec, raw, headOf}
 use Rattle.rules.specs.Pages.{Run}
-use Rattle.rules.proofs.Steps.{Stands, steps-le}
-use Rattle.facts.proofs.Laid.{Owner, upd, upd-same, upd-other}
+use Rattle.rules.proofs.Steps.{PageStands, steps-le}
+use Rattle.facts.proofs.Laid.{Owner, upd, upd-same, upd-other, mine-inj, spare≢mine}
 use Rattle.facts.proofs.Copied.{Moved, to}
 use Rattle.facts.proofs.Sound.{Sound}
-use Rattle.working.proofs.Owned.{mine-inj, spare≢mine, total-snoc}
-use Rattle.working.proofs.Log.{Evacuated, other-place}
+use Rattle.working.proofs.Owned.{total-snoc}
+use Rattle.working.proofs.Log.{Into, last-page, free-page, Evacuated, other-place}
 use Rattle.working.proofs.Next.{Row}
 use Rattle.working.proofs.Rows.{row-same, row-snoc, row-page}
-use Rattle.working.proofs.Invariant.{Ghost, Kept, Pending, Inv, Later}
-use Rattle.working.proofs.Copying.{Uncopied, Into, last-page, free-page, Made}
-use Rattle.working.proofs.Waking.{woken-stacked, woken-once, woken-at-work, woken-idle, woken-busy, woken-deep}
+use Rattle.working.proofs.Invariant.{Ghost, Pending, Inv, Later}
+use Rattle.working.proofs.Copying.{Uncopied, Made}
+use Rattle.working.proofs.Waking.{woken, woken-deep}
 
 -- the value at a is copied to b, into region j
 abbrev pub copied : Ghost → ℕ → ℕ → ℕ → (ℕ → Owner) → (ℕ → ℕ) → (ℕ → List ℕ) → List ℕ → Ghost
@@ -39,7 +39,7 @@ copied g j a b own fin pages free =
       half = g .half;
     }
 
-module _ (s : Store) (S : Sound s) (g : Ghost) (r : Run) (I : Inv s S g r) (x : Uncopied s g) (b p : ℕ) (own : ℕ → Owner) (fin : ℕ → ℕ) (pages : ℕ → List ℕ) (free : List ℕ) (r′ : Run)
+module _ {s : Store} {S : Sound s} {g : Ghost} {r : Run} (I : Inv s S g r) {x : Uncopied s g} {b p : ℕ} {own : ℕ → Owner} {fin : ℕ → ℕ} {pages : ℕ → List ℕ} {free : List ℕ} {r′ : Run}
     (M : Made s g r x b p own fin pages free r′) where
   abbrev n : ℕ
   n = s .ctl .n
@@ -56,7 +56,7 @@ module _ (s : Store) (S : Sound s) (g : Ghost) (r : Run) (I : Inv s S g r) (x : 
   abbrev pub after : Ghost
   after = copied g (x .good .region) (x .address) b own fin pages free
 
-  abbrev E : Evacuated n s (g .own) own (g .fin) fin (r .heap) (r′ .heap) j (x .good .len) a b (x .good .page) p
+  abbrev E : Evacuated n s (g .own) own (g .fin) fin (g .pages) pages (r .heap) (r′ .heap) j (x .good .len) a b (x .good .page) p
   E = M .moved
 
   todo-own : after .todo j ≡ g .todo j ++ b ∷ []
@@ -83,22 +83,22 @@ module _ (s : Store) (S : Sound s) (g : Ghost) (r : Run) (I : Inv s S g r) (x : 
       (row-same (λ k y m. agree i k y iR m) (λ k m. M .fin-other k i (I .laid .mine-own i k iR m) (not-p i k iR ne m)) (I .pending .rows i iR))
 
   row-own : Row n (r′ .heap) fin (pages j) (g .past j ++ after .todo j)
-  row-own = rw todo-own (subst (λ vs. Row n (r′ .heap) fin (pages j) vs) (append-assoc (g .past j) (g .todo j) (b ∷ [])) (go (M .pages-own)))
+  row-own = rw todo-own (subst (λ vs. Row n (r′ .heap) fin (pages j) vs) (append-assoc (g .past j) (g .todo j) (b ∷ [])) (go (E .place)))
     where
       jR : j < R
       jR = x .good .known
 
-      go : Into n g j b p pages → Row n (r′ .heap) fin (pages j) ((g .past j ++ g .todo j) ++ b ∷ [])
-      go (last-page same last e) =
+      go : Into n (g .own) (g .fin) (g .pages) pages j b p → Row n (r′ .heap) fin (pages j) ((g .past j ++ g .todo j) ++ b ∷ [])
+      go (last-page o last same e) =
           let end = E .b-end in
           let base : Row n (r′ .heap) (g .fin) (g .pages j) (g .past j ++ g .todo j) = row-same (λ k y m. agree j k y jR m) (λ k m. refl) (I .pending .rows j jR) in
-          let stands : Stands (r′ .heap) (p * 2 ^ n + 2 ^ n) (g .fin p) (x .good .len) = subst (λ y. Stands (r′ .heap) (p * 2 ^ n + 2 ^ n) y (x .good .len)) e (E .b-stands) in
+          let stands : PageStands n (r′ .heap) p (g .fin p) (x .good .len) = subst (λ y. PageStands n (r′ .heap) p y (x .good .len)) e (E .now .stands) in
           rw same (subst (λ y. Row n (r′ .heap) fin (g .pages j) ((g .past j ++ g .todo j) ++ y ∷ [])) (sym e)
           (row-snoc base last (I .laid .mine-once j jR) stands (omega arith) (λ k m ne. M .fin-other k j (I .laid .mine-own j k jR m) ne)))
-      go (free-page longer free e) =
+      go (free-page free longer e) =
           let base : Row n (r′ .heap) fin (g .pages j) (g .past j ++ g .todo j)
           = row-same (λ k y m. agree j k y jR m) (λ k m. let q = I .laid .mine-own j k jR m in M .fin-other k j q (λ z. spare≢mine free (ap (g .own) (sym z) ∙ q))) (I .pending .rows j jR) in
-          let stands : Stands (r′ .heap) (p * 2 ^ n + 2 ^ n) (p * 2 ^ n + 2) (x .good .len) = subst (λ y. Stands (r′ .heap) (p * 2 ^ n + 2 ^ n) y (x .good .len)) e (E .b-stands) in
+          let stands : PageStands n (r′ .heap) p (p * 2 ^ n + 2) (x .good .len) = subst (λ y. PageStands n (r′ .heap) p y (x .good .len)) e (E .now .stands) in
           let end : p * 2 ^ n + 2 + suc (x .good .len) ≡ fin p = ap (λ y. y + suc (x .good .len)) (sym e) ∙ E .b-end in
           rw longer (subst (λ y. Row n (r′ .heap) fin (g .pages j ++ p ∷ []) ((g .past j ++ g .todo j) ++ y ∷ [])) (sym e) (row-page base stands end))
 
@@ -132,14 +132,13 @@ module _ (s : Store) (S : Sound s) (g : Ghost) (r : Run) (I : Inv s S g r) (x : 
 
   -- a copy of before stands elsewhere, and its header is as it was
   elsewhere : {c d : ℕ} → List·Memᴰ (to c d) (g .log) → d ≢ b
-  elsewhere m =
-      other-place n s (Kept s) (g .own) own (g .fin) fin (r .heap) (r′ .heap) (g .log) (g .count) j (x .good .len) a b (x .good .page) p (I .logged) E (x .new) (x .reached) (I .logged .copies m)
+  elsewhere m = other-place (I .logged) E (x .new) (x .reached) (I .logged .copies m)
 
   header : {c d : ℕ} → List·Memᴰ (to c d) (g .log) → at (r′ .heap) d ≡ at (r .heap) d
   header {c} {d} m =
       let C = I .logged .copies m in
       let below = C .into-below in
-      E .mine-words (C .into) (C .region) d (C .into-mine) (steps-le (C .into-steps)) (omega arith)
+      E .mine-words (C .into) (C .region) d (C .into-mine) (steps-le (C .now .steps)) (omega arith)
 
   scanned : {c d : ℕ} → List·Memᴰ (to c d) (after .log) → ((i : ℕ) → i < R → List·Memᴰ d (after .todo i) → ⊥) → g .half ≢ some d
       → (m : ℕ) → headOf (at (r′ .heap) d) ≡ rec m → m ≤ after .count d
@@ -164,16 +163,12 @@ module _ (s : Store) (S : Sound s) (g : Ghost) (r : Run) (I : Inv s S g r) (x : 
         untouched = λ i c iR m. untouched i c iR m (ℕ-discrete c b);
         scanned = scanned;
         raws = raws;
-        stacked = woken-stacked n R g after r r′ (I .pending) j b (x .good .known) refl todo-own todo-other statuses (M .awake) (M .how);
-        once = woken-once n R g after r r′ (I .pending) j b (x .good .known) refl todo-own todo-other statuses (M .awake) (M .how);
-        at-work = woken-at-work n R g after r r′ (I .pending) j b (x .good .known) refl todo-own todo-other statuses (M .awake) (M .how);
-        idle = woken-idle n R g after r r′ (I .pending) j b (x .good .known) refl todo-own todo-other statuses (M .awake) (M .how);
-        busy = woken-busy n R g after r r′ (I .pending) j b (x .good .known) refl todo-own todo-other statuses (M .awake) (M .how);
+        queue = woken (I .pending .queue) (x .good .known) todo-own todo-other statuses (M .awake) (M .how);
       }
 
   pub copied-later : Later R g r after r′
   copied-later =
-      let deep = woken-deep n R g after r r′ (I .pending) j b (x .good .known) refl todo-own todo-other statuses (M .awake) (M .how) in
+      let deep = woken-deep (M .how) in
       let more = total-snoc (g .todo) j b R (x .good .known) in
       record {
         log = λ m q. List·Memᴰ·tail q;

@@ -1,31 +1,29 @@
 -- A value copied: what changes, as far as the invariant asks. The copy is the last value of its region's last page, be it the page that was
 -- last or one taken for it, and its old header is the forward to it.
-use Prim.Native.Nat.{ℕ, suc, _+_, _*_, _^_, _<_}
+use Prim.Native.Nat.{ℕ, suc, _+_, _*_, _<_}
 use native.Mathlib.Omega.{arith}
 use mathlib.Core.Path.{_≡_, sym, ap, _∙_}
-use mathlib.Core.Logic.{_≢_, _⊎_, inl, inr}
+use mathlib.Core.Logic.{_≢_}
 use mathlib.Core.Option.{some}
-use mathlib.Core.List.{List, [], _∷_, _++_, List·Memᴰ}
+use mathlib.Core.List.{List, _∷_, List·Memᴰ}
 use lib.ListN.{length, set, take, drop, length-set}
 use lib.Seq.{getD-set-other}
 use Rattle.laws.specs.Lists.{at, put}
-use Rattle.laws.proofs.Once.{Last, last-in, last-is}
 use Rattle.rules.specs.Memory.{Store, pageCount, topOf, statusOf}
 use Rattle.rules.specs.Pages.{Run, withHeap, store, room}
 use Rattle.rules.specs.Collection.{wake, moveTo}
 use Rattle.rules.specs.Seen.{seen, Reached}
 use Rattle.rules.proofs.Steps.{steps-le}
-use Rattle.facts.proofs.Laid.{Owner, old, spare, mine, Layout, upd, upd-other, words-in}
-use Rattle.facts.proofs.Copied.{to}
+use Rattle.facts.proofs.Laid.{Owner, old, mine, Layout, upd, upd-other, words-in, old≢beyond}
 use Rattle.facts.proofs.Sound.{InHeap, Sound}
-use Rattle.working.proofs.Owned.{old≢beyond, Owned, total}
-use Rattle.working.proofs.Log.{Evacuated}
+use Rattle.working.proofs.Owned.{Owned, total}
+use Rattle.working.proofs.Log.{olds, Evacuated}
 use Rattle.working.proofs.Placed.{Roomed}
 use Rattle.working.proofs.Aside.{wake-laid, forward-laid}
 use Rattle.working.proofs.Moving.{val, fits, evacuated}
 use Rattle.working.proofs.Stored.{store-laid}
 use Rattle.working.proofs.Wanting.{has-room}
-use Rattle.working.proofs.Invariant.{Ghost, Kept, Inv}
+use Rattle.working.proofs.Invariant.{Ghost, Inv}
 use Rattle.working.proofs.Waking.{entry, Stacked, slept, was-awake, Woken, wakes}
 
 -- a value of an old page that is not copied yet
@@ -34,20 +32,14 @@ pub record Uncopied (s : Store) (g : Ghost) : Type 0 where
   pub good : InHeap (s .ctl .n) (s .ctl .regions) (s .heap) address
   pub from-old : g .own (good .page) ≡ old
   pub reached : Reached (seen s) (s .roots) (4 * address)
-  pub new : (b : ℕ) → List·Memᴰ (to address b) (g .log) → ⊥
-
--- the page p that region j's copy at b goes to: it was the region's last page, or was free
-pub data Into (n : ℕ) (g : Ghost) (j b p : ℕ) (pages : ℕ → List ℕ) : Type 0 where
-  last-page : pages j ≡ g .pages j → Last (g .pages j) p → b ≡ g .fin p → Into n g j b p pages
-  free-page : pages j ≡ g .pages j ++ p ∷ [] → g .own p ≡ spare → b ≡ p * 2 ^ n + 2 → Into n g j b p pages
+  pub new : List·Memᴰ address (olds (g .log)) → ⊥
 
 -- it is copied to b, in page p, and the pages are then these
 pub record Made (s : Store) (g : Ghost) (r : Run) (x : Uncopied s g) (b p : ℕ) (own : ℕ → Owner) (fin : ℕ → ℕ) (pages : ℕ → List ℕ) (free : List ℕ) (r′ : Run) : Type 0 where
   pub laid : Layout (s .ctl .n) (pageCount (s .ctl .n) (s .heap)) (s .ctl .regions) own fin pages free r′
-  pub moved : Evacuated (s .ctl .n) s (g .own) own (g .fin) fin (r .heap) (r′ .heap) (x .good .region) (x .good .len) (x .address) b (x .good .page) p
+  pub moved : Evacuated (s .ctl .n) s (g .own) own (g .fin) fin (g .pages) pages (r .heap) (r′ .heap) (x .good .region) (x .good .len) (x .address) b (x .good .page) p
   pub fin-other : (k i : ℕ) → g .own k ≡ mine i → k ≢ p → g .fin k ≡ fin k
   pub pages-other : (i : ℕ) → i ≢ x .good .region → pages i ≡ g .pages i
-  pub pages-own : Into (s .ctl .n) g (x .good .region) b p pages
   pub owned : Owned (pageCount (s .ctl .n) (s .heap)) (s .ctl .regions) (g .own) (g .pages) (g .free) → Owned (pageCount (s .ctl .n) (s .heap)) (s .ctl .regions) own pages free
   pub spent : length free + total pages (s .ctl .regions) ≡ length (g .free) + total (g .pages) (s .ctl .regions)
   -- of the table only the region's e, a and status change
@@ -57,10 +49,10 @@ pub record Made (s : Store) (g : Ghost) (r : Run) (x : Uncopied s g) (b p : ℕ)
   pub how : Stacked (x .good .region) b r r′
 
 -- its words, as the heap has them now
-pub value-length : (s : Store) (S : Sound s) (g : Ghost) (r : Run) (I : Inv s S g r) (x : Uncopied s g) → length (take (suc (x .good .len)) (drop (x .address) (r .heap))) ≡ suc (x .good .len)
-value-length s S g r I x = words-in (I .laid) (x .good .page) (x .address) (x .good .len) (old≢beyond (x .from-old)) (x .good .stands)
+pub value-length : {s : Store} {S : Sound s} {g : Ghost} {r : Run} → Inv s S g r → (x : Uncopied s g) → length (take (suc (x .good .len)) (drop (x .address) (r .heap))) ≡ suc (x .good .len)
+value-length I x = words-in (I .laid) (old≢beyond (x .from-old)) (x .good .value)
 
-module _ (s : Store) (S : Sound s) (g : Ghost) (r : Run) (I : Inv s S g r) (x : Uncopied s g) (r₁ : Run)
+module _ {s : Store} {S : Sound s} {g : Ghost} {r : Run} (I : Inv s S g r) (x : Uncopied s g) {r₁ : Run}
     (K : Roomed (s .ctl .n) (pageCount (s .ctl .n) (s .heap)) (s .ctl .regions) (g .own) (g .fin) (g .pages) (g .free) r (x .good .region) (suc (x .good .len)) r₁) where
   abbrev n : ℕ
   n = s .ctl .n
@@ -92,7 +84,7 @@ module _ (s : Store) (S : Sound s) (g : Ghost) (r : Run) (I : Inv s S g r) (x : 
 
   -- the region's last page
   abbrev pub p : ℕ
-  p = K .laid .mine-top j (x .good .known) .0
+  p = K .laid .mine-top j (x .good .known) .page
 
   abbrev r₂ : Run
   r₂ = wake n j b (store n j ws r₁)
@@ -107,23 +99,23 @@ module _ (s : Store) (S : Sound s) (g : Ghost) (r : Run) (I : Inv s S g r) (x : 
 
   laid₂ : Layout n N R (K .own₁) fin₂ (K .pages₁) (K .free₁) r₂
   laid₂ =
-      wake-laid n N R (K .own₁) fin₂ (K .pages₁) (K .free₁) (store n j ws r₁)
+      wake-laid
       (store-laid (K .laid) j (x .good .known) ws
-      (fits n N R s (Kept s) (g .own) (g .fin) (g .pages) (g .free) r (g .log) (g .count) (I .laid) (I .logged) j f a l (x .good .known) (x .from-old) (x .good .whose) (x .good .steps) (x .good .stands) (x .new) r₁ K) l
-      (val n N R s (Kept s) (g .own) (g .fin) (g .pages) (g .free) r (g .log) (g .count) (I .laid) (I .logged) j f a l (x .good .known) (x .from-old) (x .good .whose) (x .good .steps) (x .good .stands) (x .new) r₁ K))
+      (fits (I .laid) (I .logged) (x .good .known) (x .from-old) (x .good .whose) (x .good .value) (x .new) K) l
+      (val (I .laid) (I .logged) (x .good .known) (x .from-old) (x .good .whose) (x .good .value) (x .new) K))
       j b
 
   laid : Layout n N R (K .own₁) fin₂ (K .pages₁) (K .free₁) after
   laid =
-      let lo = steps-le (x .good .steps) in
-      let hi = x .good .stands .ends in
-      forward-laid n N R (K .own₁) fin₂ (K .pages₁) (K .free₁) r₂ laid₂ f a (4 * b) (K .old-kept f .0 (x .from-old)) (omega arith) (omega arith)
+      let lo = steps-le (x .good .value .steps) in
+      let hi = x .good .value .stands .ends in
+      forward-laid laid₂ f a (4 * b) (K .old-kept f .0 (x .from-old)) (omega arith) (omega arith)
 
   abbrev h′ : List ℕ
   h′ = set (put (r₁ .heap) b ws) a (4 * b)
 
-  E : Evacuated n s (g .own) (K .own₁) (g .fin) fin₂ (r .heap) h′ j l a b f p
-  E = evacuated n N R s (Kept s) (g .own) (g .fin) (g .pages) (g .free) r (g .log) (g .count) (I .laid) (I .logged) j f a l (x .good .known) (x .from-old) (x .good .whose) (x .good .steps) (x .good .stands) (x .new) r₁ K
+  E : Evacuated n s (g .own) (K .own₁) (g .fin) fin₂ (g .pages) (K .pages₁) (r .heap) h′ j l a b f p
+  E = evacuated (I .laid) (I .logged) (x .good .known) (x .from-old) (x .good .whose) (x .good .value) (x .new) K
 
   -- ---- the table and the stack
 
@@ -160,23 +152,6 @@ module _ (s : Store) (S : Sound s) (g : Ghost) (r : Run) (I : Inv s S g r) (x : 
       go (slept e q) = slept (sym same-status ∙ e) (q ∙ ap (λ t. entry j b ∷ t) same-stack)
       go (was-awake e q) = was-awake (λ t. e (same-status ∙ t)) (q ∙ same-stack)
 
-  -- ---- the pages
-
-  b-is : b ≡ K .fin₁ p
-  b-is = K .laid .mine-top j (x .good .known) .3
-
-  own-pages : Into n g j b p (K .pages₁)
-  own-pages = go (K .pages-own)
-    where
-      go : (K .pages₁ j ≡ g .pages j) ⊎ ((k : ℕ) × (K .pages₁ j ≡ g .pages j ++ k ∷ []) × (g .own k ≡ spare) × (K .fin₁ k ≡ k * 2 ^ n + 2))
-          → Into n g j b p (K .pages₁)
-      go (inl e) =
-          let last : Last (g .pages j) p = rw e at (K .laid .mine-top j (x .good .known) .1) in
-          last-page e last (b-is ∙ K .mine-kept p j (I .laid .mine-own j p (x .good .known) (last-in last)) .1)
-      go (inr u) =
-          let e : p ≡ u .0 = last-is (g .pages j) (rw (u .1) at (K .laid .mine-top j (x .good .known) .1)) in
-          free-page (u .1 ∙ ap (λ y. g .pages j ++ y ∷ []) (sym e)) (ap (g .own) e ∙ u .2) (b-is ∙ ap (K .fin₁) e ∙ u .3 ∙ ap (λ y. y * 2 ^ n + 2) (sym e))
-
   pub made : Made s g r x b p (K .own₁) fin₂ (K .pages₁) (K .free₁) after
   made =
       record {
@@ -184,7 +159,6 @@ module _ (s : Store) (S : Sound s) (g : Ghost) (r : Run) (I : Inv s S g r) (x : 
         moved = rw heap-is E;
         fin-other = λ k i q ne. sym (K .mine-kept k i q .1) ∙ sym (upd-other (K .fin₁) p (K .fin₁ p + length ws) k ne);
         pages-other = K .pages-other;
-        pages-own = own-pages;
         owned = K .owned;
         spent = K .spent;
         width = same-width;
@@ -194,4 +168,4 @@ module _ (s : Store) (S : Sound s) (g : Ghost) (r : Run) (I : Inv s S g r) (x : 
       }
 
   pub made-moves : room n j (suc l) r ≡ some r₁ → moveTo n j a l r ≡ some (4 * b, after)
-  made-moves e = has-room n j a l r r₁ (ap (λ y. room n j y r) (value-length s S g r I x) ∙ e)
+  made-moves e = has-room n j a l r r₁ (ap (λ y. room n j y r) (value-length I x) ∙ e)

@@ -5,7 +5,6 @@ use native.Mathlib.Nat.{add-zero}
 use native.Mathlib.Omega.{arith}
 use mathlib.Core.Path.{_≡_, refl, ap, _∙_}
 use mathlib.Core.Bool.{false}
-use mathlib.Core.Logic.{_⊎_, inl, inr}
 use mathlib.Core.Option.{none, some}
 use mathlib.Core.List.{List, [], List·Memᴰ, List·Memᴰ·head}
 use lib.ListN.{length, take, drop}
@@ -17,20 +16,21 @@ use Rattle.rules.specs.Words.{headOf, lengthBy}
 use Rattle.rules.specs.Pages.{Run, room}
 use Rattle.rules.specs.Collection.{moveTo, regionAt, evacuateAt, evacuate}
 use Rattle.rules.specs.Seen.{seen, Reached}
+use Rattle.laws.proofs.Once.{member?}
 use Rattle.rules.proofs.Steps.{steps-le}
 use Rattle.facts.proofs.Laid.{old}
 use Rattle.facts.proofs.Copied.{to, Rel, num, stay, went}
 use Rattle.rules.proofs.Pointers.{pointer, pointer-is, Heads, a-record, raw-words, head-is, forward-head}
-use Rattle.facts.proofs.Goods.{page-at}
+use Rattle.facts.proofs.Inside.{page-at}
 use Rattle.facts.proofs.Sound.{InHeap, Good, a-number, to-heap, to-const, Sound, good-page}
-use Rattle.working.proofs.Log.{pointers, in-log, in-pointers}
+use Rattle.working.proofs.Log.{pointers, olds, in-olds, in-pointers}
 use Rattle.working.proofs.Placed.{Roomed}
 use Rattle.working.proofs.Moving.{still, still-whose}
-use Rattle.rules.specs.Wanted.{anyPage, joined, roomFor, moveFor, evacuateAtFor, evacuateFor}
-use Rattle.working.proofs.Wanting.{Goes, wants-page, goes-on, lacks-room}
-use Rattle.working.proofs.Dry.{Dry, laid-dry, page-dry, join-dry, forward-dry}
-use Rattle.working.proofs.Invariant.{lacks-as, Ghost, Kept, Inv, later-refl, Became, Evacuates}
-use Rattle.working.proofs.Evacuating.{room-or}
+use Rattle.rules.specs.Wanted.{anyPage, roomFor, moveFor, evacuateAtFor, evacuateFor}
+use Rattle.working.proofs.Wanting.{lacks-as, wants-page, goes-on, lacks-room}
+use Rattle.working.proofs.Dry.{Dry, Overdrawn, laid-dry, page-dry, join-dry, forward-dry}
+use Rattle.working.proofs.Invariant.{Ghost, Kept, Inv, later-refl, Became, Evacuates}
+use Rattle.working.proofs.Evacuating.{RoomOr, room-or}
 use Rattle.working.proofs.Copying.{Uncopied, value-length, after, fin₂, made, made-moves}
 use Rattle.working.proofs.CopyPending.{copied, copied-later, copied-count}
 use Rattle.working.proofs.CopyInv.{copied-inv}
@@ -40,7 +40,7 @@ pub evacuate-pointer : (n a : ℕ) (r : Run) → evacuate n (4 * a) r ≡ evacua
 unfolding evacuate
 evacuate-pointer n a r = rw (pointer a, evacuate)
 
-module _ (s : Store) (S : Sound s) (g : Ghost) (r : Run) (I : Inv s S g r) where
+module _ {s : Store} {S : Sound s} {g : Ghost} {r : Run} (I : Inv s S g r) where
   abbrev n : ℕ
   n = s .ctl .n
 
@@ -56,7 +56,7 @@ module _ (s : Store) (S : Sound s) (g : Ghost) (r : Run) (I : Inv s S g r) where
 
   -- the page of a good pointer is an old one
   pub old-page : (a : ℕ) (x : InHeap n R (s .heap) a) → g .own (x .page) ≡ old
-  old-page a x = I .from-space (x .page) .1 (x .region, x .known, good-page s S a x)
+  old-page a x = I .from-space (x .page) .1 (x .region, x .known, good-page S x)
 
   module _ (a : ℕ) (x : InHeap n R (s .heap) a) (reached : Reached (seen s) (s .roots) (4 * a)) where
     abbrev f : ℕ
@@ -72,7 +72,7 @@ module _ (s : Store) (S : Sound s) (g : Ghost) (r : Run) (I : Inv s S g r) where
     pub again : (b : ℕ) → List·Memᴰ (to a b) (g .log) → (evacuateAt n a r ≡ some (4 * b, r)) × Became s S g r (4 * a) (4 * b) r
     again b m = (unfold evacuateAt in (rw (I .logged .copies m .forward, evacuateAt, forward-head b)), stays (4 * a) (4 * b) (went (in-pointers (g .log) m)))
 
-    module _ (new : (b : ℕ) → List·Memᴰ (to a b) (g .log) → ⊥) where
+    module _ (new : List·Memᴰ a (olds (g .log)) → ⊥) where
       abbrev pub value : Uncopied s g
       value =
           record {
@@ -86,77 +86,62 @@ module _ (s : Store) (S : Sound s) (g : Ghost) (r : Run) (I : Inv s S g r) where
       -- the value's header and its region, as the heap has them now
       pub header : at (r .heap) a ≡ at (s .heap) a
       header =
-          simp add-zero at (still n s (Kept s) (g .own) (g .fin) (r .heap) (g .log) (g .count) (I .logged) f a l (old-page a x) (x .steps) (x .stands) new 0 zero-le)
+          simp add-zero at (still (I .logged) (old-page a x) (x .value) new 0 zero-le)
 
       pub region : regionAt n (r .heap) a ≡ j
       unfolding regionAt origin
       region =
           let e : at (r .heap) (f * 2 ^ n + 1) ≡ suc j
-          = still-whose n s (Kept s) (g .own) (g .fin) (r .heap) (g .log) (g .count) (I .logged) f a l (old-page a x) (x .steps) (x .stands) new ∙ x .whose in
-          rw (page-at n R (s .heap) (S .within .paged) a x) (omega arith)
+          = still-whose (I .logged) (old-page a x) (x .value) new ∙ x .whose in
+          rw (page-at (x .value)) (omega arith)
 
-      head-now : Heads (headOf (at (r .heap) a)) l
-      head-now = head-is (headOf (at (r .heap) a)) l (ap (λ w. lengthBy (headOf w)) header ∙ x .stands .head)
-
-      pub head : evacuateAt n a r ≡ moveTo n j a l r
-      unfolding evacuateAt
-      head = go head-now
+      -- so it moves, and so goes the working with as many pages as it wants
+      pub moves : (evacuateAt n a r ≡ moveTo n j a l r) × (evacuateAtFor n a r ≡ moveFor n j a l r)
+      unfolding evacuateAt evacuateAtFor
+      moves = go (head-is (headOf (at (r .heap) a)) l (ap (λ w. lengthBy (headOf w)) header ∙ x .value .stands .head))
         where
-          go : Heads (headOf (at (r .heap) a)) l → evacuateAt n a r ≡ moveTo n j a l r
-          go (a-record e) = rw (e, evacuateAt, region)
-          go (raw-words e) = rw (e, evacuateAt, region)
+          go : Heads (headOf (at (r .heap) a)) l → (evacuateAt n a r ≡ moveTo n j a l r) × (evacuateAtFor n a r ≡ moveFor n j a l r)
+          go (a-record e) = (rw (e, evacuateAt, region), rw (e, evacuateAtFor, region))
+          go (raw-words e) = (rw (e, evacuateAt, region), rw (e, evacuateAtFor, region))
 
-      -- and so goes the working with as many pages as it wants
-      head-for : evacuateAtFor n a r ≡ moveFor n j a l r
-      unfolding evacuateAtFor
-      head-for = go head-now
-        where
-          go : Heads (headOf (at (r .heap) a)) l → evacuateAtFor n a r ≡ moveFor n j a l r
-          go (a-record e) = rw (e, evacuateAtFor, region)
-          go (raw-words e) = rw (e, evacuateAtFor, region)
-
-      over : g .free ≡ [] → endOf (r .table) j < topOf (r .table) j + suc l → Dry (length (s .heap) + 2 ^ n) (evacuateAtFor n a r .1)
+      over : g .free ≡ [] → endOf (r .table) j < topOf (r .table) j + suc l → Overdrawn s (evacuateAtFor n a r .1)
       unfolding moveFor roomFor
       over e b =
           let dry : Dry (length (s .heap)) r = laid-dry (I .laid) e (S .laid .size) in
           let ws : List ℕ = take (suc l) (drop a (r .heap)) in
-          let test : leb (topOf (r .table) j + length (take (suc l) (drop a (r .heap)))) (endOf (r .table) j) ≡ false
-          = lt-leb (topOf (r .table) j + length (take (suc l) (drop a (r .heap)))) (endOf (r .table) j) (rw (value-length s S g r I value) b) in
-          rw (head-for, test, roomFor)
-          (forward-dry n (length (s .heap) + 2 ^ n) j a ws (joined n j (anyPage n j r)) (join-dry n (length (s .heap) + 2 ^ n) j (anyPage n j r) (page-dry n (length (s .heap)) j r dry)))
+          let test : leb (topOf (r .table) j + length ws) (endOf (r .table) j) ≡ false = lt-leb (topOf (r .table) j + length ws) (endOf (r .table) j) (rw (value-length I value) b) in
+          rw (moves .1, test, roomFor)
+          (forward-dry n j a ws (join-dry n j (anyPage n j r) (page-dry n j dry)))
 
       pub no-room : room n j (suc l) r ≡ none → moveTo n j a l r ≡ none
-      no-room e = lacks-room n j a l r (ap (λ y. room n j y r) (value-length s S g r I value) ∙ e)
+      no-room e = lacks-room n j a l r (ap (λ y. room n j y r) (value-length I value) ∙ e)
 
       -- there is room
       unfoldable pub copied-became : (r₁ : Run) (K : Roomed n N R (g .own) (g .fin) (g .pages) (g .free) r j (suc l) r₁)
-          → Became s S g r (4 * a) (4 * topOf (r₁ .table) j) (after s S g r I value r₁ K)
+          → Became s S g r (4 * a) (4 * topOf (r₁ .table) j) (after I value K)
       copied-became r₁ K =
-          let M = made s S g r I value r₁ K in
+          let M = made I value K in
           record {
-            ghost = copied g j a (topOf (r₁ .table) j) (K .own₁) (fin₂ s S g r I value r₁ K) (K .pages₁) (K .free₁);
-            inv = copied-inv s S g r I value _ _ _ _ _ _ _ M;
-            later = copied-later s S g r I value _ _ _ _ _ _ _ M;
+            ghost = copied g j a (topOf (r₁ .table) j) (K .own₁) (fin₂ I value K) (K .pages₁) (K .free₁);
+            inv = copied-inv I M;
+            later = copied-later I M;
             rel = went (List·Memᴰ·head refl);
-            count = copied-count s S g r I value _ _ _ _ _ _ _ M;
+            count = copied-count I M;
           }
 
       now : Evacuates s S g r (4 * a) (evacuateAt n a r) (evacuateAtFor n a r .1)
-      now = go (room-or n N R (g .own) (g .fin) (g .pages) (g .free) r (I .laid) j (suc l) (x .known) (let lo = steps-le (x .steps) in let hi = x .stands .ends in omega arith))
+      now = go (room-or (I .laid) j (suc l) (x .known) (let lo = steps-le (x .value .steps) in let hi = x .value .stands .ends in omega arith))
         where
-          go : Goes none some (room n j (suc l) r) ((g .free ≡ []) × (endOf (r .table) j < topOf (r .table) j + suc l)) (λ r₁. Roomed n N R (g .own) (g .fin) (g .pages) (g .free) r j (suc l) r₁)
-              → Evacuates s S g r (4 * a) (evacuateAt n a r) (evacuateAtFor n a r .1)
-          go (wants-page e (f, w)) =
-              wants-page (head ∙ no-room e) (record { ghost = g; run = r; inv = I; none-free = f; region = j; words = suc l; known = x .known; wants = w; over = over f w })
-          go (goes-on r₁ e K) = goes-on _ (head ∙ made-moves s S g r I value r₁ K e) (copied-became r₁ K)
+          go : RoomOr n N R (g .own) (g .fin) (g .pages) (g .free) r j (suc l) → Evacuates s S g r (4 * a) (evacuateAt n a r) (evacuateAtFor n a r .1)
+          go (wants-page e (f, w)) = wants-page (moves .0 ∙ no-room e) (over f w)
+          go (goes-on r₁ e K) = goes-on _ (moves .0 ∙ made-moves I value K e) (copied-became r₁ K)
 
     pub evacuates-at : Evacuates s S g r (4 * a) (evacuateAt n a r) (evacuateAtFor n a r .1)
-    evacuates-at = go (in-log a (g .log))
+    evacuates-at = go (member? a (olds (g .log)))
       where
-        go : ((b : ℕ) × List·Memᴰ (to a b) (g .log)) ⊎ ((b : ℕ) → List·Memᴰ (to a b) (g .log) → ⊥)
-            → Evacuates s S g r (4 * a) (evacuateAt n a r) (evacuateAtFor n a r .1)
-        go (inl u) = let t = again (u .0) (u .1) in goes-on (4 * u .0, r) (t .0) (t .1)
-        go (inr new) = now new
+        go : Dec (List·Memᴰ a (olds (g .log))) → Evacuates s S g r (4 * a) (evacuateAt n a r) (evacuateAtFor n a r .1)
+        go (yes m) = let u = in-olds (g .log) m in let t = again (u .0) (u .1) in goes-on (4 * u .0, r) (t .0) (t .1)
+        go (no new) = now new
 
   -- any word
   pub evacuates : (w : ℕ) → Good n R (s .heap) (s .consts) w → Reached (seen s) (s .roots) w

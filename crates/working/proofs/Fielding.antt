@@ -1,5 +1,5 @@
 -- One field of a copy set: the invariant after it. No header changes, so every row stays; only how many of the copy's fields are scanned does.
-use Prim.Native.Nat.{ℕ, suc, _+_, _*_, _^_, _<_}
+use Prim.Native.Nat.{ℕ, suc, _+_, _<_}
 use native.Mathlib.Omega.{arith}
 use mathlib.Core.Path.{_≡_, refl, sym, ap, _∙_}
 use mathlib.Core.Logic.{_≢_}
@@ -12,17 +12,16 @@ use Rattle.laws.specs.Lists.{at}
 use Rattle.rules.specs.Memory.{Store, pageCount}
 use Rattle.rules.specs.Words.{rec, raw, headOf}
 use Rattle.rules.specs.Pages.{Run, withHeap}
-use Rattle.rules.proofs.Steps.{Stands, Steps}
+use Rattle.rules.proofs.Steps.{OnPage}
 use Rattle.facts.proofs.Inside.{no-header}
-use Rattle.facts.proofs.Laid.{upd, upd-other, page-in}
+use Rattle.facts.proofs.Laid.{upd, upd-other, page-in, mine≢beyond}
 use Rattle.facts.proofs.Copied.{to, Rel}
 use Rattle.facts.proofs.Sound.{Sound}
-use Rattle.working.proofs.Owned.{mine≢beyond}
 use Rattle.working.proofs.Log.{pointers, Copy}
 use Rattle.working.proofs.Scanned.{scanned-log}
 use Rattle.working.proofs.Fielded.{field-laid}
-use Rattle.working.proofs.Rows.{row-in, row-headers}
-use Rattle.working.proofs.Invariant.{Ghost, Kept, waits-still, Pending, Inv}
+use Rattle.working.proofs.Rows.{row-in, row-like}
+use Rattle.working.proofs.Invariant.{Ghost, Kept, Pending, Inv}
 
 -- i fields of the copy at d are scanned
 abbrev pub counted : Ghost → ℕ → ℕ → Ghost
@@ -40,9 +39,9 @@ counted g d i =
       half = g .half;
     }
 
-module _ (s : Store) (S : Sound s) (g : Ghost) (r : Run) (I : Inv s S g r) (c d i v : ℕ) (m : List·Memᴰ (to c d) (g .log))
+module _ {s : Store} {S : Sound s} {g : Ghost} {r : Run} (I : Inv s S g r) {c d i v : ℕ} (m : List·Memᴰ (to c d) (g .log))
     (i-in : i < I .logged .copies m .len) (i-next : g .count d ≡ i) (rel : Rel (Kept s) (pointers (g .log)) (at (s .heap) (c + suc i)) v)
-    (kind : ℕ) (head : headOf (at (r .heap) d) ≡ rec kind) (mid : g .half ≡ some d) (gone : (j : ℕ) → j < s .ctl .regions → List·Memᴰ d (g .todo j) → ⊥) where
+    {kind : ℕ} (head : headOf (at (r .heap) d) ≡ rec kind) (mid : g .half ≡ some d) (gone : (j : ℕ) → j < s .ctl .regions → List·Memᴰ d (g .todo j) → ⊥) where
   abbrev n : ℕ
   n = s .ctl .n
 
@@ -63,7 +62,7 @@ module _ (s : Store) (S : Sound s) (g : Ghost) (r : Run) (I : Inv s S g r) (c d 
 
   x-in : x < length (r .heap)
   x-in =
-      let a = C .into-stands .ends in
+      let a = C .now .stands .ends in
       let b = page-in (I .laid) (C .into) (λ q. mine≢beyond (C .into-mine) q) in
       let e = I .laid .size in
       omega arith
@@ -72,8 +71,8 @@ module _ (s : Store) (S : Sound s) (g : Ghost) (r : Run) (I : Inv s S g r) (c d 
   keep y ne = sym (getD-set-other (r .heap) x y v 0 ne)
 
   -- no value of any page has its header there
-  abbrev not-there : (k y l : ℕ) → Steps (r .heap) (k * 2 ^ n + 2 ^ n) (k * 2 ^ n + 2) y → Stands (r .heap) (k * 2 ^ n + 2 ^ n) y l → y ≢ x
-  not-there = no-header n (r .heap) (C .into) d (C .len) i (C .into-steps) (C .into-stands) i-in
+  not-there : {k y l : ℕ} → OnPage n (r .heap) k y l → y ≢ x
+  not-there = no-header (C .now) i i-in
 
   P : Pending n R g r
   P = I .pending
@@ -81,33 +80,26 @@ module _ (s : Store) (S : Sound s) (g : Ghost) (r : Run) (I : Inv s S g r) (c d 
   pending : Pending n R (counted g d (suc i)) r′
   pending =
       record {
-        rows = λ j jR. row-headers (λ y q. let F = row-in (P .rows j jR) q in keep y (not-there (F .page) y (F .len) (F .steps) (F .stands))) (P .rows j jR);
+        rows = λ j jR. row-like (λ y q. let F = row-in (P .rows j jR) q in keep y (not-there (F .value))) (λ k m. refl) (P .rows j jR);
         untouched = λ j b jR q. upd-other (g .count) d (suc i) b (λ e. gone j jR (rw e at q)) ∙ P .untouched j b jR q;
         scanned = λ {b = b} q away ne l e.
             let D = I .logged .copies q in
             rw (upd-other (g .count) d (suc i) b (λ t. ne (mid ∙ ap some (sym t))))
-            (P .scanned q away ne l (ap headOf (keep b (not-there (D .into) b (D .len) (D .into-steps) (D .into-stands))) ∙ e));
+            (P .scanned q away ne l (ap headOf (keep b (not-there (D .now))) ∙ e));
         raws = λ {b = b} q l e.
             let D = I .logged .copies q in
-            let e′ : headOf (at (r .heap) b) ≡ raw l = ap headOf (keep b (not-there (D .into) b (D .len) (D .into-steps) (D .into-stands))) ∙ e in
+            let e′ : headOf (at (r .heap) b) ≡ raw l = ap headOf (keep b (not-there (D .now))) ∙ e in
             upd-other (g .count) d (suc i) b
             (λ t. let z : rec kind ≡ raw l = sym head ∙ ap (λ y. headOf (at (r .heap) y)) (sym t) ∙ e′ in false≢true cc)
             ∙ P .raws q l e′;
-        stacked = λ t q. waits-still t refl refl (P .stacked t q);
-        once = P .once;
-        at-work = P .at-work;
-        idle = P .idle;
-        busy = P .busy;
+        queue = P .queue;
       }
 
   pub field-inv : Inv s S (counted g d (suc i)) r′
   field-inv =
       record {
-        laid =
-            field-laid n N R (g .own) (g .fin) (g .pages) (g .free) r (I .laid) (C .into) (C .region) d (C .len) i v (C .into-mine) (C .into-steps) (C .into-stands)
-            (C .into-below) i-in;
-        logged =
-            scanned-log n s (Kept s) (g .own) (g .fin) (r .heap) (g .log) (g .count) (I .logged) c d i v m i-in i-next rel x-in (λ k j o. I .laid .mine-body j k o .inside);
+        laid = field-laid (I .laid) (C .into-mine) (C .now) (C .into-below) i i-in v;
+        logged = scanned-log (I .logged) m i-in i-next rel x-in (λ k j o. I .laid .mine-body j k o .inside);
         pending = pending;
         from-space = I .from-space;
         owned = I .owned;

@@ -3,18 +3,17 @@
 use Prim.Native.Nat.{ℕ, _+_, _*_, _^_, _≤_, _<_, zero-le}
 use native.Mathlib.Omega.{arith}
 use mathlib.Core.Path.{_≡_, refl, ap, _∙_}
-use mathlib.Core.Logic.{_≢_, _↔_}
+use mathlib.Core.Logic.{_↔_, _⊎_, inl, inr}
 use mathlib.Core.List.{List, [], _∷_, List·Memᴰ}
 use lib.ListN.{length}
 use Rattle.laws.specs.Lists.{at}
 use Rattle.rules.specs.Memory.{Store, pageCount, statusOf}
-pub use Rattle.rules.proofs.Rows.{row-width, row-else, row-end, row-first, row-top, row-status}
 use Rattle.rules.specs.Pages.{Run, begun}
-use Rattle.facts.proofs.Laid.{Owner, old, spare, beyond, mine, Layout}
-use Rattle.facts.proofs.Aged.{aged, aged-from, aged-back, aged-mine, aged-laid}
+use Rattle.facts.proofs.Laid.{Owner, old, mine, Layout, old≢spare, old≢beyond}
+use Rattle.facts.proofs.Aged.{aged, aged-from, aged-mine, aged-laid}
 use Rattle.facts.proofs.Sound.{Chained, in-free, in-region, Sound}
-use Rattle.working.proofs.Owned.{old≢spare, old≢beyond, Owned, sound-owned}
-use Rattle.working.proofs.Taken.{taken}
+use Rattle.working.proofs.Owned.{Owned}
+use Rattle.rules.proofs.Pages.{taken}
 
 -- ---- the state
 
@@ -70,13 +69,7 @@ module _ (s : Store) (S : Sound s) where
         free = S .free;
         laid = aged-laid 0 (S .laid) zero-le (λ i. []) (λ i b. absurd (omega arith));
         from-space = λ k. (λ e. chained-old k (old-known k e) e, λ t. ap (aged 0) (S .laid .mine-own (t .0) k (t .1) (t .2)) ∙ aged-from 0 (t .0) zero-le);
-        owned =
-            let W = sound-owned s S in
-            record {
-              whole = λ k b e. W .whole k b (aged-back 0 (S .own k) beyond (λ q. old≢beyond q refl) e);
-              spares = λ k e. W .spares k (aged-back 0 (S .own k) spare (λ q. old≢spare q refl) e);
-              mines = λ k j o. absurd (none-mine k j o);
-            };
+        owned = record { chain = λ k b. owned k (S .chained k b) };
         none-yet = λ i b. refl;
         single = λ i b. absurd (omega arith);
         words = λ k x o p q. refl;
@@ -86,6 +79,10 @@ module _ (s : Store) (S : Sound s) where
         taken = let c = S .laid .free-count in omega arith;
         stack = refl;
       }
+    where
+      owned : (k : ℕ) → Chained R (S .own) (S .pages) (S .free) k → (aged 0 (S .own k) ≡ old) ⊎ Chained 0 (λ k. aged 0 (S .own k)) (λ i. []) (S .free) k
+      owned k (in-free o m) = inr (in-free (ap (aged 0) o) m)
+      owned k (in-region j b o m) = inl (ap (aged 0) o ∙ aged-from 0 j zero-le)
 
   pub start-own : (k j : ℕ) → fresh-start .own k ≡ mine j → ⊥
   unfolding fresh-start

@@ -1,6 +1,6 @@
 -- The invariant of a running collection: how the heap is laid out, what was copied where, and what is still to be scanned. Each step of the
 -- run keeps it. What it takes beside the run's own words is the ghost state.
-use Prim.Native.Nat.{ℕ, suc, _+_, _-_, _*_, _^_, _≤_, _<_}
+use Prim.Native.Nat.{ℕ, suc, _+_, _-_, _*_, _≤_, _<_}
 use native.Mathlib.Nat.{le-refl}
 use native.Mathlib.Omega.{arith}
 use mathlib.Core.Path.{_≡_, refl, sym, ap, _∙_}
@@ -11,20 +11,20 @@ use lib.ListN.{length}
 use Rattle.laws.specs.Lists.{at}
 use Rattle.laws.specs.Sums.{sumOver}
 use Rattle.laws.proofs.Once.{Once}
-use Rattle.rules.specs.Memory.{Store, pageCount, bodyAddress, endOf, topOf, statusOf}
+use Rattle.rules.specs.Memory.{Store, pageCount, bodyAddress, statusOf}
 use Rattle.rules.specs.Words.{inConst, wordOf, rec, raw, headOf}
 use Rattle.rules.specs.Pages.{Scan, Run, withTable, withStack}
 use Rattle.rules.specs.Seen.{seen, wordsAt}
 use Rattle.rules.specs.Collection.{fromSpace}
-use Rattle.facts.proofs.Laid.{Owner, old, Layout, page-in, rows-laid}
+use Rattle.facts.proofs.Laid.{Owner, old, Layout, page-in, rows-laid, old≢beyond}
 use Rattle.facts.proofs.Copied.{Moved, to, Rel}
 use Rattle.facts.proofs.Sound.{InHeap, InConst, Sound}
 use Rattle.facts.proofs.Passing.{in-from}
-use Rattle.working.proofs.Owned.{Owned, total, old≢beyond}
+use Rattle.working.proofs.Owned.{Owned, owned-mine, total}
 use Rattle.working.proofs.Log.{pointers, olds, Log}
 use Rattle.working.proofs.Next.{Row}
-use Rattle.working.proofs.Wanting.{Goes, goes-as}
-use Rattle.working.proofs.Dry.{Dry}
+use Rattle.working.proofs.Wanting.{Goes}
+use Rattle.working.proofs.Dry.{Overdrawn}
 
 -- ---- the ghost state
 
@@ -54,16 +54,20 @@ abbrev pub regionsOf : List Scan → List ℕ
 regionsOf = map (λ (t : Scan). t .region)
 
 -- an entry of the scan stack: the region's first copy to be scanned
-pub record Waits (R : ℕ) (g : Ghost) (table : List ℕ) (t : Scan) : Type 0 where
+pub record Waits (R : ℕ) (todo : ℕ → List ℕ) (cur : Option ℕ) (table : List ℕ) (t : Scan) : Type 0 where
   pub known : t .region < R
   pub awake : statusOf table (t .region) ≢ 0
-  pub other : g .cur ≢ some (t .region)
+  pub other : cur ≢ some (t .region)
   pub rest : List ℕ
-  pub begins : g .todo (t .region) ≡ t .address ∷ rest
+  pub begins : todo (t .region) ≡ t .address ∷ rest
 
--- it waits as well where the same region is being scanned and the same values wait
-pub waits-still : {R : ℕ} {g g′ : Ghost} {table : List ℕ} (t : Scan) → g′ .cur ≡ g .cur → g′ .todo (t .region) ≡ g .todo (t .region) → Waits R g table t → Waits R g′ table t
-waits-still t e q W = record { known = W .known; awake = W .awake; other = λ p. W .other (sym e ∙ p); rest = W .rest; begins = q ∙ W .begins }
+-- the regions with copies to be scanned are awake: each is on the stack, once, or is being scanned
+pub record Queue (R : ℕ) (todo : ℕ → List ℕ) (cur : Option ℕ) (table : List ℕ) (stack : List Scan) : Type 0 where
+  pub stacked : (t : Scan) → List·Memᴰ t stack → Waits R todo cur table t
+  pub once : Once (regionsOf stack)
+  pub at-work : (j : ℕ) → cur ≡ some j → (j < R) × (statusOf table j ≢ 0)
+  pub idle : (j : ℕ) → j < R → statusOf table j ≡ 0 → todo j ≡ []
+  pub busy : (j : ℕ) → j < R → statusOf table j ≢ 0 → List·Memᴰ j (regionsOf stack) ⊎ (cur ≡ some j)
 
 -- what is still to be scanned
 pub record Pending (n R : ℕ) (g : Ghost) (r : Run) : Type 0 where
@@ -72,11 +76,7 @@ pub record Pending (n R : ℕ) (g : Ghost) (r : Run) : Type 0 where
   pub scanned : {a b : ℕ} → List·Memᴰ (to a b) (g .log) → ((j : ℕ) → j < R → List·Memᴰ b (g .todo j) → ⊥) → g .half ≢ some b
       → (l : ℕ) → headOf (at (r .heap) b) ≡ rec l → l ≤ g .count b
   pub raws : {a b : ℕ} → List·Memᴰ (to a b) (g .log) → (l : ℕ) → headOf (at (r .heap) b) ≡ raw l → g .count b ≡ 0
-  pub stacked : (t : Scan) → List·Memᴰ t (r .stack) → Waits R g (r .table) t
-  pub once : Once (regionsOf (r .stack))
-  pub at-work : (j : ℕ) → g .cur ≡ some j → (j < R) × (statusOf (r .table) j ≢ 0)
-  pub idle : (j : ℕ) → j < R → statusOf (r .table) j ≡ 0 → g .todo j ≡ []
-  pub busy : (j : ℕ) → j < R → statusOf (r .table) j ≢ 0 → List·Memᴰ j (regionsOf (r .stack)) ⊎ (g .cur ≡ some j)
+  pub queue : Queue R (g .todo) (g .cur) (r .table) (r .stack)
 
 -- the words that the values of page k take
 abbrev pub filledTo : ℕ → (ℕ → ℕ) → ℕ → ℕ
@@ -100,13 +100,13 @@ pub record Inv (s : Store) (S : Sound s) (g : Ghost) (r : Run) : Type 0 where
 module _ {s : Store} {S : Sound s} {g : Ghost} {r : Run} (I : Inv s S g r) where
   -- the old pages are the regions' pages of before, in their order
   pub from-old : (k : ℕ) → List·Memᴰ k (fromSpace s) → g .own k ≡ old
-  from-old k m = I .from-space k .1 (in-from s S k m)
+  from-old k m = I .from-space k .1 (in-from S k m)
 
   -- what was copied lay in the heap as it was
   pub copied-in : {a b : ℕ} (m : List·Memᴰ (to a b) (g .log)) → a + suc (I .logged .copies m .len) ≤ length (s .heap)
   copied-in m =
       let C = I .logged .copies m in
-      let ends = C .from-stands .ends in
+      let ends = C .was .stands .ends in
       let page = page-in (I .laid) (C .from) (old≢beyond (C .from-old)) in
       let long = S .laid .size in
       let long′ = I .laid .size in
@@ -114,7 +114,7 @@ module _ {s : Store} {S : Sound s} {g : Ghost} {r : Run} (I : Inv s S g r) where
 
   -- a copy's region is one of the heap's
   pub copy-known : {a b : ℕ} (m : List·Memᴰ (to a b) (g .log)) → I .logged .copies m .region < s .ctl .regions
-  copy-known m = let C = I .logged .copies m in I .owned .mines (C .into) (C .region) (C .into-mine) .0
+  copy-known m = let C = I .logged .copies m in owned-mine (I .laid) (I .owned) (C .into-mine) .0
 
   -- and what was copied was good
   abbrev pub copy-was : {a b : ℕ} → List·Memᴰ (to a b) (g .log) → InHeap (s .ctl .n) (s .ctl .regions) (s .heap) a
@@ -127,8 +127,7 @@ module _ {s : Store} {S : Sound s} {g : Ghost} {r : Run} (I : Inv s S g r) where
         there = I .laid .known (C .from) (old≢beyond (C .from-old));
         known = copy-known m;
         whose = C .from-whose;
-        steps = C .from-steps;
-        stands = C .from-stands;
+        value = C .was;
       }
 
 -- the same copies; what is scanned, what waits and what is being scanned are told anew
@@ -204,37 +203,6 @@ later-trans {R} {g} {r} {g₁} {r₁} {g₂} {r₂} p q =
 
 -- ---- how a step ends
 
--- a page is wanted and none is free; x is what the working with as many pages as it wants then comes to
-pub record Lacking (s : Store) (S : Sound s) (x : Run) : Type 0 where
-  pub ghost : Ghost
-  pub run : Run
-  pub inv : Inv s S ghost run
-  pub none-free : ghost .free ≡ []
-  pub region : ℕ
-  pub words : ℕ
-  pub known : region < s .ctl .regions
-  pub wants : endOf (run .table) region < topOf (run .table) region + words
-  pub over : Dry (length (s .heap) + 2 ^ s .ctl .n) x
-
-pub lacking-on : {s : Store} {S : Sound s} {x y : Run} → (Dry (length (s .heap) + 2 ^ s .ctl .n) x → Dry (length (s .heap) + 2 ^ s .ctl .n) y) → Lacking s S x → Lacking s S y
-lacking-on f L =
-    record {
-      ghost = L .ghost;
-      run = L .run;
-      inv = L .inv;
-      none-free = L .none-free;
-      region = L .region;
-      words = L .words;
-      known = L .known;
-      wants = L .wants;
-      over = f (L .over);
-    }
-
--- a step that is another, which with as many pages as it wants comes to the same
-pub lacks-as : {s : Store} {S : Sound s} {E A : Type 0} {none-left : E} {done-with : A → E} {e e′ : E} {x x′ : Run} {D D′ : A → Type 0} → e ≡ e′ → x ≡ x′ → ((a : A) → D′ a → D a)
-    → Goes none-left done-with e′ (Lacking s S x′) D′ → Goes none-left done-with e (Lacking s S x) D
-lacks-as q t = goes-as q (lacking-on (λ d. rw t d))
-
 -- the word w became v
 pub record Became (s : Store) (S : Sound s) (g : Ghost) (r : Run) (w v : ℕ) (r′ : Run) : Type 0 where
   pub ghost : Ghost
@@ -245,7 +213,7 @@ pub record Became (s : Store) (S : Sound s) (g : Ghost) (r : Run) (w v : ℕ) (r
 
 -- an evacuation of w that ends in o; x is what it comes to with as many pages as it wants
 abbrev pub Evacuates : (s : Store) → Sound s → Ghost → Run → ℕ → Option (ℕ × Run) → Run → Type 0
-Evacuates s S g r w o x = Goes none some o (Lacking s S x) (λ (p : ℕ × Run). Became s S g r w (p .0) (p .1))
+Evacuates s S g r w o x = Goes none some o (Overdrawn s x) (λ (p : ℕ × Run). Became s S g r w (p .0) (p .1))
 
 -- f steps are enough: two for each word of the heap that is not yet the header of a copied value, one for each copy to be scanned, one for
 -- each region on the stack, and one

@@ -7,15 +7,15 @@ use native.Mathlib.Decide.{ℕ-discrete}
 use mathlib.Core.Path.{_≡_, refl, sym, ap, _∙_, subst}
 use mathlib.Core.Logic.{_≢_, _↔_, _⊎_, inl, inr}
 use mathlib.Core.Option.{none}
-use mathlib.Core.List.{List, [], _∷_, List·Memᴰ, List·Memᴰ·head, List·Memᴰ·tail, List·Memᴰ·cases-cons, map, Memᴰ·map, Memᴰ·of-map}
+use mathlib.Core.List.{List, [], _∷_, _++_, List·Memᴰ, List·Memᴰ·head, List·Memᴰ·tail, List·Memᴰ·cases-cons, map, Memᴰ·map, Memᴰ·of-map}
 use Rattle.rules.specs.Memory.{Store}
 use Rattle.laws.specs.Lists.{at}
 use Rattle.rules.specs.Seen.{seen, Reached}
-use Rattle.laws.proofs.Lists.{one-part}
 use Rattle.rules.proofs.Chains.{page-of}
-use Rattle.rules.proofs.Steps.{Stands, Steps, steps-le, steps-same, stands-same, apart}
-use Rattle.laws.proofs.Once.{Once, once-more, member?}
+use Rattle.rules.proofs.Steps.{PageSteps, OnPage, steps-le, steps-same, on-same, apart}
+use Rattle.laws.proofs.Once.{Once, once-more, Last}
 use Rattle.facts.proofs.Laid.{upd, upd-same, upd-other, spare≢mine, Owner, old, spare, mine}
+use Rattle.facts.proofs.Inside.{page-at, pages-differ}
 use Rattle.facts.proofs.Copied.{Moved, to, Rel, num, stay, went}
 
 -- The log's entries are addresses, `to old new`; its words are the pointers to them.
@@ -34,14 +34,6 @@ in-olds log m = let t = Memᴰ·of-map (λ (x : Moved). x .old) log m in (t .0 .
 
 pub olds-in : {a b : ℕ} {log : List Moved} → List·Memᴰ (to a b) log → List·Memᴰ a (olds log)
 olds-in m = Memᴰ·map (λ (x : Moved). x .old) m
-
--- the log has an entry of a, or none
-pub in-log : (a : ℕ) (log : List Moved) → ((b : ℕ) × List·Memᴰ (to a b) log) ⊎ ((b : ℕ) → List·Memᴰ (to a b) log → ⊥)
-in-log a log = go (member? a (olds log))
-  where
-    go : Dec (List·Memᴰ a (olds log)) → ((b : ℕ) × List·Memᴰ (to a b) log) ⊎ ((b : ℕ) → List·Memᴰ (to a b) log → ⊥)
-    go (yes m) = inl (in-olds log m)
-    go (no ne) = inr (λ b m. ne (olds-in m))
 
 -- the log's words are the pointers to its addresses
 pub in-pointers : {a b : ℕ} (ms : List Moved) → List·Memᴰ (to a b) ms → List·Memᴰ (to (4 * a) (4 * b)) (pointers ms)
@@ -70,11 +62,9 @@ pub record Copy (n : ℕ) (s : Store) (kept : ℕ → Type 0) (own : ℕ → Own
   pub len : ℕ
   pub from-old : own from ≡ old
   pub from-whose : at (s .heap) (from * 2 ^ n + 1) ≡ suc region
-  pub from-steps : Steps (s .heap) (from * 2 ^ n + 2 ^ n) (from * 2 ^ n + 2) a
-  pub from-stands : Stands (s .heap) (from * 2 ^ n + 2 ^ n) a len
+  pub was : OnPage n (s .heap) from a len
   pub into-mine : own into ≡ mine region
-  pub into-steps : Steps h (into * 2 ^ n + 2 ^ n) (into * 2 ^ n + 2) b
-  pub into-stands : Stands h (into * 2 ^ n + 2 ^ n) b len
+  pub now : OnPage n h into b len
   pub into-below : b + suc len ≤ fin into
   pub head : at h b ≡ at (s .heap) a
   pub forward : at h a ≡ 4 * b
@@ -84,21 +74,20 @@ pub record Copy (n : ℕ) (s : Store) (kept : ℕ → Type 0) (own : ℕ → Own
 pub record Log (n : ℕ) (s : Store) (kept : ℕ → Type 0) (own : ℕ → Owner) (fin : ℕ → ℕ) (h : List ℕ) (log : List Moved) (done : ℕ → ℕ) : Type 0 where
   pub copies : {a b : ℕ} → List·Memᴰ (to a b) log → Copy n s kept own fin h log done a b
   pub unmoved : (k x : ℕ) → own k ≡ old → k * 2 ^ n ≤ x → x < k * 2 ^ n + 2 ^ n
-      → ((b : ℕ) → List·Memᴰ (to x b) log → ⊥) → at h x ≡ at (s .heap) x
+      → (List·Memᴰ x (olds log) → ⊥) → at h x ≡ at (s .heap) x
   pub one-new : {a b b′ : ℕ} → List·Memᴰ (to a b) log → List·Memᴰ (to a b′) log → b ≡ b′
   pub one-old : {a a′ b : ℕ} → List·Memᴰ (to a b) log → List·Memᴰ (to a′ b) log → a ≡ a′
   pub live : {a b : ℕ} → List·Memᴰ (to a b) log → Reached (seen s) (s .roots) (4 * a)
-  pub every : (k j b : ℕ) → own k ≡ mine j → Steps h (k * 2 ^ n + 2 ^ n) (k * 2 ^ n + 2) b → b < fin k
-      → (a : ℕ) × List·Memᴰ (to a b) log
+  pub every : (k j b : ℕ) → own k ≡ mine j → PageSteps n h k b → b < fin k → (a : ℕ) × List·Memᴰ (to a b) log
   pub once : Once (olds log)
 
--- the place b in page p of region j is new: it is behind what the page held, or the first of a page that was free
-pub data NewPlace (n : ℕ) (own : ℕ → Owner) (fin : ℕ → ℕ) (j b p : ℕ) : Type 0 where
-  behind-all : own p ≡ mine j → fin p ≡ b → NewPlace n own fin j b p
-  in-new-page : own p ≡ spare → b ≡ p * 2 ^ n + 2 → NewPlace n own fin j b p
+-- the page p that region j's copy at b goes to: it was the region's last page, and b is behind what it held, or it was free, and b is its first
+pub data Into (n : ℕ) (own : ℕ → Owner) (fin : ℕ → ℕ) (pages pages′ : ℕ → List ℕ) (j b p : ℕ) : Type 0 where
+  last-page : own p ≡ mine j → Last (pages j) p → pages′ j ≡ pages j → b ≡ fin p → Into n own fin pages pages′ j b p
+  free-page : own p ≡ spare → pages′ j ≡ pages j ++ p ∷ [] → b ≡ p * 2 ^ n + 2 → Into n own fin pages pages′ j b p
 
 -- what one evacuation of the value of l words at a, in page f of region j, to b, in page p, does to the heap
-pub record Evacuated (n : ℕ) (s : Store) (own own′ : ℕ → Owner) (fin fin′ : ℕ → ℕ) (h h′ : List ℕ) (j l a b f p : ℕ) : Type 0 where
+pub record Evacuated (n : ℕ) (s : Store) (own own′ : ℕ → Owner) (fin fin′ : ℕ → ℕ) (pages pages′ : ℕ → List ℕ) (h h′ : List ℕ) (j l a b f p : ℕ) : Type 0 where
   pub old-kept : (k : ℕ) → (own k ≡ old) ↔ (own′ k ≡ old)
   pub mine-kept : (k i : ℕ) → own k ≡ mine i → own′ k ≡ mine i
   pub mine-from : (k i : ℕ) → own′ k ≡ mine i → k ≢ p → (own k ≡ mine i) × (fin′ k ≡ fin k)
@@ -107,26 +96,24 @@ pub record Evacuated (n : ℕ) (s : Store) (own own′ : ℕ → Owner) (fin fin
   pub grows : (k i : ℕ) → own k ≡ mine i → fin k ≤ fin′ k
   pub a-old : own f ≡ old
   pub a-whose : at (s .heap) (f * 2 ^ n + 1) ≡ suc j
-  pub a-steps : Steps (s .heap) (f * 2 ^ n + 2 ^ n) (f * 2 ^ n + 2) a
-  pub a-stands : Stands (s .heap) (f * 2 ^ n + 2 ^ n) a l
+  pub was : OnPage n (s .heap) f a l
   pub b-mine : own′ p ≡ mine j
-  pub b-steps : Steps h′ (p * 2 ^ n + 2 ^ n) (p * 2 ^ n + 2) b
-  pub b-stands : Stands h′ (p * 2 ^ n + 2 ^ n) b l
+  pub now : OnPage n h′ p b l
   pub b-end : b + suc l ≡ fin′ p
-  pub b-fresh : NewPlace n own fin j b p
+  pub place : Into n own fin pages pages′ j b p
   pub words : (i : ℕ) → i ≤ l → at h′ (b + i) ≡ at (s .heap) (a + i)
   pub forward : at h′ a ≡ 4 * b
 
-module _ (n : ℕ) (s : Store) (kept : ℕ → Type 0) (own own′ : ℕ → Owner) (fin fin′ : ℕ → ℕ) (h h′ : List ℕ) (log : List Moved) (done : ℕ → ℕ)
-    (j l a b f p : ℕ) (L : Log n s kept own fin h log done) (E : Evacuated n s own own′ fin fin′ h h′ j l a b f p)
-    (new : (c : ℕ) → List·Memᴰ (to a c) log → ⊥) (reached : Reached (seen s) (s .roots) (4 * a)) where
+module _ {n : ℕ} {s : Store} {kept : ℕ → Type 0} {own own′ : ℕ → Owner} {fin fin′ : ℕ → ℕ} {pages pages′ : ℕ → List ℕ} {h h′ : List ℕ} {log : List Moved} {done : ℕ → ℕ}
+    {j l a b f p : ℕ} (L : Log n s kept own fin h log done) (E : Evacuated n s own own′ fin fin′ pages pages′ h h′ j l a b f p)
+    (new : List·Memᴰ a (olds log) → ⊥) (reached : Reached (seen s) (s .roots) (4 * a)) where
   -- a copy of before lies below b, or in another page
   old-copy : {c d : ℕ} → Copy n s kept own fin h log done c d → c ≢ a → d ≢ b → Copy n s kept own′ fin′ h′ (to a b ∷ log) (upd done b 0) c d
   old-copy {c} {d} C nc nd =
-      let lo = steps-le (C .into-steps) in
+      let lo = steps-le (C .now .steps) in
       let top = C .into-below in
-      let lo₀ = steps-le (C .from-steps) in
-      let hi₀ = C .from-stands .ends in
+      let lo₀ = steps-le (C .was .steps) in
+      let hi₀ = C .was .stands .ends in
       let same : (x : ℕ) → C .into * 2 ^ n + 2 ≤ x → x < fin (C .into) → at h x ≡ at h′ x
       = λ x q t. sym (E .mine-words (C .into) (C .region) x (C .into-mine) q t) in
       record {
@@ -136,11 +123,9 @@ module _ (n : ℕ) (s : Store) (kept : ℕ → Type 0) (own own′ : ℕ → Own
         len = C .len;
         from-old = E .old-kept (C .from) .0 (C .from-old);
         from-whose = C .from-whose;
-        from-steps = C .from-steps;
-        from-stands = C .from-stands;
+        was = C .was;
         into-mine = E .mine-kept (C .into) (C .region) (C .into-mine);
-        into-steps = steps-same (λ x q t. same x q (omega arith)) (C .into-steps);
-        into-stands = stands-same (same d lo (omega arith)) (C .into-stands);
+        now = on-same (λ x q t. same x q (omega arith)) (C .now);
         into-below = let g = E .grows (C .into) (C .region) (C .into-mine) in omega arith;
         head = sym (same d lo (omega arith)) ∙ C .head;
         forward = E .old-words (C .from) c (C .from-old) (omega arith) (omega arith) nc ∙ C .forward;
@@ -152,18 +137,13 @@ module _ (n : ℕ) (s : Store) (kept : ℕ → Type 0) (own own′ : ℕ → Own
   pub other-place : {c d : ℕ} → Copy n s kept own fin h log done c d → d ≢ b
   other-place {c} {d} C q = go (ℕ-discrete (C .into) p)
     where
-      here-too : C .into ≡ p → NewPlace n own fin j b p → ⊥
-      here-too e (behind-all o f) = let x = C .into-below in let y : fin (C .into) ≡ fin p = ap fin e in omega arith
-      here-too e (in-new-page o f) = spare≢mine o (ap own (sym e) ∙ C .into-mine)
+      here-too : C .into ≡ p → Into n own fin pages pages′ j b p → ⊥
+      here-too e (last-page o u same f) = let x = C .into-below in let y : fin (C .into) ≡ fin p = ap fin e in omega arith
+      here-too e (free-page o longer f) = spare≢mine o (ap own (sym e) ∙ C .into-mine)
 
       go : Dec (C .into ≡ p) → ⊥
-      go (yes e) = here-too e (E .b-fresh)
-      go (no ne) =
-          let w = steps-le (C .into-steps) in
-          let x = C .into-stands .ends in
-          let y = steps-le (E .b-steps) in
-          let z = E .b-stands .ends in
-          one-part (2 ^ n) (C .into) p d ne (omega arith) (omega arith) (omega arith) (omega arith)
+      go (yes e) = here-too e (E .place)
+      go (no ne) = pages-differ (C .now) (E .now) ne q
 
   new-copy : Copy n s kept own′ fin′ h′ (to a b ∷ log) (upd done b 0) a b
   new-copy =
@@ -175,11 +155,9 @@ module _ (n : ℕ) (s : Store) (kept : ℕ → Type 0) (own own′ : ℕ → Own
         len = l;
         from-old = E .old-kept f .0 (E .a-old);
         from-whose = E .a-whose;
-        from-steps = E .a-steps;
-        from-stands = E .a-stands;
+        was = E .was;
         into-mine = E .b-mine;
-        into-steps = E .b-steps;
-        into-stands = E .b-stands;
+        now = E .now;
         into-below = omega arith;
         head = simp add-zero at (E .words 0 zero-le);
         forward = E .forward;
@@ -195,12 +173,12 @@ module _ (n : ℕ) (s : Store) (kept : ℕ → Type 0) (own own′ : ℕ → Own
 
   copies-by : {c d : ℕ} → (to c d ≡ to a b) ⊎ List·Memᴰ (to c d) log → Copy n s kept own′ fin′ h′ (to a b ∷ log) (upd done b 0) c d
   copies-by (inl e) = rw (is-old e, is-new e) new-copy
-  copies-by {c} {d} (inr m) = old-copy (L .copies m) (λ q. new d (rw q at m)) (other-place (L .copies m))
+  copies-by (inr m) = old-copy (L .copies m) (λ q. new (rw q at (olds-in m))) (other-place (L .copies m))
 
   one-new-by : {c d d′ : ℕ} → (to c d ≡ to a b) ⊎ List·Memᴰ (to c d) log → (to c d′ ≡ to a b) ⊎ List·Memᴰ (to c d′) log → d ≡ d′
   one-new-by (inl e) (inl e′) = is-new e ∙ sym (is-new e′)
-  one-new-by {d′ = d′} (inl e) (inr m) = absurd (new d′ (rw (is-old e) at m))
-  one-new-by {d = d} (inr m) (inl e) = absurd (new d (rw (is-old e) at m))
+  one-new-by (inl e) (inr m) = absurd (new (rw (is-old e) at (olds-in m)))
+  one-new-by (inr m) (inl e) = absurd (new (rw (is-old e) at (olds-in m)))
   one-new-by (inr m) (inr m′) = L .one-new m m′
 
   one-old-by : {c c′ d : ℕ} → (to c d ≡ to a b) ⊎ List·Memᴰ (to c d) log → (to c′ d ≡ to a b) ⊎ List·Memᴰ (to c′ d) log → c ≡ c′
@@ -214,26 +192,24 @@ module _ (n : ℕ) (s : Store) (kept : ℕ → Type 0) (own own′ : ℕ → Own
   live-by (inr m) = L .live m
 
   -- a place of before had its entry
-  before : (k i d : ℕ) → own k ≡ mine i → Steps h′ (k * 2 ^ n + 2 ^ n) (k * 2 ^ n + 2) d → d < fin k
-      → (c : ℕ) × List·Memᴰ (to c d) (to a b ∷ log)
+  before : (k i d : ℕ) → own k ≡ mine i → PageSteps n h′ k d → d < fin k → (c : ℕ) × List·Memᴰ (to c d) (to a b ∷ log)
   before k i d o t u =
       let e = L .every k i d o (steps-same (λ x q v. E .mine-words k i x o q (omega arith)) t) u in
       (e .0, List·Memᴰ·tail (e .1))
 
-  in-page : (d : ℕ) → Steps h′ (p * 2 ^ n + 2 ^ n) (p * 2 ^ n + 2) d → d < fin′ p → (c : ℕ) × List·Memᴰ (to c d) (to a b ∷ log)
-  in-page d t u = go (apart (E .b-steps) (E .b-stands) t) (ℕ-discrete d b)
+  in-page : (d : ℕ) → PageSteps n h′ p d → d < fin′ p → (c : ℕ) × List·Memᴰ (to c d) (to a b ∷ log)
+  in-page d t u = go (apart (E .now .steps) (E .now .stands) t) (ℕ-discrete d b)
     where
-      lower : d < b → NewPlace n own fin j b p → (c : ℕ) × List·Memᴰ (to c d) (to a b ∷ log)
-      lower q (behind-all o f) = before p j d o t (omega arith)
-      lower q (in-new-page o f) = let x = steps-le t in absurd (omega arith)
+      lower : d < b → Into n own fin pages pages′ j b p → (c : ℕ) × List·Memᴰ (to c d) (to a b ∷ log)
+      lower q (last-page o u same f) = before p j d o t (omega arith)
+      lower q (free-page o longer f) = let x = steps-le t in absurd (omega arith)
 
       go : (d ≤ b) ⊎ (b + suc l ≤ d) → Dec (d ≡ b) → (c : ℕ) × List·Memᴰ (to c d) (to a b ∷ log)
       go (inl q) (yes e) = (a, List·Memᴰ·head (ap (to a) e))
-      go (inl q) (no ne) = lower (omega arith) (E .b-fresh)
+      go (inl q) (no ne) = lower (omega arith) (E .place)
       go (inr q) v = let w = E .b-end in absurd (omega arith)
 
-  every-by : (k i d : ℕ) → own′ k ≡ mine i → Steps h′ (k * 2 ^ n + 2 ^ n) (k * 2 ^ n + 2) d → d < fin′ k
-      → (c : ℕ) × List·Memᴰ (to c d) (to a b ∷ log)
+  every-by : (k i d : ℕ) → own′ k ≡ mine i → PageSteps n h′ k d → d < fin′ k → (c : ℕ) × List·Memᴰ (to c d) (to a b ∷ log)
   every-by k i d o t u = go (ℕ-discrete k p)
     where
       go : Dec (k ≡ p) → (c : ℕ) × List·Memᴰ (to c d) (to a b ∷ log)
@@ -246,13 +222,13 @@ module _ (n : ℕ) (s : Store) (kept : ℕ → Type 0) (own own′ : ℕ → Own
       record {
         copies = λ m. copies-by (List·Memᴰ·cases-cons m);
         unmoved = λ k x o q t none.
-            E .old-words k x (E .old-kept k .1 o) q t (λ e. none b (List·Memᴰ·head (ap (λ y. to y b) e)))
-            ∙ L .unmoved k x (E .old-kept k .1 o) q t (λ c m. none c (List·Memᴰ·tail m));
+            E .old-words k x (E .old-kept k .1 o) q t (λ e. none (List·Memᴰ·head e))
+            ∙ L .unmoved k x (E .old-kept k .1 o) q t (λ m. none (List·Memᴰ·tail m));
         one-new = λ m m′. one-new-by (List·Memᴰ·cases-cons m) (List·Memᴰ·cases-cons m′);
         one-old = λ m m′. one-old-by (List·Memᴰ·cases-cons m) (List·Memᴰ·cases-cons m′);
         live = λ m. live-by (List·Memᴰ·cases-cons m);
         every = every-by;
-        once = once-more (λ m. let t = in-olds log m in new (t .0) (t .1)) (L .once);
+        once = once-more new (L .once);
       }
 
 -- ---- what was copied of a page
@@ -260,14 +236,17 @@ module _ (n : ℕ) (s : Store) (kept : ℕ → Type 0) (own own′ : ℕ → Own
 module _ {n : ℕ} {s : Store} {kept : ℕ → Type 0} {own : ℕ → Owner} {fin : ℕ → ℕ} {h : List ℕ} {log : List Moved} {done : ℕ → ℕ} where
   -- a value came from the page that it lies in
   pub copy-page : {a b : ℕ} (C : Copy n s kept own fin h log done a b) (k : ℕ) → k * 2 ^ n ≤ a → a < k * 2 ^ n + 2 ^ n → C .from ≡ k
-  copy-page {a} C k p q = let lo = steps-le (C .from-steps) in let hi = C .from-stands .ends in sym (page-of n (C .from) a (omega arith) (omega arith)) ∙ page-of n k a p q
+  copy-page {a} C k p q = sym (page-at (C .was)) ∙ page-of n k a p q
+
+  pub copy-on : {a b : ℕ} (C : Copy n s kept own fin h log done a b) (k : ℕ) → k * 2 ^ n ≤ a → a < k * 2 ^ n + 2 ^ n → OnPage n (s .heap) k a (C .len)
+  copy-on {a} C k p q = subst (λ k. OnPage n (s .heap) k a (C .len)) (copy-page C k p q) (C .was)
 
   -- an old page keeps its descriptor: no value stands there
   pub descriptor-kept : Log n s kept own fin h log done → 2 ≤ 2 ^ n → (k x : ℕ) → own k ≡ old → k * 2 ^ n ≤ x → x < k * 2 ^ n + 2 → at h x ≡ at (s .heap) x
   descriptor-kept L big k x o p q =
       L .unmoved k x o p (omega arith)
-      (λ b m.
-      let C = L .copies m in
+      (λ m.
+      let C = L .copies (in-olds log m .1) in
       let e : C .from * 2 ^ n ≡ k * 2 ^ n = ap (λ y. y * 2 ^ n) (copy-page C k p (omega arith)) in
-      let lo = steps-le (C .from-steps) in
+      let lo = steps-le (C .was .steps) in
       omega arith)

@@ -18,12 +18,11 @@ use Rattle.laws.proofs.Facts.{or-right}
 use Rattle.rules.specs.Memory.{link, topOf}
 use Rattle.rules.specs.Pages.{Run}
 use Rattle.rules.specs.Collection.{nextFrom, nextScan}
-use Rattle.rules.proofs.Steps.{Stands, no-zero}
-use Rattle.laws.proofs.Once.{once-tail, once-head}
-use Rattle.facts.proofs.Laid.{Once, Last, only, later, last-in, Linked, Owner, mine, Layout, not-top, below-top}
+use Rattle.rules.proofs.Steps.{Stands, PageStands, no-zero}
+use Rattle.laws.proofs.Once.{once-tail, once-head, Once, Last, only, later, last-in, Linked, linked-first, last-one}
+use Rattle.facts.proofs.Laid.{Owner, mine, Layout, not-top, below-top}
 use Rattle.rules.proofs.Pointers.{words-of}
 use Rattle.rules.proofs.Chains.{page-of}
-use Rattle.working.proofs.Taken.{linked-first, last-one}
 
 -- the values from a to b, in order
 pub data Vals (h : List ℕ) (hi : ℕ) : ℕ → ℕ → List ℕ → Type 0 where
@@ -43,16 +42,16 @@ abbrev pub headOr : ℕ → List ℕ → ℕ
 headOr t [] = t
 headOr t (x ∷ xs) = x
 
-module _ (n N R : ℕ) (own : ℕ → Owner) (fin : ℕ → ℕ) (pages : ℕ → List ℕ) (free : List ℕ) (r : Run) (L : Layout n N R own fin pages free r)
-    (j : ℕ) (jR : j < R) (k s l : ℕ) (own-k : own k ≡ mine j) (lo : k * 2 ^ n + 2 ≤ s) (st : Stands (r .heap) (k * 2 ^ n + 2 ^ n) s l) where
+module _ {n N R : ℕ} {own : ℕ → Owner} {fin : ℕ → ℕ} {pages : ℕ → List ℕ} {free : List ℕ} {r : Run} (L : Layout n N R own fin pages free r)
+    (j : ℕ) (jR : j < R) (k s l : ℕ) (own-k : own k ≡ mine j) (lo : k * 2 ^ n + 2 ≤ s) (st : PageStands n (r .heap) k s l) where
   abbrev z : ℕ
-  z = L .mine-top j jR .0
+  z = L .mine-top j jR .page
 
   t-is : s + wordsBy (headOf (at (r .heap) s)) ≡ s + suc l
   t-is = ap (λ x. s + x) (words-of (headOf (at (r .heap) s)) l (st .head))
 
   -- the next value stands right behind
-  pub next-here : (m : ℕ) → Stands (r .heap) (k * 2 ^ n + 2 ^ n) (s + suc l) m → s + suc l < fin k → nextScan n j s r ≡ s + suc l
+  pub next-here : (m : ℕ) → PageStands n (r .heap) k (s + suc l) m → s + suc l < fin k → nextScan n j s r ≡ s + suc l
   unfolding nextScan nextFrom
   next-here m st′ below =
       let hi = st .ends in
@@ -159,19 +158,19 @@ row-head (row-more {bs = bs} v ne t) q = let u = vals-head v q in (u .0 ++ bs, a
 last-tail : {k k′ z : ℕ} {ks : List ℕ} → Last (k ∷ k′ ∷ ks) z → Last (k′ ∷ ks) z
 last-tail (later u) = u
 
-module _ (n N R : ℕ) (own : ℕ → Owner) (fin : ℕ → ℕ) (pages : ℕ → List ℕ) (free : List ℕ) (r : Run) (L : Layout n N R own fin pages free r) (j : ℕ) (jR : j < R) where
+module _ {n N R : ℕ} {own : ℕ → Owner} {fin : ℕ → ℕ} {pages : ℕ → List ℕ} {free : List ℕ} {r : Run} (L : Layout n N R own fin pages free r) (j : ℕ) (jR : j < R) where
   abbrev z′ : ℕ
-  z′ = L .mine-top j jR .0
+  z′ = L .mine-top j jR .page
 
   -- within a page, or at its end
   on-page : (k s : ℕ) (ys bs : List ℕ) → own k ≡ mine j → Follows (r .heap) (k * 2 ^ n + 2 ^ n) (k * 2 ^ n + 2) (fin k) s ys
-      → ((l : ℕ) → Stands (r .heap) (k * 2 ^ n + 2 ^ n) s l → k * 2 ^ n + 2 ≤ s → s + suc l ≡ fin k → nextScan n j s r ≡ headOr (topOf (r .table) j) bs)
+      → ((l : ℕ) → PageStands n (r .heap) k s l → k * 2 ^ n + 2 ≤ s → s + suc l ≡ fin k → nextScan n j s r ≡ headOr (topOf (r .table) j) bs)
       → nextScan n j s r ≡ headOr (topOf (r .table) j) (ys ++ bs)
   on-page k s ys bs o F end = go (F .next)
     where
       go : Begins (r .heap) (k * 2 ^ n + 2 ^ n) (s + suc (F .len)) (fin k) ys → nextScan n j s r ≡ headOr (topOf (r .table) j) (ys ++ bs)
       go (with-none e t) = rw e (end (F .len) (F .stands) (F .low) t)
-      go (with-one m zs e st below) = rw e (next-here n N R own fin pages free r L j jR k s (F .len) o (F .low) (F .stands) m st below)
+      go (with-one m zs e st below) = rw e (next-here L j jR k s (F .len) o (F .low) (F .stands) m st below)
 
   pub next-row : {x : ℕ} {ks : List ℕ} → Linked (link n (r .heap)) x ks → Once ks → Last ks z′ → ((k : ℕ) → List·Memᴰ k ks → own k ≡ mine j)
       → {vs : List ℕ} → Row n (r .heap) fin ks vs → {s : ℕ} {ys : List ℕ} → After vs s ys → nextScan n j s r ≡ headOr (topOf (r .table) j) ys
@@ -179,7 +178,7 @@ module _ (n N R : ℕ) (own : ℕ → Owner) (fin : ℕ → ℕ) (pages : ℕ �
       let e : z′ ≡ k = last-one last only in
       rw append-nil at
       (on-page k s ys [] (own-all k (List·Memᴰ·head refl)) (vals-after v t)
-      (λ l st lo q. next-none n N R own fin pages free r L j jR k s l (own-all k (List·Memᴰ·head refl)) lo st (q ∙ ap fin (sym e) ∙ sym (L .mine-top j jR .3))))
+      (λ l st lo q. next-none L j jR k s l (own-all k (List·Memᴰ·head refl)) lo st (q ∙ ap fin (sym e) ∙ sym (L .mine-top j jR .top))))
   next-row lk on last own-all (row-more {k} {k′} {ks} {vs} {bs} v ne rest) {s} {ys} t =
       go (after-split vs t) (λ u. next-row (linked-first lk .1) (once-tail on) (last-tail last) (λ l m. own-all l (List·Memᴰ·tail m)) rest u)
     where
@@ -189,10 +188,10 @@ module _ (n N R : ℕ) (own : ℕ → Owner) (fin : ℕ → ℕ) (pages : ℕ �
       linked-on : link n (r .heap) k ≡ suc k′
       linked-on = linked-first (linked-first lk .1) .0
 
-      at-end : (l : ℕ) → Stands (r .heap) (k * 2 ^ n + 2 ^ n) s l → k * 2 ^ n + 2 ≤ s → s + suc l ≡ fin k → nextScan n j s r ≡ headOr (topOf (r .table) j) bs
+      at-end : (l : ℕ) → PageStands n (r .heap) k s l → k * 2 ^ n + 2 ≤ s → s + suc l ≡ fin k → nextScan n j s r ≡ headOr (topOf (r .table) j) bs
       at-end l st lo q =
           let u = row-head rest ne in
-          next-page n N R own fin pages free r L j jR k s l (own-all k (List·Memᴰ·head refl)) lo st k′ q not-last linked-on ∙ ap (headOr (topOf (r .table) j)) (sym (u .1))
+          next-page L j jR k s l (own-all k (List·Memᴰ·head refl)) lo st k′ q not-last linked-on ∙ ap (headOr (topOf (r .table) j)) (sym (u .1))
 
       go : Splits vs bs s ys → (After bs s ys → nextScan n j s r ≡ headOr (topOf (r .table) j) ys) → nextScan n j s r ≡ headOr (topOf (r .table) j) ys
       go (in-front us u e) up = rw e (on-page k s us bs (own-all k (List·Memᴰ·head refl)) (vals-after v u) at-end)

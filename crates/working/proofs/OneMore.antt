@@ -8,16 +8,17 @@ use mathlib.Core.Logic.{_≢_, _⊎_, inl, inr}
 use mathlib.Core.List.{List, [], _∷_, List·Memᴰ, List·Memᴰ·head, List·Memᴰ·not-nil, List·Memᴰ·eq-of-singleton}
 use lib.ListN.{length}
 use Rattle.laws.specs.Lists.{at}
-use Rattle.laws.proofs.Once.{Once, once-none, once-more, Last, only, Linked, linked-single}
+use Rattle.laws.proofs.Once.{Once, once-none, once-more, only, Linked, linked-single}
 use Rattle.rules.specs.Memory.{pageEnd, pageAddress, bodyAddress, link, endOf, firstOf, topOf, statusOf, setRow}
 use Rattle.rules.specs.Pages.{Run, withTable}
 use Rattle.rules.proofs.Rows.{row-width, row-else, row-end, row-first, row-top, row-status}
-use Rattle.facts.proofs.Laid.{Owner, mine, Layout, upd, upd-same, upd-other}
+use Rattle.facts.proofs.Laid.{Owner, mine, RowFirst, RowLast, first-same, last-same, Layout, upd, upd-same, upd-other}
 use Rattle.working.proofs.Owned.{Owned, taken-owned}
-use Rattle.working.proofs.Taken.{taken, taken-laid, k-link, taken-table}
+use Rattle.working.proofs.Taken.{taken-laid, k-link}
+use Rattle.rules.proofs.Pages.{taken, taken-table}
 
 -- region R gets page k
-module _ (n N R : ℕ) (own : ℕ → Owner) (fin : ℕ → ℕ) (pages : ℕ → List ℕ) (k : ℕ) (ks : List ℕ) (r : Run) (L : Layout n N R own fin pages (k ∷ ks) r)
+module _ {n N R : ℕ} {own : ℕ → Owner} {fin : ℕ → ℕ} {pages : ℕ → List ℕ} {k : ℕ} {ks : List ℕ} {r : Run} (L : Layout n N R own fin pages (k ∷ ks) r)
     (wide : 4 * R + 3 < length (r .table)) where
   abbrev r₁ : Run
   r₁ = taken n R k r
@@ -35,7 +36,7 @@ module _ (n N R : ℕ) (own : ℕ → Owner) (fin : ℕ → ℕ) (pages : ℕ �
   table′ = setRow (r₁ .table) R (pageEnd n k) (pageAddress n k) (bodyAddress n k) 0
 
   abbrev pub L₁ : Layout n N R own′ fin′ pages ks r₁
-  L₁ = taken-laid n N R own fin pages k ks r L R
+  L₁ = taken-laid L R
 
   -- ---- the table
 
@@ -77,7 +78,7 @@ module _ (n N R : ℕ) (own : ℕ → Owner) (fin : ℕ → ℕ) (pages : ℕ �
 
   linked-k : Linked (link n (r₁ .heap)) (suc k) (k ∷ [])
   unfolding taken
-  linked-k = linked-single (k-link n N R own fin pages k ks r L R)
+  linked-k = linked-single (k-link L R)
 
   pub region-laid : Layout n N (suc R) own′ fin′ pages′ ks (withTable r₁ table′)
   region-laid =
@@ -107,23 +108,24 @@ module _ (n N R : ℕ) (own : ℕ → Owner) (fin : ℕ → ℕ) (pages : ℕ �
       onces i b (yes e) = rw (pages-new i e) (once-more (λ m. List·Memᴰ·not-nil m) once-none)
       onces i b (no ne) = rw (pages-old i ne) (L₁ .mine-once i (omega arith))
 
-      links : (i : ℕ) → i < suc R → Dec (i ≡ R) → (l : ℕ) × (firstOf table′ i ≡ l * 2 ^ n) × Linked (link n (r₁ .heap)) (suc l) (pages′ i)
+      links : (i : ℕ) → i < suc R → Dec (i ≡ R) → RowFirst n table′ (r₁ .heap) i (pages′ i)
       links i b (yes e) =
-          (k, ap (firstOf table′) e ∙ row-first (r₁ .table) R (pageEnd n k) (pageAddress n k) (bodyAddress n k) 0 inside, rw (pages-new i e) linked-k)
-      links i b (no ne) =
-          let t = L₁ .mine-links i (omega arith) in
-          (t .0, kept (4 * i + 1) (inl (omega arith)) ∙ t .1, rw (pages-old i ne) (t .2))
+          record {
+            page = k;
+            first = ap (firstOf table′) e ∙ row-first (r₁ .table) R (pageEnd n k) (pageAddress n k) (bodyAddress n k) 0 inside;
+            links = rw (pages-new i e) linked-k;
+          }
+      links i b (no ne) = rw (pages-old i ne) (first-same (kept (4 * i + 1) (inl (omega arith))) (λ l m. refl) (L₁ .mine-links i (omega arith)))
 
-      tops : (i : ℕ) → i < suc R → Dec (i ≡ R) → (l : ℕ) × Last (pages′ i) l × (endOf table′ i ≡ l * 2 ^ n + 2 ^ n) × (topOf table′ i ≡ fin′ l)
-      tops i b (yes e) = (
-        k,
-        rw (pages-new i e) only,
-        ap (endOf table′) e ∙ row-end (r₁ .table) R (pageEnd n k) (pageAddress n k) (bodyAddress n k) 0 inside,
-        ap (topOf table′) e ∙ row-top (r₁ .table) R (pageEnd n k) (pageAddress n k) (bodyAddress n k) 0 inside ∙ sym fin-new,
-      )
-      tops i b (no ne) =
-          let t = L₁ .mine-top i (omega arith) in
-          (t .0, rw (pages-old i ne) (t .1), kept (4 * i) (inl (omega arith)) ∙ t .2, kept (4 * i + 2) (inl (omega arith)) ∙ t .3)
+      tops : (i : ℕ) → i < suc R → Dec (i ≡ R) → RowLast n table′ fin′ i (pages′ i)
+      tops i b (yes e) =
+          record {
+            page = k;
+            last = rw (pages-new i e) only;
+            end = ap (endOf table′) e ∙ row-end (r₁ .table) R (pageEnd n k) (pageAddress n k) (bodyAddress n k) 0 inside;
+            top = ap (topOf table′) e ∙ row-top (r₁ .table) R (pageEnd n k) (pageAddress n k) (bodyAddress n k) 0 inside ∙ sym fin-new;
+          }
+      tops i b (no ne) = rw (pages-old i ne) (last-same (kept (4 * i) (inl (omega arith))) (kept (4 * i + 2) (inl (omega arith))) (λ l m. refl) (L₁ .mine-top i (omega arith)))
 
   -- ---- whose each page is
 

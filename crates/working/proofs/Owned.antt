@@ -7,26 +7,23 @@ use mathlib.Core.Path.{_≡_, refl, ap, _∙_}
 use mathlib.Core.Logic.{_≢_, _↔_, _⊎_, inl, inr, ⊎-elim}
 use mathlib.Core.List.{List, [], _∷_, _++_, List·Memᴰ}
 use lib.ListN.{length, length-append}
-pub use Rattle.facts.proofs.Laid.{mine-inj, old≢spare, old≢mine, old≢beyond, spare≢mine, spare≢beyond, mine≢beyond}
+use Rattle.facts.proofs.Laid.{old≢spare, old≢mine, mine≢beyond}
 use Rattle.laws.proofs.Once.{in-tail}
 use Rattle.rules.specs.Memory.{Store, pageCount}
-use Rattle.facts.proofs.Sound.{Chained, in-free, in-region, Sound, chained-mine, chained-spare}
-use Rattle.facts.proofs.Laid.{upd, upd-same, upd-other, Owner, old, spare, beyond, mine, upd-cases, upd-back}
+use Rattle.rules.specs.Pages.{Run}
+use Rattle.facts.proofs.Sound.{Chained, in-free, in-region, Sound, chained-mine}
+use Rattle.facts.proofs.Laid.{upd, upd-same, upd-other, Owner, old, spare, mine, Layout, upd-back}
 
+-- a page is from-space, or in the chain of its owner
 pub record Owned (N R : ℕ) (own : ℕ → Owner) (pages : ℕ → List ℕ) (free : List ℕ) : Type 0 where
-  pub whole : (k : ℕ) → k < N → own k ≢ beyond
-  pub spares : (k : ℕ) → own k ≡ spare → List·Memᴰ k free
-  pub mines : (k j : ℕ) → own k ≡ mine j → (j < R) × List·Memᴰ k (pages j)
+  pub chain : (k : ℕ) → k < N → (own k ≡ old) ⊎ Chained R own pages free k
 
--- a page that is not from-space is in the chain of its owner
 pub owned-chained : {N R : ℕ} {own : ℕ → Owner} {pages : ℕ → List ℕ} {free : List ℕ} → Owned N R own pages free → (k : ℕ) → k < N → own k ≢ old → Chained R own pages free k
-owned-chained {N} {R} {own} {pages} {free} W k b ne = go (own k) refl
-  where
-    go : (o : Owner) → own k ≡ o → Chained R own pages free k
-    go old e = absurd (ne e)
-    go spare e = in-free e (W .spares k e)
-    go beyond e = absurd (W .whole k b e)
-    go (mine j) e = let t = W .mines k j e in in-region j (t .0) e (t .1)
+owned-chained W k b ne = ⊎-elim (λ q. absurd (ne q)) (λ c. c) (W .chain k b)
+
+pub owned-mine : {n N R : ℕ} {own : ℕ → Owner} {fin : ℕ → ℕ} {pages : ℕ → List ℕ} {free : List ℕ} {r : Run} {k j : ℕ} → Layout n N R own fin pages free r → Owned N R own pages free
+    → own k ≡ mine j → (j < R) × List·Memᴰ k (pages j)
+owned-mine {k = k} L W o = chained-mine (owned-chained W k (L .known k (mine≢beyond o)) (λ q. old≢mine q o)) o
 
 -- the lengths of the first R lists
 unfoldable pub total : (ℕ → List ℕ) → ℕ → ℕ
@@ -68,38 +65,14 @@ module _ (own : ℕ → Owner) (k j : ℕ) where
   -- the chains of before are part of the chains that there are now, and page k is in region j's
   pub taken-owned : {N R R′ : ℕ} {pages pages′ : ℕ → List ℕ} {ks : List ℕ} → R ≤ R′ → j < R′ → List·Memᴰ k (pages′ j) → ((i l : ℕ) → i < R → List·Memᴰ l (pages i) → List·Memᴰ l (pages′ i))
       → Owned N R own pages (k ∷ ks) → Owned N R′ (upd own k (mine j)) pages′ ks
-  taken-owned {R = R} {R′} {pages} {pages′} {ks} more jR there still W =
-      record {
-        whole = λ l b e. W .whole l b (upd-back own k (mine j) l beyond (λ q. mine≢beyond q refl) e);
-        spares = λ l e. ⊎-elim (λ t. spare≢mine refl (t .1)) (λ t. in-tail (t .0) (W .spares l (t .1))) (upd-cases own k (mine j) l spare e);
-        mines = λ l i e. go l i (upd-cases own k (mine j) l (mine i) e);
-      }
+  taken-owned {N} {R} {R′} {pages} {pages′} {ks} more jR there still W = record { chain = λ l b. go l (ℕ-discrete l k) (W .chain l b) }
     where
-      go : (l i : ℕ) → ((l ≡ k) × (mine i ≡ mine j)) ⊎ ((l ≢ k) × (own l ≡ mine i)) → (i < R′) × List·Memᴰ l (pages′ i)
-      go l i (inl (q, t)) = rw (q, mine-inj t) (jR, there)
-      go l i (inr t) = let u = W .mines l i (t .1) in let b = u .0 in (omega arith, still i l b (u .1))
+      go : (l : ℕ) → Dec (l ≡ k) → (own l ≡ old) ⊎ Chained R own pages (k ∷ ks) l → (upd own k (mine j) l ≡ old) ⊎ Chained R′ (upd own k (mine j)) pages′ ks l
+      go l (yes e) c = inr (in-region j jR (upd-same own k (mine j) l e) (rw e there))
+      go l (no ne) (inl o) = inl (upd-other own k (mine j) l ne ∙ o)
+      go l (no ne) (inr (in-free o m)) = inr (in-free (upd-other own k (mine j) l ne ∙ o) (in-tail ne m))
+      go l (no ne) (inr (in-region i b o m)) = inr (in-region i (omega arith) (upd-other own k (mine j) l ne ∙ o) (still i l b m))
 
--- ---- before a collection
-
--- in a sound heap each page is free or in one region's chain
-module _ (s : Store) (S : Sound s) where
-  abbrev n : ℕ
-  n = s .ctl .n
-
-  abbrev R : ℕ
-  R = s .ctl .regions
-
-  pub sound-owned : Owned (pageCount n (s .heap)) R (S .own) (S .pages) (S .free)
-  sound-owned =
-      record {
-        whole = whole;
-        spares = λ k e. chained-spare (S .chained k (S .laid .known k (spare≢beyond e))) e;
-        mines = λ k j e. chained-mine (S .chained k (S .laid .known k (mine≢beyond e))) e;
-      }
-    where
-      whole : (k : ℕ) → k < pageCount n (s .heap) → S .own k ≢ beyond
-      whole k b e = go (S .chained k b)
-        where
-          go : Chained R (S .own) (S .pages) (S .free) k → ⊥
-          go (in-free o m) = spare≢beyond o e
-          go (in-region j b o m) = mine≢beyond o e
+-- before a collection each page is free or in one region's chain
+pub sound-owned : {s : Store} (S : Sound s) → Owned (pageCount (s .ctl .n) (s .heap)) (s .ctl .regions) (S .own) (S .pages) (S .free)
+sound-owned S = record { chain = λ k b. inr (S .chained k b) }

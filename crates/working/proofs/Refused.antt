@@ -18,8 +18,8 @@ use Rattle.facts.proofs.Sound.{Sound}
 use Rattle.facts.proofs.Passing.{pages-are}
 use Rattle.rules.specs.Wanted.{unbounded, wanted}
 use Rattle.working.proofs.Owned.{total, total-same}
-use Rattle.working.proofs.Dry.{Dry}
-use Rattle.working.proofs.Running.{Refusing, few, out, Ran, Collects, runs-dry, runs-through, collects}
+use Rattle.working.proofs.Dry.{Overdrawn}
+use Rattle.working.proofs.Running.{Ran, Collects, runs-dry, runs-through, collects}
 use Rattle.working.proofs.Ending.{left-store, left-sound, left-pages, left-count}
 
 -- the pages of all regions
@@ -38,10 +38,22 @@ unfolding total
 pages-length s S =
     let e = chains-length (s .ctl .n) (s .heap) (s .table) (s .ctl .regions) 0 in
     let q : 0 + s .ctl .regions ≡ s .ctl .regions = omega arith in
-    let t = total-same (regionPages (s .ctl .n) (s .heap) (s .table)) (S .pages) (s .ctl .regions) (pages-are s S) in
+    let t = total-same (regionPages (s .ctl .n) (s .heap) (s .table)) (S .pages) (s .ctl .regions) (pages-are S) in
     let u : total (regionPages (s .ctl .n) (s .heap) (s .table)) (0 + s .ctl .regions) ≡ total (regionPages (s .ctl .n) (s .heap) (s .table)) (s .ctl .regions)
     = ap (total (regionPages (s .ctl .n) (s .heap) (s .table))) q in
     omega arith
+
+-- a run that is done takes its pages from the free list
+done-wanted : {s : Store} {S : Sound s} {roots : List ℕ} {r : Run} (A : Ran s S roots r) → wanted s ≡ total (A .end .ghost .pages) (s .ctl .regions)
+unfolding wanted
+done-wanted {s} {S} {r = r} A =
+    let size = A .end .inv .laid .size in
+    let size₀ = S .laid .size in
+    let count = A .end .inv .laid .free-count in
+    let taken = A .end .inv .taken in
+    let e : length (r .heap) ≡ length (s .heap) = omega arith in
+    let p : pageCount (s .ctl .n) (r .heap) ≡ pageCount (s .ctl .n) (s .heap) = ap (λ x. x / 2 ^ s .ctl .n) e in
+    rw (A .unbound) (omega arith)
 
 module _ (s : Store) (S : Sound s) where
   abbrev n : ℕ
@@ -54,7 +66,7 @@ module _ (s : Store) (S : Sound s) where
   big = let b = S .laid .big in omega arith
 
   -- a page was taken behind the heap
-  more : Dry (length (s .heap) + 2 ^ n) (unbounded s) → s .ctl .count < wanted s
+  more : Overdrawn s (unbounded s) → s .ctl .count < wanted s
   unfolding wanted
   more d =
       let size = S .laid .size in
@@ -64,34 +76,17 @@ module _ (s : Store) (S : Sound s) where
       let p : suc N ≤ length (unbounded s .heap) / 2 ^ n = le-div-iff-mul-le big .1 m in
       omega arith
 
-  pub refusing-more : Refusing s S → s .ctl .count < wanted s
-  refusing-more (few b d) = more d
-  refusing-more (out L) = more (L .over)
-
-  -- a run that is done takes its pages from the free list
-  module _ (roots : List ℕ) (r : Run) (A : Ran s S roots r) where
-    pub done-wanted : wanted s ≡ total (A .end .ghost .pages) (s .ctl .regions)
-    unfolding wanted
-    done-wanted =
-        let size = A .end .inv .laid .size in
-        let size₀ = S .laid .size in
-        let count = A .end .inv .laid .free-count in
-        let taken = A .end .inv .taken in
-        let e : length (r .heap) ≡ length (s .heap) = omega arith in
-        let p : pageCount n (r .heap) ≡ N = ap (λ x. x / 2 ^ n) e in
-        rw (A .unbound) (omega arith)
-
   pub refused-wants : (collected s ≡ refused s Refusal.NoPage) ↔ (s .ctl .count < wanted s)
   unfolding ending leaves
   refused-wants = (λ e. there e (collects s S), λ b. back b (collects s S))
     where
       there : collected s ≡ refused s Refusal.NoPage → Collects s S → s .ctl .count < wanted s
-      there e (runs-dry q R) = refusing-more R
+      there e (runs-dry q y) = more y
       there e (runs-through roots r q A) = let t = ap (λ (o : Outcome Plain). o .answer) (sym e ∙ q) in absurd (false≢true cc)
 
       back : s .ctl .count < wanted s → Collects s S → collected s ≡ refused s Refusal.NoPage
-      back b (runs-dry q R) = q
-      back b (runs-through roots r q A) = let w = done-wanted roots r A in let t = A .end .inv .taken in absurd (omega arith)
+      back b (runs-dry q y) = q
+      back b (runs-through roots r q A) = let w = done-wanted A in let t = A .end .inv .taken in absurd (omega arith)
 
 -- ---- the pages of a collection that is done
 
@@ -101,15 +96,15 @@ pub record Pages (s s′ : Store) : Type 0 where
   pub enough : wanted s ≤ s .ctl .count
   pub left : s′ .ctl .count + wanted s ≡ s .ctl .count + length (fromSpace s)
 
-pub done-pages : (s : Store) (S : Sound s) (roots : List ℕ) (r : Run) (A : Ran s S roots r) → Pages s (left-store s S roots r A)
-done-pages s S roots r A =
-    let w = done-wanted s S roots r A in
+pub done-pages : {s : Store} {S : Sound s} {roots : List ℕ} {r : Run} (A : Ran s S roots r) → Pages s (left-store A)
+done-pages {s} A =
+    let w = done-wanted A in
     let t = A .end .inv .taken in
-    let l = left-count s S roots r A in
+    let l = left-count A in
     record {
       taken =
-          w ∙ sym (total-same (left-sound s S roots r A .pages) (A .end .ghost .pages) (s .ctl .regions) (λ i b. left-pages s S roots r A i))
-          ∙ sym (pages-length (left-store s S roots r A) (left-sound s S roots r A));
+          w ∙ sym (total-same (left-sound A .pages) (A .end .ghost .pages) (s .ctl .regions) (λ i b. left-pages A i))
+          ∙ sym (pages-length (left-store A) (left-sound A));
       enough = omega arith;
       left = omega arith;
     }

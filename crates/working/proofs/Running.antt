@@ -1,4 +1,5 @@
--- The whole run up to its end: fresh pages, roots, scan. It ends with all scanned, or for want of a page, and never for want of fuel.
+-- The whole run up to its end: fresh pages, roots, scan. It ends with all scanned, or for want of a page, and never for want of fuel. Each of the
+-- three keeps the invariant or lacks a page, and the invariant bounds the fuel that the scan needs.
 use Prim.Native.Nat.{ℕ, zero, suc, _+_, _-_, _*_, _^_, _<_, _≤_}
 use native.Mathlib.Omega.{arith}
 use mathlib.Core.Path.{_≡_, refl, sym, ap, _∙_, subst}
@@ -19,13 +20,13 @@ use Rattle.rules.proofs.Steps.{steps-le}
 use Rattle.facts.proofs.Laid.{mine}
 use Rattle.facts.proofs.Copied.{Rel}
 use Rattle.facts.proofs.Sound.{Sound}
-use Rattle.working.proofs.Owned.{total}
+use Rattle.working.proofs.Owned.{owned-mine, total}
 use Rattle.working.proofs.Log.{pointers, Log, rel-grows}
 use Rattle.working.proofs.Next.{Row, row-last, vals-empty}
-use Rattle.rules.specs.Wanted.{freshenFor, rootsFor, unbounded}
-use Rattle.working.proofs.Wanting.{wants-page, goes-on, follows-some, ends-finished, fresh-follows, roots-follow, stack-ends}
-use Rattle.working.proofs.Dry.{Dry, roots-dry, stack-dry}
-use Rattle.working.proofs.Invariant.{lacking-on, Ghost, Kept, Pending, Inv, Lacking}
+use Rattle.rules.specs.Wanted.{freshenFor, unbounded}
+use Rattle.working.proofs.Wanting.{wants-page, goes-on, follows-some, ends-finished, fresh-beside, roots-follow, roots-dry, stack-beside}
+use Rattle.working.proofs.Dry.{Overdrawn}
+use Rattle.working.proofs.Invariant.{Ghost, Kept, Pending, Inv}
 use Rattle.working.proofs.Fresh.{Fresh, fresh-start}
 use Rattle.working.proofs.Freshening.{Freshens, freshens}
 use Rattle.working.proofs.Roots.{AllBecame, EvacuatesAll, WorksStack, evacuates-all, works-stack}
@@ -58,7 +59,7 @@ module _ {s : Store} {S : Sound s} {j : ℕ} {r : Run} (F : Fresh s S j r) where
 
   fin-is : (k i : ℕ) → F .own k ≡ mine i → F .fin k ≡ k * 2 ^ s .ctl .n + 2
   fin-is k i o =
-      let m = F .owned .mines k i o in
+      let m = owned-mine (F .laid) (F .owned) o in
       let t = F .single i (m .0) in
       let e : k ≡ t .0 = List·Memᴰ·eq-of-singleton (rw (t .1) at (m .1)) in
       ap (F .fin) e ∙ t .2 ∙ ap (λ x. x * 2 ^ s .ctl .n + 2) (sym e)
@@ -77,7 +78,7 @@ module _ {s : Store} {S : Sound s} {j : ℕ} {r : Run} (F : Fresh s S j r) where
 
 -- ---- the first state
 
-module _ (s : Store) (S : Sound s) (r : Run) (F : Fresh s S (s .ctl .regions) r) where
+module _ {s : Store} {S : Sound s} {r : Run} (F : Fresh s S (s .ctl .regions) r) where
   abbrev n : ℕ
   n = s .ctl .n
 
@@ -99,11 +100,14 @@ module _ (s : Store) (S : Sound s) (r : Run) (F : Fresh s S (s .ctl .regions) r)
         untouched = λ j b jR m. elim m [ ];
         scanned = λ m gone ne l e. elim m [ ];
         raws = λ m l e. elim m [ ];
-        stacked = λ t m. let m′ : List·Memᴰ t [] = rw (F .stack) at m in elim m′ [ ];
-        once = rw (F .stack) once-none;
-        at-work = λ j e. absurd (false≢true cc);
-        idle = λ j jR e. refl;
-        busy = λ j jR ne. absurd (ne (F .asleep j jR));
+        queue =
+            record {
+              stacked = λ t m. let m′ : List·Memᴰ t [] = rw (F .stack) at m in elim m′ [ ];
+              once = rw (F .stack) once-none;
+              at-work = λ j e. absurd (false≢true cc);
+              idle = λ j jR e. refl;
+              busy = λ j jR ne. absurd (ne (F .asleep j jR));
+            };
       }
 
   tallied : (j : ℕ) → j < R → sumOver (λ k. F .fin k - (k * 2 ^ n + 2)) (F .pages j) ≡ 0
@@ -130,11 +134,6 @@ module _ (s : Store) (S : Sound s) (r : Run) (F : Fresh s S (s .ctl .regions) r)
 
 -- ---- the run
 
--- why a run is refused: fewer free pages than regions, or a page wanted later and none free
-pub data Refusing (s : Store) (S : Sound s) : Type 0 where
-  few : s .ctl .count < s .ctl .regions → Dry (length (s .heap) + 2 ^ s .ctl .n) (unbounded s) → Refusing s S
-  out : Lacking s S (unbounded s) → Refusing s S
-
 -- all is scanned; `roots` are the new roots
 pub record Ran (s : Store) (S : Sound s) (roots : List ℕ) (r : Run) : Type 0 where
   pub start : Ghost
@@ -144,33 +143,33 @@ pub record Ran (s : Store) (S : Sound s) (roots : List ℕ) (r : Run) : Type 0 w
   pub rels : (i : ℕ) → i < length (s .roots) → Rel (Kept s) (pointers (end .ghost .log)) (at (s .roots) i) (at roots i)
 
 -- a run in its order: fresh pages, roots, scan
-module _ (s : Store) (S : Sound s) (r : Run) (F : Fresh s S (s .ctl .regions) r) (e : freshen (s .ctl .n) (s .ctl .regions) 0 (begun s) ≡ some r) where
-  pub fresh-is : freshenFor (s .ctl .n) (s .ctl .regions) 0 (begun s) ≡ r
-  fresh-is = follows-some r (fresh-follows (s .ctl .n) (s .ctl .regions) 0 (begun s)) e
+pub fresh-is : (s : Store) {r : Run} → freshen (s .ctl .n) (s .ctl .regions) 0 (begun s) ≡ some r → freshenFor (s .ctl .n) (s .ctl .regions) 0 (begun s) ≡ r
+fresh-is s = follows-some (fresh-beside (s .ctl .n) (s .ctl .regions) 0 (begun s) .0)
 
-  module _ (roots : List ℕ) (r₁ : Run) (A : AllBecame s S (first s S r F) r (s .roots) roots r₁) where
-    -- what waits costs no more than the log pays
-    pub rooted-cost : total (A .ghost .todo) (s .ctl .regions) + length (r₁ .stack) ≤ 2 * length (A .ghost .log)
-    rooted-cost =
-        let cost = A .later .cost in
-        let z = total-each (λ j. []) 0 (s .ctl .regions) (λ i b. refl) in
-        let d : length (r .stack) ≡ 0 = ap length (F .stack) in
-        omega arith
+module _ {s : Store} {S : Sound s} {r : Run} {roots : List ℕ} {r₁ : Run} (F : Fresh s S (s .ctl .regions) r) (A : AllBecame s S (first F) r (s .roots) roots r₁) where
+  -- what waits costs no more than the log pays
+  pub rooted-cost : total (A .ghost .todo) (s .ctl .regions) + length (r₁ .stack) ≤ 2 * length (A .ghost .log)
+  rooted-cost =
+      let cost = A .later .cost in
+      let z = total-each (λ j. []) 0 (s .ctl .regions) (λ i b. refl) in
+      let d : length (r .stack) ≡ 0 = ap length (F .stack) in
+      omega arith
 
-    unfoldable pub ran : evacuateAll (s .ctl .n) (s .roots) r ≡ some (roots, r₁) → (r₂ : Run) → workStack (s .ctl .n) r₁ ≡ finished r₂ → Finished s S (A .ghost) r₂ → Ran s S roots r₂
-    unfolding unbounded
-    ran e₁ r₂ w G =
-        record {
-          start = A .ghost;
-          end = G;
-          count = A .count;
-          unbound = rw (fresh-is, roots-follow (s .ctl .n) (s .roots) roots r r₁ e₁) (ends-finished r₂ (stack-ends (s .ctl .n) r₁) w);
-          rels = λ i b. rel-grows (A .ghost .log) (G .ghost .log) (G .log) (A .rels i b);
-        }
+  unfoldable pub ran : {r₂ : Run} → freshen (s .ctl .n) (s .ctl .regions) 0 (begun s) ≡ some r → evacuateAll (s .ctl .n) (s .roots) r ≡ some (roots, r₁)
+      → workStack (s .ctl .n) r₁ ≡ finished r₂ → Finished s S (A .ghost) r₂ → Ran s S roots r₂
+  unfolding unbounded
+  ran {r₂} e e₁ w G =
+      record {
+        start = A .ghost;
+        end = G;
+        count = A .count;
+        unbound = rw (fresh-is s e, roots-follow (s .ctl .n) (s .roots) r e₁) (ends-finished (stack-beside (s .ctl .n) r₁ .0) w);
+        rels = λ i b. rel-grows (A .ghost .log) (G .ghost .log) (G .log) (A .rels i b);
+      }
 
 -- how the four steps end on a sound heap: for want of a page, or done
 pub data Collects (s : Store) (S : Sound s) : Type 0 where
-  runs-dry : collected s ≡ refused s Refusal.NoPage → Refusing s S → Collects s S
+  runs-dry : collected s ≡ refused s Refusal.NoPage → Overdrawn s (unbounded s) → Collects s S
   runs-through : (roots : List ℕ) (r : Run) → collected s ≡ ending s roots (finished r) → Ran s S roots r → Collects s S
 
 module _ (s : Store) (S : Sound s) where
@@ -179,22 +178,16 @@ module _ (s : Store) (S : Sound s) where
   collects = freshened (freshens s S (s .ctl .regions) 0 (begun s) (omega arith) (fresh-start s S))
     where
       scanned : (r : Run) (F : Fresh s S (s .ctl .regions) r) → freshen (s .ctl .n) (s .ctl .regions) 0 (begun s) ≡ some r
-          → (roots : List ℕ) (r₁ : Run) → evacuateAll (s .ctl .n) (s .roots) r ≡ some (roots, r₁) → (A : AllBecame s S (first s S r F) r (s .roots) roots r₁)
+          → (roots : List ℕ) (r₁ : Run) → evacuateAll (s .ctl .n) (s .roots) r ≡ some (roots, r₁) → (A : AllBecame s S (first F) r (s .roots) roots r₁)
           → WorksStack s S (A .ghost) r₁ → Collects s S
-      scanned r F e roots r₁ e₁ A (wants-page q L) = runs-dry (rw (e, collected, e₁, q)) (out (lacking-on (λ y. rw (fresh-is s S r F e, roots-follow (s .ctl .n) (s .roots) roots r r₁ e₁) y) L))
-      scanned r F e roots r₁ e₁ A (goes-on r₂ q G) = runs-through roots r₂ (rw (e, collected, e₁, q)) (ran s S r F e roots r₁ A e₁ r₂ q G)
+      scanned r F e roots r₁ e₁ A (wants-page q y) = runs-dry (rw (e, collected, e₁, q)) (rw (fresh-is s e, roots-follow (s .ctl .n) (s .roots) r e₁) y)
+      scanned r F e roots r₁ e₁ A (goes-on r₂ q G) = runs-through roots r₂ (rw (e, collected, e₁, q)) (ran F A e e₁ q G)
 
       rooted : (r : Run) (F : Fresh s S (s .ctl .regions) r) → freshen (s .ctl .n) (s .ctl .regions) 0 (begun s) ≡ some r
-          → EvacuatesAll s S (first s S r F) r (s .roots) → Collects s S
-      rooted r F e (wants-page q L) = runs-dry (rw (e, collected, q)) (out (lacking-on (λ y. rw (fresh-is s S r F e) (stack-dry (s .ctl .n) (length (s .heap) + 2 ^ s .ctl .n) (rootsFor (s .ctl .n) (s .roots) r) y)) L))
-      rooted r F e (goes-on (roots, r₁) q A) =
-          scanned r F e roots r₁ q A (works-stack s S (A .ghost) r₁ (A .inv) (A .later .cur) (A .later .half) (rooted-cost s S r F e roots r₁ A))
+          → EvacuatesAll s S (first F) r (s .roots) → Collects s S
+      rooted r F e (wants-page q y) = runs-dry (rw (e, collected, q)) (rw (fresh-is s e) (stack-beside (s .ctl .n) _ .1 _ y))
+      rooted r F e (goes-on (roots, r₁) q A) = scanned r F e roots r₁ q A (works-stack (A .inv) (A .later .cur) (A .later .half) (rooted-cost F A))
 
       freshened : Freshens s S (s .ctl .regions) 0 (begun s) → Collects s S
-      freshened (wants-page q (b, dry)) =
-          runs-dry (rw (q, collected))
-          (few b
-          (stack-dry (s .ctl .n) (length (s .heap) + 2 ^ s .ctl .n) (rootsFor (s .ctl .n) (s .roots) (freshenFor (s .ctl .n) (s .ctl .regions) 0 (begun s)))
-          (roots-dry (s .ctl .n) (length (s .heap) + 2 ^ s .ctl .n) (s .roots) (freshenFor (s .ctl .n) (s .ctl .regions) 0 (begun s)) dry)))
-      freshened (goes-on r q F) =
-          rooted r F q (evacuates-all s S (s .roots) (first s S r F) r (first-inv s S r F) (S .roots) (λ i b. root i b))
+      freshened (wants-page q y) = runs-dry (rw (q, collected)) (stack-beside (s .ctl .n) _ .1 _ (roots-dry (s .ctl .n) (s .roots) y))
+      freshened (goes-on r q F) = rooted r F q (evacuates-all (s .roots) (first-inv F) (S .roots) (λ i b. root i b))

@@ -10,14 +10,14 @@ use lib.ListN.{length, set}
 use lib.Seq.{getD-set-same, getD-set-other}
 use Rattle.rules.specs.Memory.{Store}
 use Rattle.laws.specs.Lists.{at}
-use Rattle.rules.proofs.Steps.{Stands, Steps, steps-le, stands-same, apart}
+use Rattle.rules.proofs.Steps.{PageSteps, OnPage, steps-le, stands-same, apart}
 use Rattle.facts.proofs.Inside.{other-page, steps-still}
 use Rattle.facts.proofs.Laid.{upd, upd-same, upd-other, Owner, old, mine, old-mine-apart}
 use Rattle.facts.proofs.Copied.{Moved, to, Rel}
 use Rattle.working.proofs.Log.{pointers, Copy, Log}
 
-module _ (n : ℕ) (s : Store) (kept : ℕ → Type 0) (own : ℕ → Owner) (fin : ℕ → ℕ) (h : List ℕ) (log : List Moved) (done : ℕ → ℕ)
-    (L : Log n s kept own fin h log done) (c d i v : ℕ) (m : List·Memᴰ (to c d) log) (i-in : i < L .copies m .len) (i-next : done d ≡ i)
+module _ {n : ℕ} {s : Store} {kept : ℕ → Type 0} {own : ℕ → Owner} {fin : ℕ → ℕ} {h : List ℕ} {log : List Moved} {done : ℕ → ℕ}
+    (L : Log n s kept own fin h log done) {c d i v : ℕ} (m : List·Memᴰ (to c d) log) (i-in : i < L .copies m .len) (i-next : done d ≡ i)
     (rel : Rel kept (pointers log) (at (s .heap) (c + suc i)) v) (x-in : d + suc i < length h) where
   abbrev C : Copy n s kept own fin h log done c d
   C = L .copies m
@@ -30,14 +30,14 @@ module _ (n : ℕ) (s : Store) (kept : ℕ → Type 0) (own : ℕ → Owner) (fi
 
   -- the word lies in its own page
   abbrev apart-from : (k y : ℕ) → k ≢ C .into → k * 2 ^ n ≤ y → y < k * 2 ^ n + 2 ^ n → y ≢ d + suc i
-  apart-from = other-page n h (C .into) d (C .len) i (C .into-steps) (C .into-stands) i-in
+  apart-from = other-page (C .now) i i-in
 
   old-page : (k y : ℕ) → own k ≡ old → k * 2 ^ n ≤ y → y < k * 2 ^ n + 2 ^ n → y ≢ d + suc i
   old-page k y o = apart-from k y (old-mine-apart own o (C .into-mine))
 
   -- stepping through any page goes as before
-  abbrev steps-any : (k e : ℕ) → Steps h (k * 2 ^ n + 2 ^ n) (k * 2 ^ n + 2) e → e ≤ k * 2 ^ n + 2 ^ n → Steps h′ (k * 2 ^ n + 2 ^ n) (k * 2 ^ n + 2) e
-  steps-any = steps-still n h (C .into) d (C .len) i (C .into-steps) (C .into-stands) i-in h′ agree
+  abbrev steps-any : (k e : ℕ) → PageSteps n h k e → e ≤ k * 2 ^ n + 2 ^ n → PageSteps n h′ k e
+  steps-any = steps-still (C .now) i i-in h′ agree
 
   -- another copy's words stay
   elsewhere : {c′ d′ : ℕ} (D : Copy n s kept own fin h log done c′ d′) → d′ ≢ d → (y : ℕ) → d′ ≤ y → y < d′ + suc (D .len) → y ≢ d + suc i
@@ -50,19 +50,18 @@ module _ (n : ℕ) (s : Store) (kept : ℕ → Type 0) (own : ℕ → Owner) (fi
 
       go : Dec (D .into ≡ C .into) → y ≢ d + suc i
       go (yes e) =
-          let S : Steps h (C .into * 2 ^ n + 2 ^ n) (C .into * 2 ^ n + 2) d′ = rw e at (D .into-steps) in
-          let T : Stands h (C .into * 2 ^ n + 2 ^ n) d′ (D .len) = rw e at (D .into-stands) in
-          both (apart (C .into-steps) (C .into-stands) S) (apart S T (C .into-steps))
-      go (no f) = let a = steps-le (D .into-steps) in let b = D .into-stands .ends in apart-from (D .into) y f (omega arith) (omega arith)
+          let v : OnPage n h (C .into) d′ (D .len) = rw e at (D .now) in
+          both (apart (C .now .steps) (C .now .stands) (v .steps)) (apart (v .steps) (v .stands) (C .now .steps))
+      go (no f) = let a = steps-le (D .now .steps) in let b = D .now .stands .ends in apart-from (D .into) y f (omega arith) (omega arith)
 
   -- a copy whose header is not the word is a copy still, once its fields are told anew
   copy-still : {c′ d′ : ℕ} (D : Copy n s kept own fin h log done c′ d′) → d′ ≢ d + suc i
       → ((f : ℕ) → f < D .len → f < upd done d (suc i) d′ → Rel kept (pointers log) (at (s .heap) (c′ + suc f)) (at h′ (d′ + suc f)))
       → ((f : ℕ) → f < D .len → upd done d (suc i) d′ ≤ f → at h′ (d′ + suc f) ≡ at (s .heap) (c′ + suc f)) → Copy n s kept own fin h′ log (upd done d (suc i)) c′ d′
   copy-still {c′} {d′} D ne scanned waiting =
-      let lo₀ = steps-le (D .from-steps) in
-      let hi₀ = D .from-stands .ends in
-      let hi₁ = D .into-stands .ends in
+      let lo₀ = steps-le (D .was .steps) in
+      let hi₀ = D .was .stands .ends in
+      let hi₁ = D .now .stands .ends in
       record {
         from = D .from;
         into = D .into;
@@ -70,11 +69,9 @@ module _ (n : ℕ) (s : Store) (kept : ℕ → Type 0) (own : ℕ → Owner) (fi
         len = D .len;
         from-old = D .from-old;
         from-whose = D .from-whose;
-        from-steps = D .from-steps;
-        from-stands = D .from-stands;
+        was = D .was;
         into-mine = D .into-mine;
-        into-steps = steps-any (D .into) d′ (D .into-steps) (omega arith);
-        into-stands = stands-same (agree d′ ne) (D .into-stands);
+        now = record { steps = steps-any (D .into) d′ (D .now .steps) (omega arith); stands = stands-same (agree d′ ne) (D .now .stands) };
         into-below = D .into-below;
         head = sym (agree d′ ne) ∙ D .head;
         forward = sym (agree c′ (old-page (D .from) c′ (D .from-old) (omega arith) (omega arith))) ∙ D .forward;
@@ -106,9 +103,9 @@ module _ (n : ℕ) (s : Store) (kept : ℕ → Type 0) (own : ℕ → Owner) (fi
   copies-by m′ (no ne) = other-copy (L .copies m′) ne
 
   -- and back
-  steps-back : (k e : ℕ) → Steps h′ (k * 2 ^ n + 2 ^ n) (k * 2 ^ n + 2) e → e ≤ k * 2 ^ n + 2 ^ n → Steps h (k * 2 ^ n + 2 ^ n) (k * 2 ^ n + 2) e
+  steps-back : (k e : ℕ) → PageSteps n h′ k e → e ≤ k * 2 ^ n + 2 ^ n → PageSteps n h k e
   unfolding own-copy copy-still
-  steps-back = steps-still n h′ (C .into) d (C .len) i (own-copy .into-steps) (own-copy .into-stands) i-in h (λ y ne. sym (agree y ne))
+  steps-back = steps-still (own-copy .now) i i-in h (λ y ne. sym (agree y ne))
 
   -- the log after the field
   pub scanned-log : ((k j : ℕ) → own k ≡ mine j → fin k ≤ k * 2 ^ n + 2 ^ n) → Log n s kept own fin h′ log (upd done d (suc i))

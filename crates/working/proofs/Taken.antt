@@ -6,43 +6,22 @@ use native.Mathlib.Omega.{arith}
 use native.Mathlib.Decide.{ℕ-discrete}
 use mathlib.Core.Path.{_≡_, refl, sym, _∙_}
 use mathlib.Core.Logic.{_≢_}
-use mathlib.Core.Option.{none, some}
 use mathlib.Core.List.{List, [], _∷_, List·Memᴰ, List·Memᴰ·tail}
 use lib.ListN.{length, set, length-set}
 use lib.Seq.{getD-set-same, getD-set-other}
-pub use Rattle.laws.proofs.Once.{linked-first, linked-none, linked-snoc, last-snoc, last-one, last-is, in-snoc, once-snoc}
-use Rattle.rules.specs.Memory.{link, setLink, setOrigin}
+use Rattle.laws.proofs.Once.{linked-first, linked-same}
+use Rattle.rules.proofs.Pages.{taken}
+use Rattle.rules.proofs.Pages.{taken-long}
+use Rattle.rules.specs.Memory.{link}
 use Rattle.laws.specs.Lists.{at, lastOr}
 use Rattle.rules.specs.Audit.{lastLink}
-use Rattle.rules.specs.Pages.{Run, takePage, withFree, lastIf}
+use Rattle.rules.specs.Pages.{Run, lastIf}
 use Rattle.laws.proofs.Lists.{set-elsewhere}
 use Rattle.rules.proofs.Steps.{here}
 use Rattle.laws.proofs.Once.{once-tail, once-head}
-use Rattle.facts.proofs.Laid.{mine-inj, spare≢mine, spare≢beyond, upd, upd-same, upd-other, last-in, linked-same, Owner, spare, mine, Body, Clean, Like, body-like, clean-like, Layout, page-in, like-kept, link-kept, chain-apart, upd-known, first-spare}
+use Rattle.facts.proofs.Laid.{mine-inj, spare≢mine, spare≢beyond, upd, upd-same, upd-other, Owner, spare, mine, Body, Clean, Like, body-like, clean-like, first-same, last-same, Layout, page-in, like-kept, link-kept, chain-apart, upd-known, first-spare}
 
--- the run after page k is taken
-unfoldable pub taken : ℕ → ℕ → ℕ → Run → Run
-taken n j k r =
-    withFree r (setOrigin n (setLink n (r .heap) k 0) k (suc j)) (link n (r .heap) k) (lastIf (r .count - 1) (r .last)) (r .count - 1)
-
-pub takes : (n j k : ℕ) (r : Run) → r .first ≡ suc k → takePage n j r ≡ some (k, taken n j k r)
-unfolding takePage taken
-takes n j k r e = rw (e, takePage)
-
--- the table is as it was, and the heap as long
-pub taken-table : (n j k : ℕ) (r : Run) → taken n j k r .table ≡ r .table
-unfolding taken
-taken-table n j k r = refl
-
-pub taken-long : (n j k : ℕ) (r : Run) → length (taken n j k r .heap) ≡ length (r .heap)
-unfolding taken
-taken-long n j k r = length-set (set (r .heap) (k * 2 ^ n) 0) (k * 2 ^ n + 1) (suc j) ∙ length-set (r .heap) (k * 2 ^ n) 0
-
-pub takes-none : (n j : ℕ) (r : Run) → r .first ≡ 0 → takePage n j r ≡ none
-unfolding takePage
-takes-none n j r e = rw (e, takePage)
-
-module _ (n N R : ℕ) (own : ℕ → Owner) (fin : ℕ → ℕ) (pages : ℕ → List ℕ) (k : ℕ) (ks : List ℕ) (r : Run) (L : Layout n N R own fin pages (k ∷ ks) r) (j : ℕ) where
+module _ {n N R : ℕ} {own : ℕ → Owner} {fin : ℕ → ℕ} {pages : ℕ → List ℕ} {k : ℕ} {ks : List ℕ} {r : Run} (L : Layout n N R own fin pages (k ∷ ks) r) (j : ℕ) where
   own-k : own k ≡ spare
   own-k = first-spare L
 
@@ -149,9 +128,7 @@ module _ (n N R : ℕ) (own : ℕ → Owner) (fin : ℕ → ℕ) (pages : ℕ �
         free-clean = cleans;
         mine-own = λ i l b m. own-other l (mine-not-k i l b m) ∙ L .mine-own i l b m;
         mine-once = L .mine-once;
-        mine-links = λ i b. let t = L .mine-links i b in (t .0, t .1, linked-same (λ l m. links l (mine-not-k i l b m)) (t .2));
+        mine-links = λ i b. first-same refl (λ l m. links l (mine-not-k i l b m)) (L .mine-links i b);
         mine-body = bodies;
-        mine-top = λ i b.
-            let t = L .mine-top i b in
-            (t .0, t .1, t .2, t .3 ∙ sym (upd-other fin k (k * P + 2) (t .0) (mine-not-k i (t .0) b (last-in (t .1)))));
+        mine-top = λ i b. last-same refl refl (λ l m. sym (upd-other fin k (k * P + 2) l (mine-not-k i l b m))) (L .mine-top i b);
       }

@@ -1,4 +1,5 @@
--- The words that a region's pages hold, when its last page p gets d words more, or page p is added with d words.
+-- The words that a region's pages hold, when its last page p gets d words more, or page p is added with d words. One summand changes, or one is
+-- added.
 use Prim.Native.Nat.{ℕ, _+_, _-_, _*_, _^_, _≤_}
 use native.Mathlib.Omega.{arith}
 use mathlib.Core.Path.{_≡_, sym, ap, _∙_}

@@ -1,5 +1,5 @@
--- One turn of the scan: the first copy that waits in the region is opened, its fields are scanned, and it is closed. A raw copy is done at
--- once.
+-- One turn of the scan: the first copy that waits in the region is opened, its fields are scanned, and it is closed. A raw copy is done at once.
+-- Opening and closing it change no word, and scanning keeps the invariant.
 use Prim.Native.Nat.{ℕ, suc, _+_, _*_, _≤_, _<_}
 use native.Mathlib.Omega.{arith}
 use native.Mathlib.Decide.{ℕ-discrete}
@@ -10,21 +10,23 @@ use mathlib.Core.List.{List, [], _∷_, _++_, append-assoc, List·Memᴰ, List·
 use mathlib.Core.Bool.{false≢true}
 use lib.ListN.{length}
 use Rattle.laws.specs.Lists.{at}
-use Rattle.laws.proofs.Once.{Once, once-more, once-tail, in-tail}
+use Rattle.laws.proofs.Once.{once-head, once-split, in-tail}
 use Rattle.rules.specs.Memory.{Store, statusOf}
 use Rattle.rules.specs.Words.{rec, raw, headOf}
 use Rattle.rules.specs.Pages.{Scan, Run}
 use Rattle.rules.proofs.Pointers.{Heads, a-record, raw-words, head-is}
 use Rattle.rules.specs.Collection.{scanFields, scanValue}
-use Rattle.facts.proofs.Laid.{mine, upd, upd-same, upd-other}
+use Rattle.facts.proofs.Laid.{mine, upd, upd-same, upd-other, mine-inj}
 use Rattle.facts.proofs.Copied.{Moved, to}
 use Rattle.facts.proofs.Sound.{Sound}
-use Rattle.working.proofs.Owned.{mine-inj, total, total-tail}
+use Rattle.working.proofs.Owned.{total, total-tail}
 use Rattle.working.proofs.Next.{Row}
-use Rattle.working.proofs.Rows.{InRow, row-in, row-once, pages-differ}
+use Rattle.working.proofs.Rows.{InRow, row-in, row-once}
+use Rattle.facts.proofs.Inside.{pages-differ}
 use Rattle.rules.specs.Wanted.{fieldsFor, valueFor}
-use Rattle.working.proofs.Wanting.{Goes, goes-on}
-use Rattle.working.proofs.Invariant.{waits-still, waiting, waiting-inv, lacks-as, Ghost, Waits, Pending, Inv, Later, later-refl, Lacking}
+use Rattle.working.proofs.Wanting.{Goes, goes-on, lacks-as}
+use Rattle.working.proofs.Dry.{Overdrawn}
+use Rattle.working.proofs.Invariant.{waiting, waiting-inv, Ghost, Waits, Queue, Pending, Inv, Later, later-refl}
 use Rattle.working.proofs.Scanning.{Ready, scans-fields}
 
 -- the copy at b, the first that waits in region j, is being scanned; ts wait behind it
@@ -35,12 +37,14 @@ opened g j b ts = waiting g (upd (g .past) j (g .past j ++ b ∷ [])) (upd (g .t
 abbrev pub closed : Ghost → Ghost
 closed g = waiting g (g .past) (g .todo) (g .cur) none
 
-once-mid : {b : ℕ} {ts : List ℕ} (xs : List ℕ) → Once (xs ++ b ∷ ts) → List·Memᴰ b ts → ⊥
-once-mid [] (once-more f o) m = f m
-once-mid (x ∷ xs) o m = once-mid xs (once-tail o) m
+-- the scan stands at b, the first copy that waits in region j; ts wait behind it, and no copy is open
+pub record ScanAt (g : Ghost) (j b : ℕ) (ts : List ℕ) : Type 0 where
+  pub cur : g .cur ≡ some j
+  pub todo : g .todo j ≡ b ∷ ts
+  pub none-open : g .half ≡ none
 
 -- ---- opened
-module _ (s : Store) (S : Sound s) (g : Ghost) (r : Run) (I : Inv s S g r) (j b : ℕ) (ts : List ℕ) (cur : g .cur ≡ some j) (todo : g .todo j ≡ b ∷ ts) (none-open : g .half ≡ none) where
+module _ {s : Store} {S : Sound s} {g : Ghost} {r : Run} {j b : ℕ} {ts : List ℕ} (I : Inv s S g r) (A : ScanAt g j b ts) where
   abbrev n : ℕ
   n = s .ctl .n
 
@@ -50,11 +54,14 @@ module _ (s : Store) (S : Sound s) (g : Ghost) (r : Run) (I : Inv s S g r) (j b 
   abbrev P : Pending n R g r
   P = I .pending
 
+  abbrev Q : Queue R (g .todo) (g .cur) (r .table) (r .stack)
+  Q = P .queue
+
   jR : j < R
-  jR = P .at-work j cur .0
+  jR = Q .at-work j (A .cur) .0
 
   row : Row n (r .heap) (g .fin) (g .pages j) (g .past j ++ b ∷ ts)
-  row = subst (λ xs. Row n (r .heap) (g .fin) (g .pages j) (g .past j ++ xs)) todo (P .rows j jR)
+  row = subst (λ xs. Row n (r .heap) (g .fin) (g .pages j) (g .past j ++ xs)) (A .todo) (P .rows j jR)
 
   b-row : InRow n (r .heap) (g .fin) (g .pages j) b
   b-row = row-in row (Memᴰ·append-right (g .past j) (List·Memᴰ·head refl))
@@ -67,18 +74,18 @@ module _ (s : Store) (S : Sound s) (g : Ghost) (r : Run) (I : Inv s S g r) (j b 
       own = I .laid .mine-own j (b-row .page) jR (b-row .here)
 
       go : Dec (i ≡ j) → ⊥
-      go (yes e) = once-mid (g .past j) (row-once row (I .laid .mine-once j jR)) (rw (upd-same (g .todo) j ts i e) at m)
+      go (yes e) = once-head (once-split (g .past j) (row-once row (I .laid .mine-once j jR)) .1) (rw (upd-same (g .todo) j ts i e) at m)
       go (no ne) =
           let F = row-in (P .rows i iR) (Memᴰ·append-right (g .past i) (rw (upd-other (g .todo) j ts i ne) at m)) in
           let own′ = I .laid .mine-own i (F .page) iR (F .here) in
-          pages-differ b-row F (λ e. ne (mine-inj (sym own′ ∙ ap (g .own) (sym e) ∙ own))) refl
+          pages-differ (b-row .value) (F .value) (λ e. ne (mine-inj (sym own′ ∙ ap (g .own) (sym e) ∙ own))) refl
 
   still : (i c : ℕ) → c ≢ b → Dec (i ≡ j) → List·Memᴰ c (g .todo i) → List·Memᴰ c (opened g j b ts .todo i)
-  still i c ne (yes e) m = rw (upd-same (g .todo) j ts i e) (in-tail ne (rw (ap (g .todo) e ∙ todo) at m))
+  still i c ne (yes e) m = rw (upd-same (g .todo) j ts i e) (in-tail ne (rw (ap (g .todo) e ∙ A .todo) at m))
   still i c ne (no nj) m = rw (upd-other (g .todo) j ts i nj) m
 
   before : (i c : ℕ) → Dec (i ≡ j) → List·Memᴰ c (opened g j b ts .todo i) → List·Memᴰ c (g .todo i)
-  before i c (yes e) m = rw (ap (g .todo) e ∙ todo) (List·Memᴰ·tail (rw (upd-same (g .todo) j ts i e) at m))
+  before i c (yes e) m = rw (ap (g .todo) e ∙ A .todo) (List·Memᴰ·tail (rw (upd-same (g .todo) j ts i e) at m))
   before i c (no nj) m = rw (upd-other (g .todo) j ts i nj) at m
 
   rows : (i : ℕ) → i < R → Dec (i ≡ j) → Row n (r .heap) (g .fin) (g .pages i) (opened g j b ts .past i ++ opened g j b ts .todo i)
@@ -87,10 +94,10 @@ module _ (s : Store) (S : Sound s) (g : Ghost) (r : Run) (I : Inv s S g r) (j b 
       (subst (λ xs. Row n (r .heap) (g .fin) (g .pages j) xs) (sym (append-assoc (g .past j) (b ∷ []) ts)) row)
   rows i iR (no ne) = rw (upd-other (g .past) j (g .past j ++ b ∷ []) i ne, upd-other (g .todo) j ts i ne) (P .rows i iR)
 
-  waits : (t : Scan) → Waits R g (r .table) t → Waits R (opened g j b ts) (r .table) t
+  waits : (t : Scan) → Waits R (g .todo) (g .cur) (r .table) t → Waits R (upd (g .todo) j ts) (g .cur) (r .table) t
   waits t W =
-      let ne : t .region ≢ j = λ q. W .other (cur ∙ ap some (sym q)) in
-      waits-still t refl (upd-other (g .todo) j ts (t .region) ne) W
+      let ne : t .region ≢ j = λ q. W .other (A .cur ∙ ap some (sym q)) in
+      record { known = W .known; awake = W .awake; other = W .other; rest = W .rest; begins = upd-other (g .todo) j ts (t .region) ne ∙ W .begins }
 
   opened-pending : Pending n R (opened g j b ts) r
   opened-pending =
@@ -99,13 +106,16 @@ module _ (s : Store) (S : Sound s) (g : Ghost) (r : Run) (I : Inv s S g r) (j b 
         untouched = λ i c iR m. P .untouched i c iR (before i c (ℕ-discrete i j) m);
         scanned = λ {b = c} m gone ne l e.
             P .scanned m (λ i iR q. gone i iR (still i c (λ t. ne (ap some (sym t))) (ℕ-discrete i j) q))
-            (λ q. Option·none-ne-some c (sym none-open ∙ q)) l e;
+            (λ q. Option·none-ne-some c (sym (A .none-open) ∙ q)) l e;
         raws = P .raws;
-        stacked = λ t m. waits t (P .stacked t m);
-        once = P .once;
-        at-work = P .at-work;
-        idle = λ i iR e. upd-other (g .todo) j ts i (λ q. P .at-work j cur .1 (ap (statusOf (r .table)) (sym q) ∙ e)) ∙ P .idle i iR e;
-        busy = P .busy;
+        queue =
+            record {
+              stacked = λ t m. waits t (Q .stacked t m);
+              once = Q .once;
+              at-work = Q .at-work;
+              idle = λ i iR e. upd-other (g .todo) j ts i (λ q. Q .at-work j (A .cur) .1 (ap (statusOf (r .table)) (sym q) ∙ e)) ∙ Q .idle i iR e;
+              busy = Q .busy;
+            };
       }
 
   pub opened-inv : Inv s S (opened g j b ts) r
@@ -116,16 +126,16 @@ module _ (s : Store) (S : Sound s) (g : Ghost) (r : Run) (I : Inv s S g r) (j b 
   b-entry =
       let F = b-row in
       let below = F .below in
-      I .logged .every (F .page) j b (I .laid .mine-own j (F .page) jR (F .here)) (F .steps) (omega arith)
+      I .logged .every (F .page) j b (I .laid .mine-own j (F .page) jR (F .here)) (F .value .steps) (omega arith)
 
   pub b-fresh : g .count b ≡ 0
-  b-fresh = P .untouched j b jR (rw todo (List·Memᴰ·head refl))
+  b-fresh = P .untouched j b jR (rw (A .todo) (List·Memᴰ·head refl))
 
   pub one-less : suc (total (opened g j b ts .todo) R) ≡ total (g .todo) R
-  one-less = total-tail (g .todo) j b ts R jR todo
+  one-less = total-tail (g .todo) j b ts R jR (A .todo)
 
 -- ---- closed
-module _ (s : Store) (S : Sound s) (g : Ghost) (r : Run) (I : Inv s S g r) (d : ℕ) (mid : g .half ≡ some d) (full : (l : ℕ) → headOf (at (r .heap) d) ≡ rec l → l ≤ g .count d) where
+module _ {s : Store} {S : Sound s} {g : Ghost} {r : Run} {d : ℕ} (I : Inv s S g r) (mid : g .half ≡ some d) (full : (l : ℕ) → headOf (at (r .heap) d) ≡ rec l → l ≤ g .count d) where
   closed-pending : Pending (s .ctl .n) (s .ctl .regions) (closed g) r
   closed-pending =
       let P = I .pending in
@@ -134,11 +144,7 @@ module _ (s : Store) (S : Sound s) (g : Ghost) (r : Run) (I : Inv s S g r) (d : 
         untouched = P .untouched;
         scanned = λ {b = c} m gone ne l e. go c (ℕ-discrete c d) l e (λ q. P .scanned m gone q l e);
         raws = P .raws;
-        stacked = λ t m. waits-still t refl refl (P .stacked t m);
-        once = P .once;
-        at-work = P .at-work;
-        idle = P .idle;
-        busy = P .busy;
+        queue = P .queue;
       }
     where
       go : (c : ℕ) → Dec (c ≡ d) → (l : ℕ) → headOf (at (r .heap) c) ≡ rec l → (g .half ≢ some c → l ≤ g .count c) → l ≤ g .count c
@@ -161,75 +167,76 @@ pub record Turned (s : Store) (S : Sound s) (g : Ghost) (r : Run) (j b : ℕ) (r
   pub cost : total (ghost .todo) (s .ctl .regions) + length (r′ .stack) + suc (2 * length (g .log)) ≤ total (g .todo) (s .ctl .regions) + length (r .stack) + 2 * length (ghost .log)
 
 abbrev pub Turns : (s : Store) → Sound s → Ghost → Run → ℕ → ℕ → Type 0
-Turns s S g r j b = Goes none some (scanValue (s .ctl .n) b r) (Lacking s S (valueFor (s .ctl .n) b r)) (λ r′. Turned s S g r j b r′)
+Turns s S g r j b = Goes none some (scanValue (s .ctl .n) b r) (Overdrawn s (valueFor (s .ctl .n) b r)) (λ r′. Turned s S g r j b r′)
 
-module _ (s : Store) (S : Sound s) (g : Ghost) (r : Run) (I : Inv s S g r) (j b : ℕ) (ts : List ℕ) (cur : g .cur ≡ some j) (todo : g .todo j ≡ b ∷ ts) (none-open : g .half ≡ none) where
+module _ {s : Store} {S : Sound s} {g : Ghost} {r : Run} {j b : ℕ} {ts : List ℕ} (I : Inv s S g r) (A : ScanAt g j b ts) where
   abbrev pub c : ℕ
-  c = b-entry s S g r I j b ts cur todo none-open .0
+  c = b-entry I A .0
 
   pub m : List·Memᴰ (to c b) (g .log)
-  m = b-entry s S g r I j b ts cur todo none-open .1
+  m = b-entry I A .1
 
   pub header : at (r .heap) b ≡ at (s .heap) c
   header = I .logged .copies m .head
 
-  pub start : Inv s S (opened g j b ts) r
-  start = opened-inv s S g r I j b ts cur todo none-open
-
   -- from a state in which all its fields are scanned, or that has none
   unfoldable pub turned : {g′ : Ghost} {r′ : Run} → Inv s S g′ r′ → Later (s .ctl .regions) (opened g j b ts) r g′ r′ → ((l : ℕ) → headOf (at (r′ .heap) b) ≡ rec l → l ≤ g′ .count b) → Turned s S g r j b r′
   turned {g′} {r′} I′ L full =
-      let less = one-less s S g r I j b ts cur todo none-open in
+      let less = one-less I A in
       let cost = L .cost in
       record {
         ghost = closed g′;
-        inv = closed-inv s S g′ r′ I′ b (L .half) full;
-        cur = L .cur ∙ cur;
+        inv = closed-inv I′ (L .half) full;
+        cur = L .cur ∙ A .cur;
         none-open = refl;
         past = L .past j ∙ upd-same (g .past) j (g .past j ++ b ∷ []) j refl;
         log = L .log;
         cost = omega arith;
       }
 
+  -- raw words: nothing is to be scanned
+  unfoldable pub raw-turned : {l : ℕ} → headOf (at (r .heap) b) ≡ raw l → Turned s S g r j b r
+  unfolding turned
+  raw-turned {l} e = turned (opened-inv I A) (later-refl _ _ _) (λ k q. let z : raw l ≡ rec k = sym e ∙ q in absurd (false≢true cc))
+
   -- a record: its fields are scanned from the first
-  module _ (l : ℕ) (e : headOf (at (r .heap) b) ≡ rec l) where
+  module _ {l : ℕ} (e : headOf (at (r .heap) b) ≡ rec l) where
     unfoldable pub ready : Ready s S (opened g j b ts) r c b l r 0
     ready =
         record {
           ghost = opened g j b ts;
-          inv = start;
+          inv = opened-inv I A;
           later = later-refl _ _ _;
           entry = m;
-          next = b-fresh s S g r I j b ts cur todo none-open;
+          next = b-fresh I A;
           mid = refl;
-          gone = b-gone s S g r I j b ts cur todo none-open;
+          gone = b-gone I A;
         }
 
-    pub scan-is : scanValue (s .ctl .n) b r ≡ scanFields (s .ctl .n) l (b + suc 0) r
-    unfolding scanValue
-    scan-is = let q : suc b ≡ b + suc 0 = omega arith in rw (e, scanValue) (ap (λ x. scanFields (s .ctl .n) l x r) q)
+    pub scan-is : (scanValue (s .ctl .n) b r ≡ scanFields (s .ctl .n) l (b + suc 0) r) × (valueFor (s .ctl .n) b r ≡ fieldsFor (s .ctl .n) l (b + suc 0) r)
+    unfolding scanValue valueFor
+    scan-is =
+        let q : suc b ≡ b + suc 0 = omega arith in
+        (rw (e, scanValue) (ap (λ x. scanFields (s .ctl .n) l x r) q), rw (e, valueFor) (ap (λ x. fieldsFor (s .ctl .n) l x r) q))
 
     -- after the last of them none is left
-    pub full : (r′ : Run) (Q : Ready s S (opened g j b ts) r c b l r′ l) (k : ℕ) → headOf (at (r′ .heap) b) ≡ rec k → k ≤ Q .ghost .count b
-    full r′ Q k q =
+    unfoldable pub record-turned : {r′ : Run} → Ready s S (opened g j b ts) r c b l r′ l → Turned s S g r j b r′
+    unfolding turned
+    record-turned Q =
+        turned (Q .inv) (Q .later)
+        (λ k q.
         let t : rec k ≡ rec l = sym q ∙ ap headOf (Q .inv .logged .copies (Q .entry) .head ∙ sym header) ∙ e in
         let u : k ≡ l = cc in
         let w = Q .next in
-        omega arith
+        omega arith)
 
   abbrev l : ℕ
   l = I .logged .copies m .len
 
   by-head : Heads (headOf (at (r .heap) b)) l → Turns s S g r j b
-  unfolding scanValue valueFor
-  by-head (raw-words e) =
-      goes-on r (rw (e, scanValue)) (turned start (later-refl _ _ _) (λ k q. let z : raw l ≡ rec k = sym e ∙ q in absurd (false≢true cc)))
-  by-head (a-record e) =
-      lacks-as (scan-is l e) is-for (λ r′ Q. turned (Q .inv) (Q .later) (full l e r′ Q))
-      (scans-fields s S (opened g j b ts) r c b l (ap headOf (sym header) ∙ e) l r 0 (omega arith) (ready l e))
-    where
-      is-for : valueFor (s .ctl .n) b r ≡ fieldsFor (s .ctl .n) l (b + suc 0) r
-      is-for = let q : suc b ≡ b + suc 0 = omega arith in rw (e, valueFor) (ap (λ x. fieldsFor (s .ctl .n) l x r) q)
+  unfolding scanValue
+  by-head (raw-words e) = goes-on r (rw (e, scanValue)) (raw-turned e)
+  by-head (a-record e) = lacks-as (scan-is e .0) (scan-is e .1) (λ r′. record-turned e) (scans-fields (ap headOf (sym header) ∙ e) l r 0 (omega arith) (ready e))
 
   pub scans-value : Turns s S g r j b
-  scans-value = by-head (head-is (headOf (at (r .heap) b)) l (I .logged .copies m .into-stands .head))
+  scans-value = by-head (head-is (headOf (at (r .heap) b)) l (I .logged .copies m .now .stands .head))

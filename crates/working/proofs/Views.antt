@@ -11,21 +11,21 @@ use lib.Seq.{ext-getD}
 use Rattle.laws.specs.Lists.{at}
 use Rattle.laws.proofs.Lists.{part-length, word-in}
 use Rattle.rules.specs.Memory.{Store}
-use Rattle.rules.specs.Words.{wordOf, rec, raw, headOf, recordBy, isRecord}
+use Rattle.rules.specs.Words.{wordOf, raw, headOf, recordBy, isRecord}
 use Rattle.rules.specs.Pages.{Run}
 use Rattle.rules.specs.Calls.{lookIn, isNumber}
 use Rattle.rules.specs.Seen.{homeIn, seen, Reached}
 use Rattle.facts.proofs.Copied.{Moved, to, Rel, num, stay, OneValue, Copied}
-use Rattle.rules.proofs.Pointers.{pointer, record-head, raw-head}
+use Rattle.rules.proofs.Pointers.{pointer, raw-head}
 use Rattle.facts.proofs.Looked.{heap-seen, heap-home, const-seen, const-home, seen-plain, words-head}
 use Rattle.facts.proofs.Sound.{GoodConst, number-there, const-there, Sound}
 use Rattle.working.proofs.Log.{pointers, Copy, of-pointers, of-each}
 use Rattle.working.proofs.Invariant.{Kept, copied-in, copy-was}
 use Rattle.working.proofs.Scanning.{seen-old}
 use Rattle.working.proofs.Running.{Ran}
-use Rattle.working.proofs.Ending.{back, left-store, left-sound, copy-word, copy-head, copy-inside, copy-good, copy-scanned}
+use Rattle.working.proofs.Ending.{back, left-store, left-sound, copy-word, copy-head, copy-inside, copy-good, copy-field}
 
-module _ (s : Store) (S : Sound s) (roots : List ℕ) (r : Run) (A : Ran s S roots r) where
+module _ {s : Store} {S : Sound s} {roots : List ℕ} {r : Run} (A : Ran s S roots r) where
   abbrev n : ℕ
   n = s .ctl .n
 
@@ -33,7 +33,7 @@ module _ (s : Store) (S : Sound s) (roots : List ℕ) (r : Run) (A : Ran s S roo
   log = pointers (A .end .ghost .log)
 
   abbrev s′ : Store
-  s′ = left-store s S roots r A
+  s′ = left-store A
 
   abbrev R : ℕ → ℕ → Type 0
   R = Rel (Kept s) log
@@ -77,49 +77,41 @@ module _ (s : Store) (S : Sound s) (roots : List ℕ) (r : Run) (A : Ran s S roo
 
   -- ---- what moved
 
-  module _ (a b : ℕ) (m : List·Memᴰ (to a b) (A .end .ghost .log)) where
+  module _ {a b : ℕ} (m : List·Memᴰ (to a b) (A .end .ghost .log)) where
     abbrev D : Copy n s (Kept s) (A .end .ghost .own) (A .end .ghost .fin) (r .heap) (A .end .ghost .log) (A .end .ghost .count) a b
     D = A .end .inv .logged .copies m
 
     value-before : lookIn s (4 * a) ≡ take (suc (D .len)) (drop a (s .heap))
-    value-before = seen-old s S (A .end .ghost) r (A .end .inv) a b m
+    value-before = seen-old (A .end .inv) m
 
-    value-after : lookIn s′ (4 * b) ≡ take (suc (D .len)) (drop b (back s S roots r A .heap))
-    value-after = heap-seen s′ (left-sound s S roots r A .within .paged) b (copy-good s S roots r A a b m)
+    value-after : lookIn s′ (4 * b) ≡ take (suc (D .len)) (drop b (back A .heap))
+    value-after = heap-seen s′ (left-sound A .within .paged) b (copy-good A m)
 
     home-before : homeIn s (4 * a) ≡ suc (D .region)
     home-before = heap-home s (S .within .paged) a (copy-was (A .end .inv) m)
 
     home-after : homeIn s′ (4 * b) ≡ suc (D .region)
-    home-after = heap-home s′ (left-sound s S roots r A .within .paged) b (copy-good s S roots r A a b m)
+    home-after = heap-home s′ (left-sound A .within .paged) b (copy-good A m)
 
     abbrev h : List ℕ
     h = s .heap
 
     abbrev h′ : List ℕ
-    h′ = back s S roots r A .heap
+    h′ = back A .heap
 
     in-after : b + suc (D .len) ≤ length h′
-    in-after = let x = copy-inside s S roots r A a b m in let y = D .into-stands .ends in omega arith
+    in-after = let x = copy-inside A m in let y = D .now .stands .ends in omega arith
 
     same-head : at h′ b ≡ at h a
-    same-head = copy-head s S roots r A a b m ∙ D .head
-
-    fields : isRecord (at h a) ≡ true → (f : ℕ) → f < D .len → R (at h (a + suc f)) (at h′ (b + suc f))
-    unfolding isRecord
-    fields kind f q =
-        let e : headOf (at (r .heap) b) ≡ rec (D .len)
-        = record-head (headOf (at (r .heap) b)) (D .len) (D .into-stands .head) (ap (λ w. recordBy (headOf w)) (D .head) ∙ kind) in
-        let full = copy-scanned s S roots r A a b m (D .len) e in
-        rw (copy-word s S roots r A a b m (suc f) (omega arith)) (D .scanned f q (omega arith))
+    same-head = copy-head A m ∙ D .head
 
     raws : isRecord (at h a) ≡ false → (f : ℕ) → f < D .len → at h (a + suc f) ≡ at h′ (b + suc f)
     unfolding isRecord
     raws kind f q =
         let e : headOf (at (r .heap) b) ≡ raw (D .len)
-        = raw-head (headOf (at (r .heap) b)) (D .len) (D .into-stands .head) (ap (λ w. recordBy (headOf w)) (D .head) ∙ kind) in
+        = raw-head (headOf (at (r .heap) b)) (D .len) (D .now .stands .head) (ap (λ w. recordBy (headOf w)) (D .head) ∙ kind) in
         let z = A .end .inv .pending .raws m (D .len) e in
-        sym (D .waiting f q (omega arith)) ∙ sym (copy-word s S roots r A a b m (suc f) (omega arith))
+        sym (D .waiting f q (omega arith)) ∙ sym (copy-word A m (suc f) (omega arith))
 
     text : isRecord (at h a) ≡ false → take (suc (D .len)) (drop a h) ≡ take (suc (D .len)) (drop b h′)
     text kind =
@@ -148,7 +140,7 @@ module _ (s : Store) (S : Sound s) (roots : List ℕ) (r : Run) (A : Ran s S roo
                 size = x ∙ sym y;
                 fields = λ kind f t.
                     rw (word-in h a (suc (D .len)) (suc f) (omega arith), word-in h′ b (suc (D .len)) (suc f) (omega arith))
-                    (fields (ap isRecord (sym p) ∙ kind) f (omega arith));
+                    (copy-field A m (ap isRecord (sym p) ∙ kind) f (omega arith));
                 text = λ kind. text (ap isRecord (sym p) ∙ kind);
               });
           home = home-before ∙ sym home-after;
@@ -163,7 +155,7 @@ module _ (s : Store) (S : Sound s) (roots : List ℕ) (r : Run) (A : Ran s S roo
   four e = omega arith
 
   moves : {v w : ℕ} → List·Memᴰ (to v w) log → OneValue (seen s) (seen s′) R v w × (homeIn s v ≢ 0)
-  moves m = of-each (λ v w. OneValue (seen s) (seen s′) R v w × (homeIn s v ≢ 0)) (A .end .ghost .log) m (λ a b t. (moved-same a b t, has-home a b t))
+  moves m = of-each (λ v w. OneValue (seen s) (seen s′) R v w × (homeIn s v ≢ 0)) (A .end .ghost .log) m (λ a b t. (moved-same t, has-home t))
 
   one-new : {v w w′ : ℕ} → List·Memᴰ (to v w) log → List·Memᴰ (to v w′) log → w ≡ w′
   one-new m m′ =

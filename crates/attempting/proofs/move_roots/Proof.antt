@@ -5,10 +5,9 @@ use native.Mathlib.Omega.{arith}
 use borrow.Author.Tests.{not-true, not-false}
 use lib.ListN.{length, drop}
 use Rattle.laws.specs.Each.{eachOf}
-use Rattle.laws.proofs.Each.{eachOf-end}
+use Rattle.laws.proofs.Each.{eachOf-more, eachOf-over, eachOf-end}
 use Rattle.motion.specs.Leaves.{desk}
 use Rattle.motion.specs.Whole.{moveRoot}
-use Rattle.attempting.proofs.Rooted.{root-more, root-over}
 use borrow.Author.Needs.{needs}
 use Rattle.attempting.proofs.move_roots.Statement.{statement}
 use Rattle.attempting.proofs.move_roots.Tie as tie
@@ -35,7 +34,7 @@ same-length-2 : tie.Need-same-length-2 Inv-loop μ-loop
 same-length-2 c = c .before .before .before .before .before .move-root .kept .1 .0 ∙ c .before .before .before .before .before .before .before .before .before .before .loop .inv .2
 
 returns : tie.Need-returns Inv-loop μ-loop
-returns c = sym (root-over _ _ _ _ _ _ _ (c .before .before .before .before .before .before .before .before .before .loop-test .taken) (c .before .before .before .before .before .before .before .before .word .ensures .0) (not-true _ (c .if1 .taken)) (c .before .before .before .before .before .move-root .ensures)) ∙ c .before .before .before .before .before .before .before .before .before .before .loop .inv .0
+returns c = sym (eachOf-over _ _ _ _ _ _ _ (c .before .before .before .before .before .before .before .before .before .loop-test .taken) (c .before .before .before .before .before .before .before .before .word .ensures .0) (not-true _ (c .if1 .taken)) (c .before .before .before .before .before .move-root .ensures)) ∙ c .before .before .before .before .before .before .before .before .before .before .loop .inv .0
 
 add-i : tie.Need-add-i Inv-loop μ-loop
 add-i c = omega arith
@@ -44,7 +43,7 @@ loop-less : tie.Need-loop-less Inv-loop μ-loop
 loop-less c = omega arith
 
 loop-again : tie.Need-loop-again Inv-loop μ-loop
-loop-again c = (sym (root-more _ _ _ _ _ _ _ (c .before .before .before .before .before .before .before .before .before .loop-test .taken) (c .before .before .before .before .before .before .before .before .word .ensures .0) (not-false _ (c .if1 .left)) (c .before .before .before .before .before .move-root .ensures)) ∙ c .before .before .before .before .before .before .before .before .before .before .loop .inv .0, c .before .before .before .before .before .move-root .kept .0 ∙ c .before .before .before .before .before .before .before .before .before .before .loop .inv .1, c .before .before .before .before .before .move-root .kept .1 .0 ∙ c .before .before .before .before .before .before .before .before .before .before .loop .inv .2)
+loop-again c = (sym (eachOf-more _ _ _ _ _ _ _ (c .before .before .before .before .before .before .before .before .before .loop-test .taken) (c .before .before .before .before .before .before .before .before .word .ensures .0) (not-false _ (c .if1 .left)) (c .before .before .before .before .before .move-root .ensures)) ∙ c .before .before .before .before .before .before .before .before .before .before .loop .inv .0, c .before .before .before .before .before .move-root .kept .0 ∙ c .before .before .before .before .before .before .before .before .before .before .loop .inv .1, c .before .before .before .before .before .move-root .kept .1 .0 ∙ c .before .before .before .before .before .before .before .before .before .before .loop .inv .2)
 
 same-length-3 : tie.Need-same-length-3 Inv-loop μ-loop
 same-length-3 c = c .before .loop .inv .1

@@ -3,7 +3,7 @@
 use mathlib.Core.Path.{_≡_, refl, sym, _∙_}
 use mathlib.Core.Bool.{true, _&&_}
 use mathlib.Core.Logic.{⊎-elim}
-use Prim.Native.Nat.{_+_, _-_, _^_, _≤_}
+use Prim.Native.Nat.{_+_, _^_, _≤_}
 use native.Mathlib.Omega.{arith}
 use lib.Dec.{eqb}
 use lib.ListN.{length}
@@ -11,7 +11,7 @@ use Rattle.laws.proofs.Tallies.{sum-done, sum-skip, sum-step}
 use Rattle.rules.specs.Memory.{chain, chainEnd, freePages}
 use Rattle.rules.specs.Audit.{endsWell, lastLink}
 use Rattle.rules.proofs.Limits.{Inside, page-here, pages-few}
-use Rattle.rules.proofs.Nests.{Over, over-fuel, over-none, over-bad}
+use Rattle.rules.proofs.Chains.{Over, next-page, over-fuel, over-none, over-bad}
 use Rattle.chains.specs.Walked.{bear}
 use Rattle.chains.proofs.Turns.{lastBy, chained-page, chained-other, chained-ends, chained-hangs, length-page, length-over, last-page, last-over, list-open, list-length, list-last, free-short, all-listed, not-listed}
 use Rattle.chains.proofs.free_listed.Statement.{statement}
@@ -35,8 +35,8 @@ cast-pages c = omega (arith, few c)
 pages-holds : tie.Need-pages-holds Inv-pages μ-pages
 pages-holds c = (list-open _ _ _ (c .page-count .ensures) _, list-length _ _ _ (c .page-count .ensures) _, list-last _ _ _ (c .page-count .ensures) _)
 
-over : (c : tie.Left-pages Inv-pages μ-pages) → Over (c .before .before .before .before .args .n) (c .before .before .page-count .result) (c .before .before .before .before .args .heap .now) (c .before .before .page-count .ensures) (c .before .pages .left) (c .before .pages .link)
-over c = ⊎-elim (λ w. over-fuel _ _ _ _ _ _ (omega (arith, w .left))) (⊎-elim (λ w. over-none _ _ _ _ _ _ (omega (arith, w .1 .taken))) (λ w. over-bad _ _ _ _ _ _ (omega (arith, w .2 .taken)))) (c .pages-test .came)
+over : (c : tie.Left-pages Inv-pages μ-pages) → Over (c .before .before .before .before .args .n) (c .before .before .before .before .args .heap .now) (c .before .pages .left) (c .before .pages .link)
+over c = ⊎-elim (λ w. over-fuel (omega (arith, w .left))) (⊎-elim (λ w. over-none (omega (arith, w .1 .taken))) (λ w. over-bad (c .before .before .page-count .ensures) (omega (arith, w .2 .taken)))) (c .pages-test .came)
 
 link-address-requires : tie.Need-link-address-requires Inv-pages μ-pages
 link-address-requires c κs = omega (arith, few ((c .before .before .before .before)))
@@ -54,7 +54,7 @@ shared-slice-read-if3 : tie.Need-shared-slice-read-if3 Inv-pages μ-pages
 shared-slice-read-if3 c = omega (arith, here ((c .before)))
 
 returns : tie.Need-returns Inv-pages μ-pages
-returns c = not-listed _ _ _ (sym (chained-other _ _ _ (c .before .before .before .before .before .before .before .page-count .ensures) _ _ _ _ _ (c .before .before .link-address .ensures) (omega arith) (λ z. omega arith) (omega arith) (λ z. omega arith)) ∙ c .before .before .before .before .before .before .pages .inv .0)
+returns c = not-listed _ _ _ (sym (chained-other _ _ (next-page _ _ _ (c .before .before .before .before .before .before .before .page-count .ensures) _ _ _ (c .before .before .link-address .ensures) (omega arith) (λ z. omega arith) (omega arith)) (λ z. omega arith)) ∙ c .before .before .before .before .before .before .pages .inv .0)
 
 add-passed : tie.Need-add-passed Inv-pages μ-pages
 add-passed c = omega (arith, free-short (c .before .before .before .before .before .before .before .before .before .args .n) (c .before .before .before .before .before .before .before .before .before .args .heap .now) (c .before .before .before .before .before .before .before .before .before .args .first) (c .before .before .before .before .before .before .before .before .before .pre))
@@ -72,13 +72,13 @@ pages-less : tie.Need-pages-less Inv-pages μ-pages
 pages-less c = omega arith
 
 pages-again : tie.Need-pages-again Inv-pages μ-pages
-pages-again c = (sym (chained-page _ _ _ (c .before .before .before .before .before .before .before .before .page-count .ensures) _ _ _ _ _ (c .before .before .before .link-address .ensures) (omega arith) (λ z. omega arith) (omega arith) (omega arith)) ∙ c .before .before .before .before .before .before .before .pages .inv .0, sum-step _ _ _ _ _ _ (c .before .before .before .before .before .before .before .pages .inv .1) (length-page _ _ _ (c .before .before .before .before .before .before .before .before .page-count .ensures) _ _ 0 true _ (c .before .before .before .link-address .ensures) (omega arith) (λ z. omega arith) (omega arith)), sym (last-page _ _ _ (c .before .before .before .before .before .before .before .before .page-count .ensures) _ _ _ _ (c .before .before .before .link-address .ensures) (omega arith) (λ z. omega arith) (omega arith)) ∙ c .before .before .before .before .before .before .before .pages .inv .2)
+pages-again c = let x = next-page _ _ _ (c .before .before .before .before .before .before .before .before .page-count .ensures) (c .before .before .before .before .before .before .before .pages .left) (c .before .before .before .before .before .before .before .pages .link) _ (c .before .before .before .link-address .ensures) (omega arith) (λ z. omega arith) (omega arith) in (sym (chained-page _ _ x (omega arith)) ∙ c .before .before .before .before .before .before .before .pages .inv .0, sum-step _ _ _ _ _ _ (c .before .before .before .before .before .before .before .pages .inv .1) (length-page x), sym (last-page _ x (omega arith)) ∙ c .before .before .before .before .before .before .before .pages .inv .2)
 
 returns-2 : tie.Need-returns-2 Inv-pages μ-pages
-returns-2 c = not-listed _ _ _ (sym (chained-hangs _ _ _ (c .before .before .before .page-count .ensures) _ _ _ _ (over ((c .before))) (λ z. omega arith)) ∙ c .before .before .pages .inv .0)
+returns-2 c = not-listed _ _ _ (sym (chained-hangs _ _ (over ((c .before))) (λ z. omega arith)) ∙ c .before .before .pages .inv .0)
 
 returns-3 : tie.Need-returns-3 Inv-pages μ-pages
-returns-3 c = all-listed _ _ _ _ _ (sym (chained-ends _ _ _ (c .before .before .before .page-count .ensures) _ _ _ _ (over ((c .before))) (omega arith)) ∙ c .before .before .pages .inv .0) (sum-done _ _ _ (sum-skip _ _ _ _ (c .before .before .pages .inv .1) (length-over _ _ _ (c .before .before .before .page-count .ensures) _ _ 0 true (over ((c .before))))) refl) (sym (last-over _ _ _ (c .before .before .before .page-count .ensures) _ _ _ (over ((c .before)))) ∙ c .before .before .pages .inv .2)
+returns-3 c = all-listed _ _ _ _ _ (sym (chained-ends _ _ (over ((c .before))) (omega arith)) ∙ c .before .before .pages .inv .0) (sum-done _ _ _ (sum-skip _ _ _ _ (c .before .before .pages .inv .1) (length-over (over ((c .before))))) refl) (sym (last-over _ (over ((c .before)))) ∙ c .before .before .pages .inv .2)
 
 pub free-listed-spec : {M : Type 1} → statement M
 free-listed-spec =

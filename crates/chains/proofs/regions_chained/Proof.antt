@@ -1,7 +1,7 @@
 -- `chains::regions_chained` meets its contract. At each level what is left to test, with what the outer level has left, is the whole test, and
 -- the pages passed with those that are left are all pages.
 use mathlib.Core.Path.{_≡_, sym, _∙_}
-use mathlib.Core.Bool.{true, _&&_}
+use mathlib.Core.Bool.{_&&_}
 use mathlib.Core.Logic.{⊎-elim}
 use Prim.Native.Nat.{suc, _+_, _-_, _^_, _≤_}
 use native.Mathlib.Omega.{arith}
@@ -13,7 +13,7 @@ use Rattle.laws.proofs.Tallies.{sum-done, sum-skip, sum-step, sum-open}
 use Rattle.laws.proofs.Turned.{told-true, told-false}
 use Rattle.rules.specs.Memory.{chain, chainEnd, pagesFrom}
 use Rattle.rules.proofs.Limits.{Inside, page-here, pages-few}
-use Rattle.rules.proofs.Nests.{Over, over-fuel, over-none, over-bad}
+use Rattle.rules.proofs.Chains.{Over, next-page, over-fuel, over-none, over-bad}
 use Rattle.chains.specs.Walked.{bear, regionChained}
 use Rattle.chains.proofs.Turns.{chained-open, chained-shut, chained-page, chained-other, chained-ends, chained-hangs, length-open, length-page, length-over, length-none, pages-short, all-chained, not-chained}
 use Rattle.chains.proofs.regions_chained.Statement.{statement}
@@ -62,8 +62,8 @@ first-link-requires c κs = omega arith
 pages-holds : tie.Need-pages-holds Inv-pages μ-pages Inv-regions μ-regions
 pages-holds c = (sym (chained-open _ _ _ _ (c .before .before .before .before .before .before .before .page-count .ensures) _ _ (omega arith) _ (told-true (c .before .before .before .opens .ensures) (c .before .before .if2 .left)) (c .first-link .ensures)) ∙ c .before .before .before .before .before .regions .inv .0, sum-open _ _ _ _ _ (c .before .before .before .before .before .regions .inv .2) (length-open _ _ _ _ (c .before .before .before .before .before .before .before .page-count .ensures) _ _ (omega arith) _ (c .first-link .ensures)))
 
-over : (c : tie.Left-pages Inv-pages μ-pages Inv-regions μ-regions) → Over (c .before .before .before .before .before .before .before .before .before .before .before .before .args .n) (c .before .before .before .before .before .before .before .before .before .page-count .result) (c .before .before .before .before .before .before .before .before .before .before .before .before .args .heap .now) (c .before .before .before .before .before .before .before .before .before .page-count .ensures) (c .before .pages .left) (c .before .pages .link)
-over c = ⊎-elim (λ w. over-fuel _ _ _ _ _ _ (omega (arith, w .left))) (⊎-elim (λ w. over-none _ _ _ _ _ _ (omega (arith, w .1 .taken))) (λ w. over-bad _ _ _ _ _ _ (omega (arith, w .2 .taken)))) (c .pages-test .came)
+over : (c : tie.Left-pages Inv-pages μ-pages Inv-regions μ-regions) → Over (c .before .before .before .before .before .before .before .before .before .before .before .before .args .n) (c .before .before .before .before .before .before .before .before .before .before .before .before .args .heap .now) (c .before .pages .left) (c .before .pages .link)
+over c = ⊎-elim (λ w. over-fuel (omega (arith, w .left))) (⊎-elim (λ w. over-none (omega (arith, w .1 .taken))) (λ w. over-bad (c .before .before .before .before .before .before .before .before .before .page-count .ensures) (omega (arith, w .2 .taken)))) (c .pages-test .came)
 
 link-address-requires : tie.Need-link-address-requires Inv-pages μ-pages Inv-regions μ-regions
 link-address-requires c κs = omega (arith, few ((c .before .before .before .before .before .before .before .before .before .before .before)))
@@ -96,7 +96,7 @@ pages-less : tie.Need-pages-less Inv-pages μ-pages Inv-regions μ-regions
 pages-less c = omega arith
 
 pages-again : tie.Need-pages-again Inv-pages μ-pages Inv-regions μ-regions
-pages-again c = (sym (chained-page _ _ _ (c .before .before .before .before .before .before .before .before .before .before .before .before .before .before .before .page-count .ensures) _ _ _ _ _ (c .before .before .before .link-address .ensures) (omega arith) (λ z. omega arith) (omega arith) (omega arith)) ∙ c .before .before .before .before .before .before .before .pages .inv .0, sum-step _ _ _ _ _ _ (c .before .before .before .before .before .before .before .pages .inv .1) (length-page _ _ _ (c .before .before .before .before .before .before .before .before .before .before .before .before .before .before .before .page-count .ensures) _ _ 0 true _ (c .before .before .before .link-address .ensures) (omega arith) (λ z. omega arith) (omega arith)))
+pages-again c = let x = next-page _ _ _ (c .before .before .before .before .before .before .before .before .before .before .before .before .before .before .before .page-count .ensures) (c .before .before .before .before .before .before .before .pages .left) (c .before .before .before .before .before .before .before .pages .link) _ (c .before .before .before .link-address .ensures) (omega arith) (λ z. omega arith) (omega arith) in (sym (chained-page _ _ x (omega arith)) ∙ c .before .before .before .before .before .before .before .pages .inv .0, sum-step _ _ _ _ _ _ (c .before .before .before .before .before .before .before .pages .inv .1) (length-page x))
 
 next-region-requires : tie.Need-next-region-requires Inv-pages μ-pages Inv-regions μ-regions
 next-region-requires c κs = omega arith
@@ -108,16 +108,16 @@ regions-less : tie.Need-regions-less Inv-pages μ-pages Inv-regions μ-regions
 regions-less c = omega arith
 
 regions-again : tie.Need-regions-again Inv-pages μ-pages Inv-regions μ-regions
-regions-again c = (rw (c .next-region .ensures) (sym (chained-ends _ _ _ (c .before .before .before .before .before .before .before .before .before .before .before .page-count .ensures) _ _ _ _ (over (c .before .before)) (omega arith)) ∙ c .before .before .before .pages .inv .0), omega arith, rw (c .next-region .ensures) (sum-skip _ _ _ _ (c .before .before .before .pages .inv .1) (length-over _ _ _ (c .before .before .before .before .before .before .before .before .before .before .before .page-count .ensures) _ _ 0 true (over (c .before .before)))))
+regions-again c = (rw (c .next-region .ensures) (sym (chained-ends _ _ (over (c .before .before)) (omega arith)) ∙ c .before .before .before .pages .inv .0), omega arith, rw (c .next-region .ensures) (sum-skip _ _ _ _ (c .before .before .before .pages .inv .1) (length-over (over (c .before .before)))))
 
 returns-2 : tie.Need-returns-2 Inv-pages μ-pages Inv-regions μ-regions
 returns-2 c = not-chained _ _ _ _ (sym (chained-shut _ _ _ _ (c .before .before .before .before .before .page-count .ensures) _ _ (omega arith) (told-false (c .before .opens .ensures) (c .if2 .taken))) ∙ c .before .before .before .regions .inv .0)
 
 returns-3 : tie.Need-returns-3 Inv-pages μ-pages Inv-regions μ-regions
-returns-3 c = not-chained _ _ _ _ (sym (chained-other _ _ _ (c .before .before .before .before .before .before .before .before .before .before .before .before .before .before .page-count .ensures) _ _ _ _ _ (c .before .before .link-address .ensures) (omega arith) (λ z. omega arith) (omega arith) (λ z. omega arith)) ∙ c .before .before .before .before .before .before .pages .inv .0)
+returns-3 c = not-chained _ _ _ _ (sym (chained-other _ _ (next-page _ _ _ (c .before .before .before .before .before .before .before .before .before .before .before .before .before .before .page-count .ensures) _ _ _ (c .before .before .link-address .ensures) (omega arith) (λ z. omega arith) (omega arith)) (λ z. omega arith)) ∙ c .before .before .before .before .before .before .pages .inv .0)
 
 returns-4 : tie.Need-returns-4 Inv-pages μ-pages Inv-regions μ-regions
-returns-4 c = not-chained _ _ _ _ (sym (chained-hangs _ _ _ (c .before .before .before .before .before .before .before .before .before .before .page-count .ensures) _ _ _ _ (over ((c .before))) (λ z. omega arith)) ∙ c .before .before .pages .inv .0)
+returns-4 c = not-chained _ _ _ _ (sym (chained-hangs _ _ (over ((c .before))) (λ z. omega arith)) ∙ c .before .before .pages .inv .0)
 
 pub regions-chained-spec : {M : Type 1} → statement M
 regions-chained-spec =

@@ -11,7 +11,7 @@ use Rattle.laws.proofs.Turned.{told-true, told-false}
 use Rattle.rules.specs.Words.{valsIn, constVals, fieldsPass}
 use Rattle.rules.specs.Audit.{constField}
 use Rattle.rules.proofs.Headers.{fit-of}
-use Rattle.rules.proofs.Stepping.{values-end, values-stop, raw-go, record-go}
+use Rattle.rules.proofs.Stepping.{vals-none, vals-stop, values-over, raw-go, record-go}
 use Rattle.constants.proofs.Constants.{consts-all}
 use Rattle.constants.proofs.const_fields.Statement.{statement}
 use Rattle.constants.proofs.const_fields.Tie as tie
@@ -109,10 +109,10 @@ values-again-2 : tie.Need-values-again-2 Inv-loop μ-loop Inv-values μ-values
 values-again-2 c = (sym (fields-end _ _ _ _ _ (c .if4 .left)) ∙ c .before .before .before .loop .inv .0, c .before .before .before .loop .inv .1)
 
 returns : tie.Need-returns Inv-loop μ-loop Inv-values μ-values
-returns c = c .before .before .before .values .inv .1 ∙ sym (values-end _ _ _ _ _ (c .if1 .left)) ∙ c .before .before .before .values .inv .0
+returns c = c .before .before .before .values .inv .1 ∙ sym (values-over _ _ _ _ _ (vals-none _ _ _ (c .if1 .left))) ∙ c .before .before .before .values .inv .0
 
 returns-2 : tie.Need-returns-2 Inv-loop μ-loop Inv-values μ-values
-returns-2 c = c .before .before .before .before .before .before .before .before .values .inv .1 ∙ sym (values-stop _ _ _ _ _ (c .before .before .before .before .before .if1 .taken) (whole (c .before .before .before .before .before .before .before .before .before .before)) (told-false (c .before .fits2 .ensures) (c .if2 .taken))) ∙ c .before .before .before .before .before .before .before .before .values .inv .0
+returns-2 c = c .before .before .before .before .before .before .before .before .values .inv .1 ∙ sym (values-over _ _ _ _ _ (vals-stop _ _ _ (c .before .before .before .before .before .if1 .taken) (whole (c .before .before .before .before .before .before .before .before .before .before)) (told-false (c .before .fits2 .ensures) (c .if2 .taken)))) ∙ c .before .before .before .before .before .before .before .before .values .inv .0
 
 returns-3 : tie.Need-returns-3 Inv-loop μ-loop Inv-values μ-values
 returns-3 c = sym (fields-stop _ _ _ _ _ (c .before .before .before .if4 .taken) (within (c .before .before .before .before .before .before .before .before .before .before)) (told-false (c .before .const-field .ensures) (c .if5 .taken))) ∙ c .before .before .before .before .before .before .loop .inv .0

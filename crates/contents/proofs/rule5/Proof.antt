@@ -12,7 +12,8 @@ use Rattle.rules.specs.Memory.{chain, regionPages}
 use Rattle.rules.specs.Words.{fits}
 use Rattle.rules.specs.Audit.{pageFilled, rule5}
 use Rattle.rules.proofs.Limits.{Inside, page-here, pages-few}
-use Rattle.rules.proofs.Nests.{Over, over-fuel, over-none, over-bad, pages-over, regions-go}
+use Rattle.rules.proofs.Chains.{Over, next-page, over-fuel, over-none, over-bad}
+use Rattle.rules.proofs.Nests.{pages-over, regions-go}
 use Rattle.rules.proofs.Stepping.{vals-none, vals-stop}
 use Rattle.contents.proofs.Turns.{Rest, Passed, five-page, rest-over, rest-go, zeros-off, page-on, page-at, page-off}
 use Rattle.contents.proofs.rule5.Statement.{statement}
@@ -71,8 +72,8 @@ first-link-requires c κs = omega arith
 pages-holds : tie.Need-pages-holds Inv-values μ-values Inv-pages μ-pages Inv-regions μ-regions
 pages-holds c = (sym (regions-go _ _ _ _ _ _ _ _ (c .before .before .before .before .before .page-count .ensures) (c .first-link .ensures) (omega arith)) ∙ c .before .before .before .regions .inv .0, c .before .before .before .regions .inv .1)
 
-over : (c : tie.Left-pages Inv-values μ-values Inv-pages μ-pages Inv-regions μ-regions) → Over (c .before .before .before .before .before .before .before .before .before .before .before .before .before .before .args .c .n) (c .before .before .before .before .before .before .before .page-count .result) (c .before .before .before .before .before .before .before .before .before .before .before .before .before .before .args .heap .now) (c .before .before .before .before .before .before .before .page-count .ensures) (c .before .pages .left) (c .before .pages .link)
-over c = ⊎-elim (λ w. over-fuel _ _ _ _ _ _ (omega (arith, w .left))) (⊎-elim (λ w. over-none _ _ _ _ _ _ (omega (arith, w .1 .taken))) (λ w. over-bad _ _ _ _ _ _ (omega (arith, w .2 .taken)))) (c .pages-test .came)
+over : (c : tie.Left-pages Inv-values μ-values Inv-pages μ-pages Inv-regions μ-regions) → Over (c .before .before .before .before .before .before .before .before .before .before .before .before .before .before .args .c .n) (c .before .before .before .before .before .before .before .before .before .before .before .before .before .before .args .heap .now) (c .before .pages .left) (c .before .pages .link)
+over c = ⊎-elim (λ w. over-fuel (omega (arith, w .left))) (⊎-elim (λ w. over-none (omega (arith, w .1 .taken))) (λ w. over-bad (c .before .before .before .before .before .before .before .page-count .ensures) (omega (arith, w .2 .taken)))) (c .pages-test .came)
 
 link-address-requires :
     tie.Need-link-address-requires Inv-values μ-values Inv-pages μ-pages Inv-regions μ-regions
@@ -93,7 +94,7 @@ address-behind-requires-2 :
 address-behind-requires-2 c κs = omega (arith, here (c .before))
 
 values-holds : tie.Need-values-holds Inv-values μ-values Inv-pages μ-pages Inv-regions μ-regions
-values-holds c = sym (five-page _ _ _ _ (c .before .before .before .before .before .before .before .before .before .before .before .before .page-count .ensures) _ _ _ _ _ (c .before .before .before .before .before .before .before .before .top-of .ensures .0) (c .before .before .before .before .before .before .before .before .before .before .before .before .before .page-words .ensures) _ _ (c .before .before .link-address .ensures) (omega arith) (λ z. omega arith) (omega arith) _ _ (c .address-behind2 .ensures) (c .before .address-behind .ensures)) ∙ c .before .before .before .before .before .before .pages .inv .0
+values-holds c = sym (five-page (next-page _ _ _ (c .before .before .before .before .before .before .before .before .before .before .before .before .page-count .ensures) _ _ _ (c .before .before .link-address .ensures) (omega arith) (λ z. omega arith) (omega arith)) _ _ _ _ (c .before .before .before .before .before .before .before .before .top-of .ensures .0) (c .before .before .before .before .before .before .before .before .before .before .before .before .before .page-words .ensures) _ _ _ (c .address-behind2 .ensures) (c .before .address-behind .ensures)) ∙ c .before .before .before .before .before .before .pages .inv .0
 
 mul-head : tie.Need-mul-head Inv-values μ-values Inv-pages μ-pages Inv-regions μ-regions
 mul-head c = omega (arith, here (c .before .before .before .before .before .before), inside (c .before .before .before .before .before))
@@ -170,7 +171,7 @@ regions-less : tie.Need-regions-less Inv-values μ-values Inv-pages μ-pages Inv
 regions-less c = omega arith
 
 regions-again : tie.Need-regions-again Inv-values μ-values Inv-pages μ-pages Inv-regions μ-regions
-regions-again c = (rw (c .next-region .ensures) (sym (pages-over _ _ _ _ _ _ _ _ (over (c .before))) ∙ c .before .before .pages .inv .0), c .before .before .pages .inv .1, omega arith)
+regions-again c = (rw (c .next-region .ensures) (sym (pages-over _ _ (over (c .before))) ∙ c .before .before .pages .inv .0), c .before .before .pages .inv .1, omega arith)
 
 returns : tie.Need-returns Inv-values μ-values Inv-pages μ-pages Inv-regions μ-regions
 unfolding rule5

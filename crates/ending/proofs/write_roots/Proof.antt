@@ -5,9 +5,8 @@ use mathlib.Core.List.{map}
 use native.Mathlib.Omega.{arith}
 use lib.ListN.{length}
 use lib.Seq.{paste, paste-zero}
-use Rattle.laws.proofs.Copies.{map-done}
+use Rattle.laws.proofs.Copies.{map-more, map-done}
 use Rattle.motion.specs.Whole.{rootWord}
-use Rattle.ending.proofs.Written.{root-more}
 use borrow.Author.Needs.{needs}
 use Rattle.ending.proofs.write_roots.Statement.{statement}
 use Rattle.ending.proofs.write_roots.Tie as tie
@@ -38,7 +37,7 @@ loop-less c = omega arith
 
 loop-again : tie.Need-loop-again Inv-loop μ-loop
 loop-again c = let b : c .before .before .before .before .before .before .before .before .loop .i < length (c .before .before .before .before .before .before .before .before .before .before .before .args .roots .now) = omega (arith, c .before .before .before .before .before .before .before .loop-test .taken, c .before .before .before .before .before .before .before .before .loop .inv .1) in
-    (c .before .before .write .ensures ∙ root-more (c .before .before .before .before .before .before .before .before .before .before .before .args .heap .now) (c .before .before .before .before .before .before .before .before .before .before .before .args .roots .now) _ _ _ _ (c .before .before .before .before .before .before .before .before .loop .inv .0) b (c .before .before .before .before .before .word .ensures .0) (c .before .before .before .before .root-word .ensures .0), c .before .before .write .kept .0 ∙ c .before .before .before .before .before .before .before .before .loop .inv .1, omega arith)
+    (c .before .before .write .ensures ∙ map-more (rootWord (c .before .before .before .before .before .before .before .before .before .before .before .args .heap .now)) (c .before .before .before .before .before .before .before .before .before .before .before .args .roots .now) _ _ _ _ (c .before .before .before .before .before .before .before .before .loop .inv .0) b (c .before .before .before .before .before .word .ensures .0) (c .before .before .before .before .root-word .ensures .0), c .before .before .write .kept .0 ∙ c .before .before .before .before .before .before .before .before .loop .inv .1, omega arith)
 
 same-length : tie.Need-same-length Inv-loop μ-loop
 same-length c = c .before .loop .inv .1

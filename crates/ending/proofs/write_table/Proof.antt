@@ -4,8 +4,7 @@ use mathlib.Core.Path.{_≡_, refl, _∙_}
 use native.Mathlib.Omega.{arith}
 use lib.ListN.{length}
 use lib.Seq.{paste, paste-zero}
-use Rattle.laws.proofs.Copies.{paste-done}
-use Rattle.ending.proofs.Written.{row-more}
+use Rattle.laws.proofs.Copies.{paste-done, front-more}
 use borrow.Author.Needs.{needs}
 use Rattle.ending.proofs.write_table.Statement.{statement}
 use Rattle.ending.proofs.write_table.Tie as tie
@@ -37,7 +36,7 @@ loop-less c = omega arith
 loop-again : tie.Need-loop-again Inv-loop μ-loop
 loop-again c = let b : c .before .before .before .before .before .before .loop .i < length (c .before .before .before .before .before .before .before .before .before .args .table .now) = omega arith in
     let k : c .before .before .before .before .before .before .loop .i < length (c .before .before .before .before .before .before .before .before .before .args .notes .now) = omega arith in
-    (c .before .before .write .ensures ∙ row-more _ _ _ _ _ (c .before .before .before .before .before .before .loop .inv .0) b k (c .before .before .before .before .word .ensures .0), c .before .before .write .kept .0 ∙ c .before .before .before .before .before .before .loop .inv .1, omega arith)
+    (c .before .before .write .ensures ∙ front-more _ _ _ _ _ (c .before .before .before .before .before .before .loop .inv .0) b k (c .before .before .before .before .word .ensures .0), c .before .before .write .kept .0 ∙ c .before .before .before .before .before .before .loop .inv .1, omega arith)
 
 same-length : tie.Need-same-length Inv-loop μ-loop
 same-length c = c .before .loop .inv .1

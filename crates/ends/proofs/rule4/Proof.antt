@@ -11,7 +11,8 @@ use Rattle.laws.proofs.Turned.{told-true, told-false}
 use Rattle.rules.specs.Memory.{chain}
 use Rattle.rules.specs.Audit.{endsAt}
 use Rattle.rules.proofs.Limits.{Inside, page-here, pages-few}
-use Rattle.rules.proofs.Nests.{Over, over-fuel, over-none, over-bad, pages-over}
+use Rattle.rules.proofs.Chains.{Over, next-page, over-fuel, over-none, over-bad}
+use Rattle.rules.proofs.Nests.{pages-over}
 use Rattle.ends.proofs.Turns.{regionEnds, four-each, four-shut, four-open, four-on, four-at, four-off}
 use Rattle.ends.proofs.rule4.Statement.{statement}
 use Rattle.ends.proofs.rule4.Tie as tie
@@ -62,8 +63,8 @@ first-link-requires c κs = omega arith
 pages-holds : tie.Need-pages-holds Inv-pages μ-pages Inv-regions μ-regions
 pages-holds c = (sym (four-open _ _ _ _ (c .before .before .before .before .before .before .before .page-count .ensures) _ _ (omega arith) _ (told-true (c .before .before .before .top-fits .ensures) (c .before .before .if1 .left)) (c .first-link .ensures)) ∙ c .before .before .before .before .before .regions .inv .0, c .before .before .before .before .before .regions .inv .1)
 
-over : (c : tie.Left-pages Inv-pages μ-pages Inv-regions μ-regions) → Over (c .before .before .before .before .before .before .before .before .before .before .before .before .before .before .before .before .args .c .n) (c .before .before .before .before .before .before .before .before .before .page-count .result) (c .before .before .before .before .before .before .before .before .before .before .before .before .before .before .before .before .args .heap .now) (c .before .before .before .before .before .before .before .before .before .page-count .ensures) (c .before .pages .left) (c .before .pages .link)
-over c = ⊎-elim (λ w. over-fuel _ _ _ _ _ _ (omega (arith, w .left))) (⊎-elim (λ w. over-none _ _ _ _ _ _ (omega (arith, w .1 .taken))) (λ w. over-bad _ _ _ _ _ _ (omega (arith, w .2 .taken)))) (c .pages-test .came)
+over : (c : tie.Left-pages Inv-pages μ-pages Inv-regions μ-regions) → Over (c .before .before .before .before .before .before .before .before .before .before .before .before .before .before .before .before .args .c .n) (c .before .before .before .before .before .before .before .before .before .before .before .before .before .before .before .before .args .heap .now) (c .before .pages .left) (c .before .pages .link)
+over c = ⊎-elim (λ w. over-fuel (omega (arith, w .left))) (⊎-elim (λ w. over-none (omega (arith, w .1 .taken))) (λ w. over-bad (c .before .before .before .before .before .before .before .before .before .page-count .ensures) (omega (arith, w .2 .taken)))) (c .pages-test .came)
 
 link-address-requires : tie.Need-link-address-requires Inv-pages μ-pages Inv-regions μ-regions
 link-address-requires c κs = omega (arith, few ((c .before .before .before .before .before .before .before .before .before .before .before)))
@@ -84,7 +85,7 @@ pages-less : tie.Need-pages-less Inv-pages μ-pages Inv-regions μ-regions
 pages-less c = omega arith
 
 pages-again : tie.Need-pages-again Inv-pages μ-pages Inv-regions μ-regions
-pages-again c = (sym (four-on _ _ _ _ (c .before .before .before .before .before .before .before .before .before .before .before .before .before .before .page-count .ensures) _ _ _ _ _ (c .before .before .before .before .before .before .before .before .end-of .ensures .0) (c .before .before .before .before .before .before .before .before .before .before .before .before .before .before .before .page-words .ensures) _ _ (c .before .before .link-address .ensures) (omega arith) (λ z. omega arith) (omega arith) (omega arith)) ∙ c .before .before .before .before .before .before .pages .inv .0, c .before .before .before .before .before .before .pages .inv .1)
+pages-again c = (sym (four-on (next-page _ _ _ (c .before .before .before .before .before .before .before .before .before .before .before .before .before .before .page-count .ensures) _ _ _ (c .before .before .link-address .ensures) (omega arith) (λ z. omega arith) (omega arith)) _ _ _ _ (c .before .before .before .before .before .before .before .before .end-of .ensures .0) (c .before .before .before .before .before .before .before .before .before .before .before .before .before .before .before .page-words .ensures) _ (omega arith)) ∙ c .before .before .before .before .before .before .pages .inv .0, c .before .before .before .before .before .before .pages .inv .1)
 
 address-behind-requires : tie.Need-address-behind-requires Inv-pages μ-pages Inv-regions μ-regions
 address-behind-requires c κs = omega (arith, here (c .before .before), c .before .before .before .before .before .before .before .before .before .before .before .before .before .before .before .page-words .ensures)
@@ -93,7 +94,7 @@ pages-less-2 : tie.Need-pages-less-2 Inv-pages μ-pages Inv-regions μ-regions
 pages-less-2 c = omega arith
 
 pages-again-2 : tie.Need-pages-again-2 Inv-pages μ-pages Inv-regions μ-regions
-pages-again-2 c = (sym (four-at _ _ _ _ (c .before .before .before .before .before .before .before .before .before .before .before .before .before .before .before .before .before .before .page-count .ensures) _ _ _ _ _ (c .before .before .before .before .before .before .before .before .before .before .before .before .end-of .ensures .0) (c .before .before .before .before .before .before .before .before .before .before .before .before .before .before .before .before .before .before .before .page-words .ensures) _ _ (c .before .before .before .before .before .before .link-address .ensures) (omega arith) (λ z. omega arith) (omega arith) (omega arith) (omega arith)) ∙ c .before .before .before .before .before .before .before .before .before .before .pages .inv .0, c .before .before .before .before .before .before .before .before .before .before .pages .inv .1)
+pages-again-2 c = (sym (four-at (next-page _ _ _ (c .before .before .before .before .before .before .before .before .before .before .before .before .before .before .before .before .before .before .page-count .ensures) _ _ _ (c .before .before .before .before .before .before .link-address .ensures) (omega arith) (λ z. omega arith) (omega arith)) _ _ _ _ (c .before .before .before .before .before .before .before .before .before .before .before .before .end-of .ensures .0) (c .before .before .before .before .before .before .before .before .before .before .before .before .before .before .before .before .before .before .before .page-words .ensures) _ (omega arith) (omega arith)) ∙ c .before .before .before .before .before .before .before .before .before .before .pages .inv .0, c .before .before .before .before .before .before .before .before .before .before .pages .inv .1)
 
 next-region-requires : tie.Need-next-region-requires Inv-pages μ-pages Inv-regions μ-regions
 next-region-requires c κs = omega arith
@@ -105,7 +106,7 @@ regions-less : tie.Need-regions-less Inv-pages μ-pages Inv-regions μ-regions
 regions-less c = omega arith
 
 regions-again : tie.Need-regions-again Inv-pages μ-pages Inv-regions μ-regions
-regions-again c = (rw (c .next-region .ensures) (sym (pages-over _ _ _ _ _ _ _ _ (over (c .before))) ∙ c .before .before .pages .inv .0), c .before .before .pages .inv .1, omega arith)
+regions-again c = (rw (c .next-region .ensures) (sym (pages-over _ _ (over (c .before))) ∙ c .before .before .pages .inv .0), c .before .before .pages .inv .1, omega arith)
 
 returns : tie.Need-returns Inv-pages μ-pages Inv-regions μ-regions
 returns c = c .before .regions .inv .1 ∙ sym (from-end _ _ _ (omega arith)) ∙ c .before .regions .inv .0 ∙ four-each _ _ _ _ _
@@ -114,7 +115,7 @@ returns-2 : tie.Need-returns-2 Inv-pages μ-pages Inv-regions μ-regions
 returns-2 c = sym (four-shut _ _ _ _ (c .before .before .before .before .before .page-count .ensures) _ _ (omega arith) (told-false (c .before .top-fits .ensures) (c .if1 .taken))) ∙ c .before .before .before .regions .inv .0 ∙ four-each _ _ _ _ _
 
 returns-3 : tie.Need-returns-3 Inv-pages μ-pages Inv-regions μ-regions
-returns-3 c = sym (four-off _ _ _ _ (c .before .before .before .before .before .before .before .before .before .before .before .before .before .before .before .before .before .before .page-count .ensures) _ _ _ _ _ (c .before .before .before .before .before .before .before .before .before .before .before .before .end-of .ensures .0) (c .before .before .before .before .before .before .before .before .before .before .before .before .before .before .before .before .before .before .before .page-words .ensures) _ _ (c .before .before .before .before .before .before .link-address .ensures) (omega arith) (λ z. omega arith) (omega arith) (omega arith) (λ z. omega arith)) ∙ c .before .before .before .before .before .before .before .before .before .before .pages .inv .0 ∙ four-each _ _ _ _ _
+returns-3 c = sym (four-off (next-page _ _ _ (c .before .before .before .before .before .before .before .before .before .before .before .before .before .before .before .before .before .before .page-count .ensures) _ _ _ (c .before .before .before .before .before .before .link-address .ensures) (omega arith) (λ z. omega arith) (omega arith)) _ _ _ _ (c .before .before .before .before .before .before .before .before .before .before .before .before .end-of .ensures .0) (c .before .before .before .before .before .before .before .before .before .before .before .before .before .before .before .before .before .before .before .page-words .ensures) _ (omega arith) (λ z. omega arith)) ∙ c .before .before .before .before .before .before .before .before .before .before .pages .inv .0 ∙ four-each _ _ _ _ _
 
 pub rule4-spec : {M : Type 1} → statement M
 rule4-spec =

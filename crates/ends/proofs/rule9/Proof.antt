@@ -1,7 +1,7 @@
 -- `ends::rule9` meets its contract: what is left to test from the present page on is the whole rule.
 use mathlib.Core.Path.{_≡_, refl, sym, _∙_}
 use mathlib.Core.Bool.{true, _&&_}
-use Prim.Native.Nat.{_-_, _^_, _≤_}
+use Prim.Native.Nat.{_^_, _≤_}
 use native.Mathlib.Omega.{arith}
 use lib.ListN.{length}
 use Rattle.laws.specs.Lists.{all}
@@ -9,7 +9,8 @@ use Rattle.laws.proofs.Turned.{told-true, told-false}
 use Rattle.rules.specs.Memory.{chain}
 use Rattle.rules.specs.Audit.{clean}
 use Rattle.rules.proofs.Limits.{Inside, page-here, pages-few}
-use Rattle.rules.proofs.Nests.{over-fuel, over-none, over-bad, pages-over}
+use Rattle.rules.proofs.Chains.{next-page, over-fuel, over-none, over-bad}
+use Rattle.rules.proofs.Nests.{pages-over}
 use Rattle.ends.proofs.Turns.{nine-open, nine-go, nine-stop}
 use Rattle.ends.proofs.rule9.Statement.{statement}
 use Rattle.ends.proofs.rule9.Tie as tie
@@ -63,19 +64,19 @@ pages-less : tie.Need-pages-less Inv-pages μ-pages
 pages-less c = omega arith
 
 pages-again : tie.Need-pages-again Inv-pages μ-pages
-pages-again c = (sym (nine-go _ _ _ (c .before .before .before .before .before .before .before .before .before .before .page-count .ensures) _ _ _ (c .before .before .before .before .before .before .before .before .before .before .before .page-words .ensures) _ _ (c .before .before .before .before .before .link-address .ensures) (omega arith) (λ z. omega arith) (omega arith) (c .before .before .before .before .address-behind .result .0) (c .before .before .before .address-behind2 .result .0) (omega arith) (omega arith) (told-true (c .before .before .zero-between .ensures) (c .before .if3 .left))) ∙ c .before .before .before .before .before .before .before .before .before .pages .inv .0, c .before .before .before .before .before .before .before .before .before .pages .inv .1)
+pages-again c = (sym (nine-go (next-page _ _ _ (c .before .before .before .before .before .before .before .before .before .before .page-count .ensures) _ _ _ (c .before .before .before .before .before .link-address .ensures) (omega arith) (λ z. omega arith) (omega arith)) _ (c .before .before .before .before .before .before .before .before .before .before .before .page-words .ensures) _ (c .before .before .before .before .address-behind .result .0) (c .before .before .before .address-behind2 .result .0) (omega arith) (omega arith) (told-true (c .before .before .zero-between .ensures) (c .before .if3 .left))) ∙ c .before .before .before .before .before .before .before .before .before .pages .inv .0, c .before .before .before .before .before .before .before .before .before .pages .inv .1)
 
 returns : tie.Need-returns Inv-pages μ-pages
-returns c = c .before .pages .inv .1 ∙ sym (pages-over _ _ _ _ _ _ _ _ (over-fuel _ _ _ (c .before .before .page-count .ensures) _ _ (omega arith))) ∙ c .before .pages .inv .0 ∙ nine-open _ _ _ _ _ _ (c .before .before .page-count .ensures)
+returns c = c .before .pages .inv .1 ∙ sym (pages-over _ _ (over-fuel (omega arith))) ∙ c .before .pages .inv .0 ∙ nine-open _ _ _ _ _ _ (c .before .before .page-count .ensures)
 
 returns-2 : tie.Need-returns-2 Inv-pages μ-pages
-returns-2 c = c .before .before .pages .inv .1 ∙ sym (pages-over _ _ _ _ _ _ _ _ (over-none _ _ _ (c .before .before .before .page-count .ensures) _ _ (omega arith))) ∙ c .before .before .pages .inv .0 ∙ nine-open _ _ _ _ _ _ (c .before .before .before .page-count .ensures)
+returns-2 c = c .before .before .pages .inv .1 ∙ sym (pages-over _ _ (over-none (omega arith))) ∙ c .before .before .pages .inv .0 ∙ nine-open _ _ _ _ _ _ (c .before .before .before .page-count .ensures)
 
 returns-3 : tie.Need-returns-3 Inv-pages μ-pages
-returns-3 c = c .before .before .before .pages .inv .1 ∙ sym (pages-over _ _ _ _ _ _ _ _ (over-bad _ _ _ (c .before .before .before .before .page-count .ensures) _ _ (omega arith))) ∙ c .before .before .before .pages .inv .0 ∙ nine-open _ _ _ _ _ _ (c .before .before .before .before .page-count .ensures)
+returns-3 c = c .before .before .before .pages .inv .1 ∙ sym (pages-over _ _ (over-bad (c .before .before .before .before .page-count .ensures) (omega arith))) ∙ c .before .before .before .pages .inv .0 ∙ nine-open _ _ _ _ _ _ (c .before .before .before .before .page-count .ensures)
 
 returns-4 : tie.Need-returns-4 Inv-pages μ-pages
-returns-4 c = sym (nine-stop _ _ _ (c .before .before .before .before .before .before .before .before .before .page-count .ensures) _ _ _ (c .before .before .before .before .before .before .before .before .before .before .page-words .ensures) _ _ (c .before .before .before .before .link-address .ensures) (omega arith) (λ z. omega arith) (omega arith) (c .before .before .before .address-behind .result .0) (c .before .before .address-behind2 .result .0) (omega arith) (omega arith) (told-false (c .before .zero-between .ensures) (c .if3 .taken))) ∙ c .before .before .before .before .before .before .before .before .pages .inv .0 ∙ nine-open _ _ _ _ _ _ (c .before .before .before .before .before .before .before .before .before .page-count .ensures)
+returns-4 c = sym (nine-stop (next-page _ _ _ (c .before .before .before .before .before .before .before .before .before .page-count .ensures) _ _ _ (c .before .before .before .before .link-address .ensures) (omega arith) (λ z. omega arith) (omega arith)) _ (c .before .before .before .before .before .before .before .before .before .before .page-words .ensures) _ (c .before .before .before .address-behind .result .0) (c .before .before .address-behind2 .result .0) (omega arith) (omega arith) (told-false (c .before .zero-between .ensures) (c .if3 .taken))) ∙ c .before .before .before .before .before .before .before .before .pages .inv .0 ∙ nine-open _ _ _ _ _ _ (c .before .before .before .before .before .before .before .before .before .page-count .ensures)
 
 pub rule9-spec : {M : Type 1} → statement M
 rule9-spec =

@@ -14,8 +14,9 @@ use Rattle.rules.specs.Words.{valsIn, fieldsPass}
 use Rattle.rules.specs.Audit.{pagePass}
 use Rattle.rules.proofs.Headers.{fit-of}
 use Rattle.rules.proofs.Limits.{Inside, page-here, pages-few}
-use Rattle.rules.proofs.Stepping.{values-end, values-stop, raw-go, record-go}
-use Rattle.rules.proofs.Nests.{Over, over-fuel, over-none, over-bad, pages-over, regions-go}
+use Rattle.rules.proofs.Stepping.{vals-none, vals-stop, values-over, raw-go, record-go}
+use Rattle.rules.proofs.Chains.{Over, next-page, over-fuel, over-none, over-bad}
+use Rattle.rules.proofs.Nests.{pages-over, regions-go}
 use Rattle.fields.specs.Passing.{passes}
 use Rattle.fields.proofs.Turns.{Records, page-records}
 use Rattle.fields.proofs.records_pass.Statement.{statement}
@@ -124,8 +125,8 @@ pages-holds :
     μ-regions
 pages-holds c = (sym (regions-go _ _ _ _ _ _ _ _ (c .before .before .before .before .page-count .ensures) (c .first-link .ensures) (c .before .regions-test .taken)) ∙ c .before .before .regions .inv .0, c .before .before .regions .inv .1)
 
-over : (c : tie.Left-pages Inv-loop μ-loop Inv-values μ-values Inv-pages μ-pages Inv-regions μ-regions) → Over (c .before .before .before .before .before .before .before .before .before .before .before .args .n) (c .before .before .before .before .before .before .page-count .result) (c .before .before .before .before .before .before .before .before .before .before .before .args .heap .now) (c .before .before .before .before .before .before .page-count .ensures) (c .before .pages .left) (c .before .pages .link)
-over c = ⊎-elim (λ w. over-fuel _ _ _ _ _ _ (w .left)) (⊎-elim (λ w. over-none _ _ _ _ _ _ (w .1 .taken)) (λ w. over-bad _ _ _ _ _ _ (w .2 .taken))) (c .pages-test .came)
+over : (c : tie.Left-pages Inv-loop μ-loop Inv-values μ-values Inv-pages μ-pages Inv-regions μ-regions) → Over (c .before .before .before .before .before .before .before .before .before .before .before .args .n) (c .before .before .before .before .before .before .before .before .before .before .before .args .heap .now) (c .before .pages .left) (c .before .pages .link)
+over c = ⊎-elim (λ w. over-fuel (w .left)) (⊎-elim (λ w. over-none (w .1 .taken)) (λ w. over-bad (c .before .before .before .before .before .before .page-count .ensures) (w .2 .taken))) (c .pages-test .came)
 
 link-address-requires :
     tie.Need-link-address-requires
@@ -179,7 +180,7 @@ values-holds :
     μ-pages
     Inv-regions
     μ-regions
-values-holds c = (sym (page-records _ _ _ _ (c .before .before .before .before .before .before .before .before .before .before .before .page-count .ensures) _ _ _ (c .before .before .before .before .before .before .before .before .before .before .before .before .page-words .ensures) _ _ (c .before .before .link-address .ensures) (c .before .before .before .before .before .pages-test .taken) (c .before .before .before .before .if1 .left) (c .before .before .before .if2 .left) _ _ (c .address-behind2 .ensures) (c .before .address-behind .ensures)) ∙ c .before .before .before .before .before .before .pages .inv .0, c .before .before .before .before .before .before .pages .inv .1)
+values-holds c = (sym (page-records (next-page _ _ _ (c .before .before .before .before .before .before .before .before .before .before .before .page-count .ensures) _ _ _ (c .before .before .link-address .ensures) (c .before .before .before .before .before .pages-test .taken) (c .before .before .before .before .if1 .left) (c .before .before .before .if2 .left)) _ _ (c .before .before .before .before .before .before .before .before .before .before .before .before .page-words .ensures) _ _ _ (c .address-behind2 .ensures) (c .before .address-behind .ensures)) ∙ c .before .before .before .before .before .before .pages .inv .0, c .before .before .before .before .before .before .pages .inv .1)
 
 mul-head :
     tie.Need-mul-head Inv-loop μ-loop Inv-values μ-values Inv-pages μ-pages Inv-regions μ-regions
@@ -422,7 +423,7 @@ pages-again :
     μ-pages
     Inv-regions
     μ-regions
-pages-again c = (⊎-elim (λ w. sym (values-end _ _ _ _ _ (w .left)) ∙ c .before .before .before .before .values .inv .0) (λ w. sym (values-stop _ _ _ _ _ (w .0 .taken) (inside (c .before .before .before .before .before .before)) (told-false (w .4 .ensures) (w .5 .taken))) ∙ c .before .before .before .before .values .inv .0) (c .before .if3 .came), c .before .before .before .before .values .inv .1)
+pages-again c = (sym (values-over _ _ _ _ _ (⊎-elim (λ w. vals-none _ _ _ (w .left)) (λ w. vals-stop _ _ _ (w .0 .taken) (inside (c .before .before .before .before .before .before)) (told-false (w .4 .ensures) (w .5 .taken))) (c .before .if3 .came))) ∙ c .before .before .before .before .values .inv .0, c .before .before .before .before .values .inv .1)
 
 next-region-requires :
     tie.Need-next-region-requires
@@ -470,7 +471,7 @@ regions-again :
     μ-pages
     Inv-regions
     μ-regions
-regions-again c = (rw (c .next-region .ensures) (sym (pages-over _ _ _ _ _ _ _ _ (over (c .before))) ∙ c .before .before .pages .inv .0), c .before .before .pages .inv .1, omega arith)
+regions-again c = (rw (c .next-region .ensures) (sym (pages-over _ _ (over (c .before))) ∙ c .before .before .pages .inv .0), c .before .before .pages .inv .1, omega arith)
 
 returns :
     tie.Need-returns Inv-loop μ-loop Inv-values μ-values Inv-pages μ-pages Inv-regions μ-regions

@@ -1,5 +1,5 @@
 -- `reading::fill_pages` meets its contract: a turn fills the next page, and filling the pages that are left makes the whole.
-use Prim.Native.Nat.{_+_, _*_, _-_, _/_, _^_, _≤_, _<_}
+use Prim.Native.Nat.{_+_, _*_, _/_, _^_, _≤_, _<_}
 use mathlib.Core.Path.{_≡_, refl, sym, ap, _∙_}
 use native.Mathlib.Omega.{arith}
 use borrow.Author.Needs.{needs}

@@ -1,6 +1,6 @@
 -- `reading::judge_pages` meets its contract: a turn passes one page's frame, and the frames that are left decide as the whole does.
 use borrow.Author.Needs.{needs}
-use Prim.Native.Nat.{_+_, _*_, _-_, _≤_}
+use Prim.Native.Nat.{_+_, _*_, _≤_}
 use mathlib.Core.Path.{_≡_, refl, sym, _∙_}
 use native.Mathlib.Omega.{arith}
 use lib.ListN.{drop, replicate}

@@ -1,6 +1,6 @@
 -- `table_words::idle` meets its contract: what is left to test, from the present region on, is the whole test.
 use mathlib.Core.Path.{_≡_, sym, _∙_}
-use Prim.Native.Nat.{_+_, _-_}
+use Prim.Native.Nat.{_+_}
 use native.Mathlib.Omega.{arith}
 use lib.Dec.{eqb}
 use Rattle.laws.specs.Lists.{allFrom}

@@ -1,13 +1,13 @@
 -- `used::region_used` meets its contract. The invariant: the words counted and those of the pages that are left are the region's, and at most 256
 -- were counted for each page passed, so that a sum never wraps. The measure is the pages that may still be passed.
-use mathlib.Core.Path.{_≡_, refl, _∙_}
+use mathlib.Core.Path.{_≡_, refl, ap, _∙_}
 use Prim.Native.Nat.{_+_, _*_, _^_, _≤_}
 use native.Mathlib.Omega.{arith}
 use lib.ListN.{length}
 use Rattle.rules.specs.Memory.{chain, regionPages}
 use Rattle.rules.specs.Audit.{usedOn, usedBy}
 use Rattle.rules.proofs.Limits.{Inside, page-inside, pages-few}
-use Rattle.rules.proofs.Nests.{over-fuel, over-none, over-bad}
+use Rattle.rules.proofs.Chains.{next-page, over-fuel, over-none, over-bad}
 use Rattle.used.proofs.Turns.{page-used, pages-used}
 use Rattle.used.proofs.region_used.Statement.{statement}
 use Rattle.used.proofs.region_used.Tie as tie
@@ -70,19 +70,19 @@ pages-less : tie.Need-pages-less Inv-pages μ-pages
 pages-less c = omega arith
 
 pages-again : tie.Need-pages-again Inv-pages μ-pages
-pages-again c = (page-used _ _ _ (c .before .before .before .before .before .before .before .before .before .before .before .page-count .ensures) _ _ _ _ (c .before .before .before .before .before .before .before .before .before .pages .inv .0) _ _ _ (c .before .before .before .before .before .link-page .ensures) (rw (← (c .before .before .before .before .body-address .ensures), ← (c .before .before .before .page-end .ensures)) (c .before .before .values-used .ensures .0)) (c .before .page-address .ensures) (c .before .before .before .before .before .before .before .before .pages-test .taken) (c .before .before .before .before .before .before .before .if1 .left) (c .before .before .before .before .before .before .if2 .left), omega (arith, here (c .before .before .before .before .before)))
+pages-again c = (page-used _ _ (c .before .before .before .before .before .before .before .before .before .pages .inv .0) (next-page _ _ _ (c .before .before .before .before .before .before .before .before .before .before .before .page-count .ensures) _ _ _ (c .before .page-address .ensures ∙ ap (λ y. y * 2 ^ c .before .before .before .before .before .before .before .before .before .before .before .before .before .before .args .n) (c .before .before .before .before .before .link-page .ensures)) (c .before .before .before .before .before .before .before .before .pages-test .taken) (c .before .before .before .before .before .before .before .if1 .left) (c .before .before .before .before .before .before .if2 .left)) _ _ (c .before .before .before .before .before .link-page .ensures) (rw (← (c .before .before .before .before .body-address .ensures), ← (c .before .before .before .page-end .ensures)) (c .before .before .values-used .ensures .0)), omega (arith, here (c .before .before .before .before .before)))
 
 returns : tie.Need-returns Inv-pages μ-pages
 unfolding usedBy regionPages
-returns c = pages-used _ _ _ (c .before .before .before .page-count .ensures) _ _ _ _ (c .before .pages .inv .0) (over-fuel _ _ _ _ _ _ (c .pages-test .left)) ∙ rw (c .before .before .before .page-count .ensures, c .before .before .first-link .ensures)
+returns c = pages-used _ _ (c .before .pages .inv .0) (over-fuel (c .pages-test .left)) ∙ rw (c .before .before .before .page-count .ensures, c .before .before .first-link .ensures)
 
 returns-2 : tie.Need-returns-2 Inv-pages μ-pages
 unfolding usedBy regionPages
-returns-2 c = pages-used _ _ _ (c .before .before .before .before .page-count .ensures) _ _ _ _ (c .before .before .pages .inv .0) (over-none _ _ _ _ _ _ (c .if1 .taken)) ∙ rw (c .before .before .before .before .page-count .ensures, c .before .before .before .first-link .ensures)
+returns-2 c = pages-used _ _ (c .before .before .pages .inv .0) (over-none (c .if1 .taken)) ∙ rw (c .before .before .before .before .page-count .ensures, c .before .before .before .first-link .ensures)
 
 returns-3 : tie.Need-returns-3 Inv-pages μ-pages
 unfolding usedBy regionPages
-returns-3 c = pages-used _ _ _ (c .before .before .before .before .before .page-count .ensures) _ _ _ _ (c .before .before .before .pages .inv .0) (over-bad _ _ _ _ _ _ (c .if2 .taken)) ∙ rw (c .before .before .before .before .before .page-count .ensures, c .before .before .before .before .first-link .ensures)
+returns-3 c = pages-used _ _ (c .before .before .before .pages .inv .0) (over-bad (c .before .before .before .before .before .page-count .ensures) (c .if2 .taken)) ∙ rw (c .before .before .before .before .before .page-count .ensures, c .before .before .before .before .first-link .ensures)
 
 pub region-used-spec : {M : Type 1} → statement M
 region-used-spec =

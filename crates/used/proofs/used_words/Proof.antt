@@ -1,6 +1,6 @@
 -- `used::used_words` meets its contract: where the audit refuses, so does the call; after its yes the call is the test of the region's number and
 -- the count.
-use mathlib.Core.Path.{sym, _∙_}
+use mathlib.Core.Path.{sym, ap, _∙_}
 use native.Mathlib.Omega.{arith}
 use borrow.Author.Needs.{needs}
 use borrow.Author.Tests.{le-leb, lt-leb}
@@ -8,7 +8,7 @@ use lib.ListN.{length}
 use Rattle.rules.specs.declared.Valued.{Valued}
 use Rattle.rules.specs.Refusals.{Admitted}
 use Rattle.rules.specs.Calls.{usedWords}
-use Rattle.rules.proofs.Judged.{judged-refuse, judged-yes, judged-admits}
+use Rattle.rules.proofs.Judged.{passed-admitted, judged-refuse, judged-yes}
 use Rattle.used.proofs.used_words.Statement.{statement}
 use Rattle.used.proofs.used_words.Tie as tie
 
@@ -30,17 +30,17 @@ cast-if1 c = search needs
 
 returns-2 : tie.Need-returns-2
 unfolding usedWords
-returns-2 c = let y = judged-yes _ (sym (c .before .before .before .enum-told .given .1) ∙ c .before .before .before .before .before .audit .ensures) in rw (y .0, y .1, y .2, le-leb (c .before .before .before .before .before .before .before .before .before .before .args .c .regions) (c .before .before .before .before .before .before .before .before .before .before .args .j .0) (omega arith))
+returns-2 c = let y = judged-yes _ (sym (c .before .before .before .enum-told .given .1) ∙ c .before .before .before .before .before .audit .ensures) in rw (y .limits, y .common, y .unbroken, le-leb (c .before .before .before .before .before .before .before .before .before .before .args .c .regions) (c .before .before .before .before .before .before .before .before .before .before .args .j .0) (omega arith))
 
 admitted : (c : tie.Else1) → Admitted (length (c .before .before .before .before .before .before .before .before .before .before .args .heap .now)) (length (c .before .before .before .before .before .before .before .before .before .before .args .table .now)) (length (c .before .before .before .before .before .before .before .before .before .before .args .roots .now)) (length (c .before .before .before .before .before .before .before .before .before .before .args .consts .now)) (c .before .before .before .before .before .before .before .before .before .before .args .c)
-admitted c = judged-admits _ (sym (c .before .before .before .enum-told .given .1) ∙ c .before .before .before .before .before .audit .ensures)
+admitted c = passed-admitted _ (judged-yes _ (sym (c .before .before .before .enum-told .given .1) ∙ c .before .before .before .before .before .audit .ensures))
 
 region-used-requires : tie.Need-region-used-requires
 region-used-requires c κs = let a = admitted c in (a .paged, a .table, omega (arith, a .regions))
 
 returns-3 : tie.Need-returns-3
 unfolding usedWords
-returns-3 c = let y = judged-yes _ (sym (c .before .before .before .before .enum-told .given .1) ∙ c .before .before .before .before .before .before .audit .ensures) in rw (y .0, y .1, y .2, lt-leb (c .before .before .before .before .before .before .before .before .before .before .before .args .c .regions) (c .before .before .before .before .before .before .before .before .before .before .before .args .j .0) (omega arith), ← (c .region-used .ensures))
+returns-3 c = let y = judged-yes _ (sym (c .before .before .before .before .enum-told .given .1) ∙ c .before .before .before .before .before .before .audit .ensures) in rw (y .limits, y .common, y .unbroken, lt-leb (c .before .before .before .before .before .before .before .before .before .before .before .args .c .regions) (c .before .before .before .before .before .before .before .before .before .before .before .args .j .0) (omega arith)) (ap (λ u. Valued.Done u (c .before .before .before .before .before .before .before .before .before .before .before .args .c)) (c .region-used .ensures))
 
 pub used-words-spec : {M : Type 1} → statement M
 used-words-spec =

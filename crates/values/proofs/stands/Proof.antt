@@ -8,7 +8,7 @@ use native.Mathlib.Omega.{arith}
 use borrow.Author.Needs.{needs}
 use borrow.Author.Tests.{not-true, not-false}
 use Rattle.rules.specs.Words.{fits, standsAt, valsIn}
-use Rattle.rules.proofs.Stepping.{stands-end, stands-stop, stands-here, stands-go}
+use Rattle.rules.proofs.Stepping.{vals-none, vals-stop, stands-over, stands-here, stands-go}
 use Rattle.values.proofs.stands.Statement.{statement}
 use Rattle.values.proofs.stands.Tie as tie
 
@@ -41,7 +41,7 @@ fits-requires : tie.Need-fits-requires Inv-loop μ-loop
 fits-requires c κs = search needs
 
 returns : tie.Need-returns Inv-loop μ-loop
-returns c = sym (stands-stop _ _ _ _ (c .before .before .before .before .if1 .taken) (c .before .before .before .before .before .before .before .before .before .pre .0) (there _ _ _ (c .before .fits2 .ensures) (not-true _ (c .if2 .taken)) (omega arith))) ∙ c .before .before .before .before .before .before .before .loop .inv
+returns c = sym (stands-over _ _ _ _ (vals-stop _ _ _ (c .before .before .before .before .if1 .taken) (c .before .before .before .before .before .before .before .before .before .pre .0) (there _ _ _ (c .before .fits2 .ensures) (not-true _ (c .if2 .taken)) (omega arith)))) ∙ c .before .before .before .before .before .before .before .loop .inv
 
 returns-2 : tie.Need-returns-2 Inv-loop μ-loop
 returns-2 c = sym (stands-here _ _ _ _ (c .before .before .before .before .before .before .before .if1 .taken) (c .before .before .before .before .before .before .before .before .before .before .before .before .pre .0) (there _ _ _ (c .before .before .before .before .fits2 .ensures) (not-false _ (c .before .before .before .if2 .left)) (omega arith)) (c .if3 .taken)) ∙ c .before .before .before .before .before .before .before .before .before .before .loop .inv
@@ -64,7 +64,7 @@ loop-again c =
     rw next (sym (stands-go _ _ _ _ (c .before .before .before .before .before .before .before .before .if1 .taken) (c .before .before .before .before .before .before .before .before .before .before .before .before .before .pre .0) (there _ _ _ (c .before .before .before .before .before .fits2 .ensures) (not-false _ (c .before .before .before .before .if2 .left)) (omega arith)) (c .before .if3 .left)) ∙ c .before .before .before .before .before .before .before .before .before .before .before .loop .inv)
 
 returns-3 : tie.Need-returns-3 Inv-loop μ-loop
-returns-3 c = sym (stands-end _ _ _ _ (c .if1 .left)) ∙ c .before .before .before .loop .inv
+returns-3 c = sym (stands-over _ _ _ _ (vals-none _ _ _ (c .if1 .left))) ∙ c .before .before .before .loop .inv
 
 pub stands-spec : {M : Type 1} → statement M
 stands-spec =
