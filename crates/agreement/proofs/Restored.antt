@@ -19,7 +19,7 @@ use Rattle.laws.specs.Loop.{more, over}
 use Rattle.laws.proofs.Loops.{loop-more, loop-over, loop-end}
 use Rattle.rules.specs.Memory.{Store, pageCount, link}
 use Rattle.facts.proofs.Laid.{old≢mine, old≢beyond, old, Body, chain-body}
-use Rattle.rules.proofs.Steps.{Stands, Steps, OnPage, here, over as passes, steps-le, steps-then, not-header, no-zero}
+use Rattle.rules.proofs.Steps.{Steps, PageSteps, OnPage, here, over as passes, steps-le, steps-then, not-header, no-zero}
 use Rattle.facts.proofs.Copied.{to}
 use Rattle.facts.proofs.Sound.{Sound}
 use Rattle.facts.proofs.Goods.{page-ends}
@@ -141,29 +141,28 @@ module _ {s : Store} {S : Sound s} {d : Desk} (A : Stuck s S d) where
         same-if H k y own-k (omega arith, up) (λ l v. no-zero (v .stands) (body .rest y lo up))
 
     -- inside a value no other stands
-    between : {h : List ℕ} {x l : ℕ} → Half left h → Steps (s .heap) (k * P + P) (k * P + 2) x → Stands (s .heap) (k * P + P) x l
-        → (y : ℕ) → x < y → y < x + suc l → at h y ≡ at (s .heap) y
-    between H t st y lo up =
-        let q = steps-le t in
-        let e = st .ends in
-        same-if H k y own-k (omega arith, omega arith) (λ m v. not-header t st lo up (v .steps) refl)
+    between : {h : List ℕ} {x l : ℕ} → Half left h → OnPage n (s .heap) k x l → (y : ℕ) → x < y → y < x + suc l → at h y ≡ at (s .heap) y
+    between H v y lo up =
+        let q = steps-le (v .steps) in
+        let e = v .stands .ends in
+        same-if H k y own-k (omega arith, omega arith) (λ m u. not-header (v .steps) (v .stands) lo up (u .steps) refl)
 
-    undo-step : {h : List ℕ} {x l : ℕ} → Half left h → Steps (s .heap) (k * P + P) (k * P + 2) x → Stands (s .heap) (k * P + P) x l
+    undo-step : {h : List ℕ} {x l : ℕ} → Half left h → OnPage n (s .heap) k x l
         → ((y : ℕ) → k * P ≤ y → y < x → at h y ≡ at (s .heap) y) → Stepped left k h x l
     unfolding undoTurn undoOf
-    undo-step {h} {x} {l} H t st below = go (H .either k x own-k p)
+    undo-step {h} {x} {l} H v below = go (H .either k x own-k p)
       where
         p : In k x
-        p = let a = steps-le t in let b = st .ends in (omega arith, omega arith)
+        p = let a = steps-le (v .steps) in let b = v .stands .ends in (omega arith, omega arith)
 
         odd : at (s .heap) x % 2 ≡ 1
-        odd = header-odd (at (s .heap) x) l (st .head) .0
+        odd = header-odd (at (s .heap) x) l (v .stands .head) .0
 
         len : at (s .heap) x / 8 ≡ l
-        len = header-odd (at (s .heap) x) l (st .head) .1
+        len = header-odd (at (s .heap) x) l (v .stands .head) .1
 
         not-past : leb (k * P + P) x ≡ false
-        not-past = let b = st .ends in lt-leb (k * P + P) x (omega arith)
+        not-past = let b = v .stands .ends in lt-leb (k * P + P) x (omega arith)
 
         below-by : {h′ : List ℕ} → Half left h′ → ((y : ℕ) → y ≢ x → at h′ y ≡ at h y) → at h′ x ≡ at (s .heap) x
             → (y : ℕ) → k * P ≤ y → y < x + suc l → at h′ y ≡ at (s .heap) y
@@ -175,11 +174,11 @@ module _ {s : Store} {S : Sound s} {d : Desk} (A : Stuck s S d) where
               where
                 at-other : Dec (y < x) → at h′ y ≡ at (s .heap) y
                 at-other (yes q) = same y ne ∙ below y lo q
-                at-other (no q) = between H′ t st y (omega arith) up
+                at-other (no q) = between H′ v y (omega arith) up
 
         go : Either h x → Stepped left k h x l
         go (inl e) =
-            let nz : eqb (at h x) 0 ≡ false = ne-eqb (at h x) 0 (λ z. no-zero st (sym e ∙ z)) in
+            let nz : eqb (at h x) 0 ≡ false = ne-eqb (at h x) 0 (λ z. no-zero (v .stands) (sym e ∙ z)) in
             let o : eqb (at h x % 2) 1 ≡ true = eq-eqb (at h x % 2) 1 (ap (λ w. w % 2) e ∙ odd) in
             let n : x + (at h x / 8 + 1) ≡ x + suc l = (let a = len in let b : at h x / 8 ≡ at (s .heap) x / 8 = ap (λ w. w / 8) e in omega arith) in
             record {
@@ -209,7 +208,7 @@ module _ {s : Store} {S : Sound s} {d : Desk} (A : Stuck s S d) where
                   (getD-set-same h x (at h (at h x / 4)) 0 (omega arith) ∙ c);
             }
 
-    undo-from : {h : List ℕ} (f x : ℕ) → Half left h → Steps (s .heap) (k * P + P) (k * P + 2) x → Steps (s .heap) (k * P + P) x (S .fin k) → S .fin k ≤ x + f
+    undo-from : {h : List ℕ} (f x : ℕ) → Half left h → PageSteps n (s .heap) k x → Steps (s .heap) (k * P + P) x (S .fin k) → S .fin k ≤ x + f
         → ((y : ℕ) → k * P ≤ y → y < x → at h y ≡ at (s .heap) y) → PageBack left k (undoVals f (k * P + P) (after x h))
     unfolding undoTurn
     undo-from {h} f x H t here b below = ends f
@@ -240,7 +239,7 @@ module _ {s : Store} {S : Sound s} {d : Desk} (A : Stuck s S d) where
         ends (suc f) = rw (loop-over (suc f) (undoTurn (k * P + P)) (λ o. o .state) (after x h) h (omega arith) over-is) stays
     undo-from zero x H t (passes {l = l} st rest) b below = let q = steps-le rest in absurd (omega arith)
     undo-from {h} (suc f) x H t (passes {l = l} st rest) b below =
-        let T = undo-step H t st below in
+        let T = undo-step H (record { steps = t; stands = st }) below in
         let on = undo-from f (x + suc l) (T .half) (steps-then t (passes st here)) rest (omega arith) (T .below) in
         rw (loop-more (suc f) (undoTurn (k * P + P)) (λ o. o .state) (after x h) (after (x + suc l) (T .heap)) (omega arith) (T .turn), sub-one (suc f)) on
 

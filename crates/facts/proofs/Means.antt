@@ -11,7 +11,7 @@ use lib.ListN.{length, drop}
 use lib.Dec.{leb, ltb, eqb}
 use borrow.Author.Tests.{ltb-true, lt-ltb, eqb-true}
 use Rattle.laws.specs.Lists.{at, all, allBelow, zeros, times}
-use Rattle.laws.proofs.Tests.{both, all-in, below-in}
+use Rattle.laws.proofs.Tests.{both, eight-hold, all-in, below-in}
 use Rattle.laws.proofs.Facts.{all-at, zeros-behind}
 use Rattle.laws.proofs.Once.{has-last, last-in, Linked, linked-once, linked-last, each-once}
 use Rattle.rules.specs.Memory.{Store, pageCount, addressPage, regionOrigin, pageWords, bodyWords, bodyAddress, pageEnd, link, origin, row, endOf, firstOf, statusOf, firstLink, regionPages, freePages, pagesFrom}
@@ -163,13 +163,7 @@ module _ {s : Store} (p : Passes s) where
       let E : Bool = eachPage (λ j k. eqb (origin n (s .heap) k) (regionOrigin j)) n (s .heap) (s .table) R in
       let F : Bool = all (λ k. eqb (origin n (s .heap) k) 0) (freePages n (s .heap) (s .ctl .first)) in
       let G : Bool = eqb (s .ctl .last) (lastLink (freePages n (s .heap) (s .ctl .first))) in
-      let (t₁, h) = both {a = A && B && C && D && E && F && G} (rules .three) in
-      let (t₂, g) = both {a = A && B && C && D && E && F} t₁ in
-      let (t₃, f) = both {a = A && B && C && D && E} t₂ in
-      let (t₄, e) = both {a = A && B && C && D} t₃ in
-      let (t₅, d) = both {a = A && B && C} t₄ in
-      let (t₆, c) = both {a = A && B} t₅ in
-      let (a, b) = both {a = A} t₆ in
+      let (a, b, c, d, e, f, g, h) = eight-hold {a = A} {b = B} {c = C} {d = D} {e = E} {f = F} {g = G} (rules .three) in
       record { open-at = a; each = b; ends = c; free-ends = d; origins = e; free-origins = f; last = eqb-true _ _ g; count = eqb-true _ _ h }
 
   abbrev pages : ℕ → List ℕ

@@ -28,6 +28,19 @@ not-eqb x w y e ne = ne-eqb w y (λ q. ne (e ∙ q))
 pub both : {a b : Bool} → (a && b) ≡ true → (a ≡ true) × (b ≡ true)
 both {a} {b} e = and-eq-true-iff a b .0 e
 
+-- eight tests that pass together
+pub eight-hold : {a b c d e f g h : Bool} → (a && b && c && d && e && f && g && h) ≡ true
+    → (a ≡ true) × (b ≡ true) × (c ≡ true) × (d ≡ true) × (e ≡ true) × (f ≡ true) × (g ≡ true) × (h ≡ true)
+eight-hold {a} {b} {c} {d} {e} {f} {g} t =
+    let (t₁, ph) = both {a = a && b && c && d && e && f && g} t in
+    let (t₂, pg) = both {a = a && b && c && d && e && f} t₁ in
+    let (t₃, pf) = both {a = a && b && c && d && e} t₂ in
+    let (t₄, pe) = both {a = a && b && c && d} t₃ in
+    let (t₅, pd) = both {a = a && b && c} t₄ in
+    let (t₆, pc) = both {a = a && b} t₅ in
+    let (pa, pb) = both {a = a} t₆ in
+    (pa, pb, pc, pd, pe, pf, pg, ph)
+
 -- a test and then the others
 pub then-and : (a b : Bool) → (elim a [ true ↦ b | false ↦ false ]) ≡ (a && b)
 then-and true b = refl

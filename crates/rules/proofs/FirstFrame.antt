@@ -8,7 +8,7 @@ use native.Mathlib.Omega.{arith}
 use borrow.Author.Tests.{leb-true, eqb-true}
 use lib.ListN.{length}
 use Rattle.laws.specs.Lists.{at}
-use Rattle.laws.proofs.Tests.{both}
+use Rattle.laws.proofs.Tests.{both, eight-hold}
 use Rattle.rules.specs.Image.{headFits, programFits}
 
 pub record Limited (ws : List ℕ) : Type 0 where
@@ -24,15 +24,9 @@ pub record Limited (ws : List ℕ) : Type 0 where
 pub limited : (ws : List ℕ) → headFits ws ≡ true → Limited ws
 unfolding headFits
 limited ws e =
-    let (e7, k) = both e in
-    let (e6, r) = both e7 in
-    let (e5, g) = both e6 in
-    let (e4, s) = both e5 in
-    let (e3, t) = both e4 in
-    let (e2, n8) = both e3 in
-    let (e1, n4) = both e2 in
+    let (eight, n4, n8, t, s, g, r, k) = eight-hold e in
     record {
-      eight = eqb-true _ _ e1;
+      eight = eqb-true _ _ eight;
       low = leb-true _ _ n4;
       high = leb-true _ _ n8;
       two = leb-true _ _ t;

@@ -5,7 +5,7 @@ use mathlib.Core.Path.{_≡_, refl, sym, _∙_}
 use mathlib.Core.Bool.{Bool, true, false, Bool·beq, false≢true}
 use borrow.Author.Tests.{leb-true, eqb-true, eq-eqb}
 use lib.Dec.{eqb}
-use Rattle.laws.proofs.Tests.{both}
+use Rattle.laws.proofs.Tests.{both, eight-hold}
 use native.Mathlib.Omega.{arith}
 use native.Mathlib.Nat.{le-trans, le-div-iff-mul-le, mul-le-mul-left, mul-le-mul-right, div-add-mod', div-lt-iff-lt-mul, div-le-self}
 use lib.Pow.{pow-pos, pow-mono}
@@ -86,13 +86,7 @@ within-same a b c d w = rw (a, b, c, d) w
 pub within : (n h t r k : ℕ) → limits n h t r k ≡ true → Within n h t r k
 unfolding limits
 within n h t r k l =
-    let (l7, k1) = both l in
-    let (l6, r1) = both l7 in
-    let (l5, t1) = both l6 in
-    let (l4, h1) = both l5 in
-    let (l3, w2) = both l4 in
-    let (l2, w1) = both l3 in
-    let (n4, n8) = both l2 in
+    let (n4, n8, w1, w2, h1, t1, r1, k1) = eight-hold l in
     record {
       paged = record { low = leb-true _ _ n4; high = leb-true _ _ n8; size = leb-true _ _ h1; whole = eqb-true _ _ w1 };
       two = leb-true _ _ w2;

@@ -7,7 +7,7 @@ use mathlib.Core.List.{List}
 use lib.ListN.{length, length-append}
 use lib.Dec.{eqb}
 use Rattle.laws.specs.Lists.{all, allBelow}
-use Rattle.laws.proofs.Tests.{both}
+use Rattle.laws.proofs.Tests.{both, eight-hold}
 use Rattle.laws.proofs.Facts.{and-of, same-test, below-and}
 use Rattle.rules.specs.Memory.{Store, pageCount, regionOrigin, origin, firstLink, regionPages, freePages, pagesFrom}
 use Rattle.rules.specs.Audit.{opens, endsWell, lastLink, rule3}
@@ -21,13 +21,7 @@ regroup a b c d e f g h b′ same = same-test _ _ there back
   where
     there : (a && b && c && d && e && f && g && h) ≡ true → (a && (e && c) && (f && d && (g && (h && b′)))) ≡ true
     there t =
-        let (t₁, ph) = both {a = a && b && c && d && e && f && g} t in
-        let (t₂, pg) = both {a = a && b && c && d && e && f} t₁ in
-        let (t₃, pf) = both {a = a && b && c && d && e} t₂ in
-        let (t₄, pe) = both {a = a && b && c && d} t₃ in
-        let (t₅, pd) = both {a = a && b && c} t₄ in
-        let (t₆, pc) = both {a = a && b} t₅ in
-        let (pa, pb) = both {a = a} t₆ in
+        let (pa, pb, pc, pd, pe, pf, pg, ph) = eight-hold {a = a} {b = b} {c = c} {d = d} {e = e} {f = f} {g = g} t in
         and-of (and-of pa (and-of pe pc)) (and-of (and-of pf pd) (and-of pg (and-of ph (sym (same pc pd pe pf) ∙ pb))))
 
     back : (a && (e && c) && (f && d && (g && (h && b′)))) ≡ true → (a && b && c && d && e && f && g && h) ≡ true
