@@ -7,14 +7,13 @@ use mathlib.Core.Bool.{true, false}
 use mathlib.Core.List.{List, List·Memᴰ}
 use lib.ListN.{length, take, drop}
 use Rattle.laws.specs.Lists.{at}
-use Rattle.laws.proofs.Lists.{word-in, part-length}
 use Rattle.rules.specs.Memory.{Store}
 use Rattle.rules.specs.Words.{inHeap, inConst, wordOf, isRecord}
 use Rattle.rules.specs.Calls.{lookIn, headerIn, fieldsIn, isNumber, Walked, ends, walkSays, walk, pointsInto, letGo, pop}
 use Rattle.rules.specs.Seen.{homeIn, seen, path, readAt}
 use Rattle.rules.proofs.Pointers.{pointer-is}
 use Rattle.facts.proofs.Goods.{page-ends}
-use Rattle.facts.proofs.Looked.{heap-seen, heap-home, const-seen, const-home, seen-plain, words-head}
+use Rattle.facts.proofs.Looked.{heap-seen, heap-home, const-seen, const-fields, const-home, seen-plain, seen-at}
 use Rattle.facts.proofs.Alike.{Same, AlikeWalks, both-end, both-stop, paths}
 use Rattle.facts.proofs.Observing.{walk-is, reads-alike}
 use Rattle.facts.proofs.Passing.{meaning}
@@ -60,9 +59,9 @@ module _ (s : Store) (S : Sound s) (j : ℕ) (top : s .ctl .regions ≡ suc j) (
       (good : isRecord (at ws a) ≡ true → (f : ℕ) → f < l → Stays (at ws (a + suc f)) (at ws (a + suc f))) where
     fields-stay : FieldsStay v
     fields-stay rec f b =
-        let z = ap length is ∙ part-length ws a (suc l) inside in
-        let w : at (lookIn s v) (suc f) ≡ at ws (a + suc f) = ap (λ x. at x (suc f)) is ∙ word-in ws a (suc l) (suc f) (omega arith) in
-        rw (← same, w) (good (ap isRecord (sym (ap headerIn is ∙ words-head ws a l)) ∙ rec) f (omega arith))
+        let seen = seen-at inside is in
+        let z = seen .long in
+        rw (← same, seen .field f (omega arith)) (good (ap isRecord (sym (seen .head)) ∙ rec) f (omega arith))
 
   -- ---- a value of another region
 
@@ -121,9 +120,7 @@ module _ (s : Store) (S : Sound s) (j : ℕ) (top : s .ctl .regions ≡ suc j) (
     const-stays w (const-there b q g) = stays w (to-const b q g) (rw (pointsInto, q))
 
     const-field : FieldsStay v
-    const-field =
-        fields-stay v a (p .len) (s .consts) (p .stands .ends) (const-seen s v a e p) const-same
-        (λ r f q. const-stays (at (s .consts) (a + suc f)) (S .consts .fields a (p .len) f (p .steps) (p .stands) r q))
+    const-field r f b = rw (← const-same) (const-stays _ (const-fields s v a e (S .consts) p r f b))
 
   -- ---- the two views
 

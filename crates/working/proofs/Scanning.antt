@@ -8,17 +8,16 @@ use mathlib.Core.Option.{none, some}
 use mathlib.Core.List.{List·Memᴰ}
 use lib.ListN.{set, take, drop}
 use Rattle.laws.specs.Lists.{at}
-use Rattle.laws.proofs.Lists.{part-length, word-in}
 use Rattle.rules.specs.Memory.{Store}
 use Rattle.rules.specs.Words.{rec, headOf, recordBy, isRecord}
 use Rattle.rules.specs.Pages.{Run, withHeap}
 use Rattle.rules.specs.Collection.{evacuate, scanFields}
-use Rattle.rules.specs.Calls.{lookIn, headerIn, fieldsIn}
+use Rattle.rules.specs.Calls.{lookIn}
 use Rattle.rules.specs.Seen.{seen, Reached, field}
 use Rattle.rules.proofs.Steps.{record-length}
 use Rattle.facts.proofs.Laid.{upd-same}
 use Rattle.facts.proofs.Copied.{to}
-use Rattle.facts.proofs.Looked.{heap-seen, words-head}
+use Rattle.facts.proofs.Looked.{heap-seen, seen-at}
 use Rattle.facts.proofs.Sound.{Good, Sound}
 use Rattle.working.proofs.Log.{Copy}
 use Rattle.rules.specs.Wanted.{evacuateFor, fieldsFor}
@@ -81,13 +80,9 @@ module _ {s : Store} {S : Sound s} {g₀ : Ghost} {r₀ : Run} {c d l : ℕ} (he
     pub field-reached : Reached (seen s) (s .roots) w
     field-reached =
         let z = len-is Q in
-        let seen-is = seen-old (Q .inv) (Q .entry) in
-        let len = part-length (s .heap) c (suc (C .len)) (copied-in (Q .inv) (Q .entry)) in
-        let e : at (lookIn s (4 * c)) (suc i) ≡ w = ap (λ v. at v (suc i)) seen-is ∙ word-in (s .heap) c (suc (C .len)) (suc i) (omega arith) in
-        let k : isRecord (headerIn (lookIn s (4 * c))) ≡ true
-        = ap (λ v. isRecord (headerIn v)) seen-is ∙ ap isRecord (words-head (s .heap) c (C .len)) ∙ kind in
-        let f : i < fieldsIn (lookIn s (4 * c)) = rw seen-is (omega arith) in
-        subst (Reached (seen s) (s .roots)) e (field i (Q .inv .logged .live (Q .entry)) k f)
+        let v = seen-at (copied-in (Q .inv) (Q .entry)) (seen-old (Q .inv) (Q .entry)) in
+        let long = v .long in
+        subst (Reached (seen s) (s .roots)) (v .field i (omega arith)) (field i (Q .inv .logged .live (Q .entry)) (ap isRecord (v .head) ∙ kind) (omega arith))
 
     -- what the run makes of it
     pub field-lacks : (m : ℕ) → evacuate n w r ≡ none → scanFields n (suc m) (d + suc i) r ≡ none

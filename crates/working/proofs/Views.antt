@@ -4,12 +4,11 @@ use Prim.Native.Nat.{ℕ, zero, suc, _+_, _*_, _≤_, _<_}
 use native.Mathlib.Omega.{arith}
 use mathlib.Core.Path.{_≡_, refl, sym, ap, _∙_, subst}
 use mathlib.Core.Logic.{_≢_}
-use mathlib.Core.Bool.{true, false}
+use mathlib.Core.Bool.{false}
 use mathlib.Core.List.{List, List·Memᴰ}
 use lib.ListN.{length, take, drop}
 use lib.Seq.{ext-getD}
 use Rattle.laws.specs.Lists.{at}
-use Rattle.laws.proofs.Lists.{part-length, word-in}
 use Rattle.rules.specs.Memory.{Store}
 use Rattle.rules.specs.Words.{wordOf, raw, headOf, recordBy, isRecord}
 use Rattle.rules.specs.Pages.{Run}
@@ -17,7 +16,7 @@ use Rattle.rules.specs.Calls.{lookIn, isNumber}
 use Rattle.rules.specs.Seen.{homeIn, seen, Reached}
 use Rattle.facts.proofs.Copied.{Moved, to, Rel, num, stay, OneValue, Copied}
 use Rattle.rules.proofs.Pointers.{pointer, raw-head}
-use Rattle.facts.proofs.Looked.{heap-seen, heap-home, const-seen, const-home, seen-plain, words-head}
+use Rattle.facts.proofs.Looked.{heap-seen, heap-home, const-seen, const-fields, const-home, seen-plain, SeenAt, seen-at}
 use Rattle.facts.proofs.Sound.{GoodConst, number-there, const-there, Sound}
 use Rattle.working.proofs.Log.{pointers, Copy, of-pointers, of-each}
 use Rattle.working.proofs.Invariant.{Kept, copied-in, copy-was}
@@ -44,32 +43,22 @@ module _ {s : Store} {S : Sound s} {roots : List ℕ} {r : Run} (A : Ran s S roo
     pointed : isNumber (wordOf v) ≡ false
     pointed = rw (k .word)
 
-    const-field : (l f : ℕ) → l ≡ k .good .len → isRecord (at (s .consts) (k .address)) ≡ true → f < l → R (at (s .consts) (k .address + suc f)) (at (s .consts) (k .address + suc f))
-    const-field l f e kind b = go (S .consts .fields (k .address) (k .good .len) f (k .good .steps) (k .good .stands) kind (omega arith))
-      where
-        go : {w : ℕ} → GoodConst (s .consts) w → R w w
-        go (number-there q) = num (ap isNumber q)
-        go (const-there c q x) = stay (record { address = c; word = q; good = x })
+    stays : {w : ℕ} → GoodConst (s .consts) w → R w w
+    stays (number-there q) = num (ap isNumber q)
+    stays (const-there c q x) = stay (record { address = c; word = q; good = x })
 
     const-same : OneValue (seen s) (seen s′) R v v
     const-same =
-        let x = const-seen s v (k .address) (k .word) (k .good) in
-        let y = const-seen s′ v (k .address) (k .word) (k .good) in
-        let l : ℕ = k .good .len in
-        let inside = k .good .stands .ends in
-        let len = part-length (s .consts) (k .address) (suc l) inside in
+        let same : lookIn s v ≡ lookIn s′ v = const-seen s v (k .address) (k .word) (k .good) ∙ sym (const-seen s′ v (k .address) (k .word) (k .good)) in
         record {
           before = pointed;
           after = pointed;
           alike =
-              rw (x, y)
+              rw (← same)
               (record {
                 header = refl;
                 size = refl;
-                fields = λ kind f b.
-                    let b′ : f < l = omega arith in
-                    rw (word-in (s .consts) (k .address) (suc l) (suc f) (omega arith))
-                    (const-field l f refl (ap isRecord (sym (words-head (s .consts) (k .address) l)) ∙ kind) b′);
+                fields = λ kind f b. stays (const-fields s v (k .address) (k .word) (S .consts) (k .good) kind f b);
                 text = λ kind. refl;
               });
           home = const-home s v (k .address) (k .word) ∙ sym (const-home s′ v (k .address) (k .word));
@@ -113,36 +102,32 @@ module _ {s : Store} {S : Sound s} {roots : List ℕ} {r : Run} (A : Ran s S roo
         let z = A .end .inv .pending .raws m (D .len) e in
         sym (D .waiting f q (omega arith)) ∙ sym (copy-word A m (suc f) (omega arith))
 
-    text : isRecord (at h a) ≡ false → take (suc (D .len)) (drop a h) ≡ take (suc (D .len)) (drop b h′)
-    text kind =
-        let x = part-length h a (suc (D .len)) (copied-in (A .end .inv) m) in
-        let y = part-length h′ b (suc (D .len)) in-after in
-        ext-getD 0 _ _ (x ∙ sym y)
-        (λ i q. word-in h a (suc (D .len)) i (omega arith) ∙ each i (omega arith) ∙ sym (word-in h′ b (suc (D .len)) i (omega arith)))
+    was : SeenAt h a (D .len) (lookIn s (4 * a))
+    was = seen-at (copied-in (A .end .inv) m) value-before
+
+    now : SeenAt h′ b (D .len) (lookIn s′ (4 * b))
+    now = seen-at in-after value-after
+
+    text : isRecord (at h a) ≡ false → lookIn s (4 * a) ≡ lookIn s′ (4 * b)
+    text kind = let x = was .long in ext-getD 0 _ _ (was .long ∙ sym (now .long)) (λ i q. each i (omega arith))
       where
-        each : (i : ℕ) → i < suc (D .len) → at h (a + i) ≡ at h′ (b + i)
-        each zero q = ap (at h) (omega arith) ∙ sym same-head ∙ ap (at h′) (omega arith)
-        each (suc i) q = raws kind i (omega arith)
+        each : (i : ℕ) → i < suc (D .len) → at (lookIn s (4 * a)) i ≡ at (lookIn s′ (4 * b)) i
+        each zero q = was .head ∙ sym same-head ∙ sym (now .head)
+        each (suc i) q = was .field i (omega arith) ∙ raws kind i (omega arith) ∙ sym (now .field i (omega arith))
 
     moved-same : OneValue (seen s) (seen s′) R (4 * a) (4 * b)
     moved-same =
-        let x = part-length h a (suc (D .len)) (copied-in (A .end .inv) m) in
-        let y = part-length h′ b (suc (D .len)) in-after in
-        let p = words-head h a (D .len) in
-        let q = words-head h′ b (D .len) in
+        let x = was .long in
         record {
           before = rw (pointer a);
           after = rw (pointer b);
           alike =
-              rw (value-before, value-after)
-              (record {
-                header = p ∙ sym same-head ∙ sym q;
-                size = x ∙ sym y;
-                fields = λ kind f t.
-                    rw (word-in h a (suc (D .len)) (suc f) (omega arith), word-in h′ b (suc (D .len)) (suc f) (omega arith))
-                    (copy-field A m (ap isRecord (sym p) ∙ kind) f (omega arith));
-                text = λ kind. text (ap isRecord (sym p) ∙ kind);
-              });
+              record {
+                header = was .head ∙ sym same-head ∙ sym (now .head);
+                size = was .long ∙ sym (now .long);
+                fields = λ kind f t. rw (was .field f (omega arith), now .field f (omega arith)) (copy-field A m (ap isRecord (sym (was .head)) ∙ kind) f (omega arith));
+                text = λ kind. text (ap isRecord (sym (was .head)) ∙ kind);
+              };
           home = home-before ∙ sym home-after;
         }
 
