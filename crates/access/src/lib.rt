@@ -1,4 +1,7 @@
 // The calls on one value: fetching it, setting a root to it.
+
+#![tactic(auto)]
+
 ghost use Rattle.std.specs.Prelude.{◌≡◌};
 ghost use Rattle.rules.specs.Calls.{fetch as fetch_of, fetch_refusal, set_root};
 ghost use Rattle.rules.specs.Memory.{lent};

@@ -1,4 +1,7 @@
 // Allocation: the tests of a value and of its region, and the value into the region.
+
+#![tactic(auto)]
+
 ghost use Rattle.std.specs.Prelude.{◌≡◌, ◌≤◌, ◌<◌, ℕ, List, length};
 ghost use Rattle.laws.specs.Lists.{all};
 ghost use Rattle.rules.specs.Memory.{lent};

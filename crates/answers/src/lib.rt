@@ -1,4 +1,7 @@
 // The answers of operations, and how each is written.
+
+#![tactic(auto)]
+
 use numbers::magnitude;
 use rules::{Control, Numbered, Opened, Page, Plain, Refusal, Told, Valued, Worded};
 use script::hash;

@@ -1,4 +1,7 @@
 // A request that changes no lent word, carried out: one call of the library each, on the lent parts.
+
+#![tactic(auto)]
+
 use answers::{Answer, Outcome, count, numbered, plain, saying, told, unknown, word, worded};
 use requests::Asking;
 use rules::{Control, Page, Plain, Refusal, Valued};

@@ -1,4 +1,7 @@
 // Assignment: a word into a field of a record.
+
+#![tactic(auto)]
+
 ghost use Rattle.std.specs.Prelude.{◌≡◌, List, ℕ, ◌≤◌, length};
 ghost use Rattle.rules.specs.Calls.{assign_by, assign as assign_of};
 ghost use Rattle.rules.specs.Memory.{lent};

@@ -1,4 +1,7 @@
 // The attempt of a collection: fresh pages, roots, the scan stack. Each function does what its definition in motion says.
+
+#![tactic(auto)]
+
 ghost use Rattle.std.specs.Prelude.{◌≡◌, ◌≤◌, ◌<◌};
 ghost use Rattle.motion.specs.Leaves.{desk, out};
 ghost use Rattle.motion.specs.Whole.{fresh as fresh_def, freshen as freshen_def, move_root, move_roots, work_stack, attempt as attempt_def, is_finished};

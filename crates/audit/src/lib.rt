@@ -1,4 +1,7 @@
 // The audit: the first broken rule, as an answer. Each rule is one nest of walks, in the crates below.
+
+#![tactic(auto)]
+
 ghost use Rattle.std.specs.Prelude.{◌≡◌, length};
 ghost use Rattle.rules.specs.Audit.{broken_rule};
 ghost use Rattle.rules.specs.Calls.{audit as audit_of};

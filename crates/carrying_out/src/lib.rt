@@ -1,4 +1,7 @@
 // A request that may change lent words or the record, carried out: one call of the library each, on the lent parts.
+
+#![tactic(auto)]
+
 use answers::{Answer, Outcome, opened, plain, saying, unknown, word};
 use requests::{Changing, Making, Part};
 use rules::{Control, Kind, Plain, Region};

@@ -1,4 +1,7 @@
 // Reads an image on standard input and prints the collected one, or the refusal.
+
+#![tactic(auto)]
+
 use desk::collect_text;
 
 fn main() {

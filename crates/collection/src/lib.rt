@@ -1,4 +1,7 @@
 // The collection, as a call: the audit first, and then all living values copied, or everything as it was.
+
+#![tactic(auto)]
+
 ghost use Rattle.std.specs.Prelude.{◌≡◌};
 ghost use Rattle.rules.specs.Collection.{collect as collect_of};
 ghost use Rattle.rules.specs.Memory.{lent};

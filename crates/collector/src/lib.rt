@@ -1,4 +1,7 @@
 // The collection after its audit: the attempt, and then its end, done or undone.
+
+#![tactic(auto)]
+
 ghost use Rattle.std.specs.Prelude.{◌≡◌, List, ℕ, ◌≤◌, length};
 ghost use Rattle.rules.specs.declared.Plain.{Plain};
 ghost use Rattle.rules.specs.Memory.{lent, page_count};

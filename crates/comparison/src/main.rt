@@ -1,4 +1,7 @@
 // Compares the collector with a second one, independent in method, on many heaps made at random, and with the answers of outside images.
+
+#![tactic(auto)]
+
 mod report;
 
 ghost use Rattle.std.specs.Prelude.{◌≤◌};

@@ -1,4 +1,7 @@
 // Rule 8, on the constants.
+
+#![tactic(auto)]
+
 ghost use Rattle.std.specs.Prelude.{◌≡◌, ◌≤◌, length};
 ghost use Rattle.laws.specs.Lists.{all};
 ghost use Rattle.rules.specs.Memory.{lent};

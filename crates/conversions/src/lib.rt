@@ -1,5 +1,8 @@
 // Every way to come by a page, a region or an address: by its number, from the one before it, from a stored form, or from another of the three.
 // Nowhere else in the library is one made. And a refusal's number and place.
+
+#![tactic(auto)]
+
 ghost use Rattle.std.specs.Prelude.{◌≡◌, ◌+◌, ◌-◌, ◌≤◌, ◌<◌};
 ghost use Rattle.rules.specs.Memory.{page_address, address_page, page_link, link_page, region_origin, origin_region};
 ghost use Rattle.rules.specs.Words.{address_pointer, pointer_address};

@@ -1,4 +1,7 @@
 // The collection at work: taking pages, moving values. Each function does what its definition in motion says, whatever the heap holds.
+
+#![tactic(auto)]
+
 ghost use Rattle.std.specs.Prelude.{◌≡◌, ◌+◌, ◌≤◌, ◌<◌, true};
 ghost use Rattle.motion.specs.Leaves.{desk, out};
 ghost use Rattle.motion.specs.Run.{take_free, join_free, move_to, move_on, move as move_def, evacuate as evacuate_def};

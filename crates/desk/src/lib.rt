@@ -1,4 +1,7 @@
 // The work of the program "collect": from the bytes of an image to the bytes that it prints. The program only reads and writes.
+
+#![tactic(auto)]
+
 ghost use Rattle.std.specs.Prelude.{◌≡◌, true, ◌≤◌, ◌<◌, [], length};
 ghost use Rattle.rules.specs.Image.{read_text, program_on, collect_program};
 ghost use Rattle.scanning.specs.Places.{words_at};

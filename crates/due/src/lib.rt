@@ -1,4 +1,7 @@
 // Whether a collection is due.
+
+#![tactic(auto)]
+
 ghost use Rattle.std.specs.Prelude.{◌≡◌};
 ghost use Rattle.rules.specs.Memory.{lent};
 ghost use Rattle.rules.specs.Calls.{due_at, due as due_of};

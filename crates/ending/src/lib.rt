@@ -1,4 +1,7 @@
 // The end of a collection that is done. Each function does what its definition in motion says.
+
+#![tactic(auto)]
+
 ghost use Rattle.std.specs.Prelude.{◌≡◌, ◌+◌, ◌-◌, ◌≤◌, ◌<◌, length};
 ghost use Rattle.rules.specs.Memory.{page_count, page_link, row};
 ghost use Rattle.rules.specs.Refusals.{Paged};

@@ -1,4 +1,7 @@
 // Rules 4 and 9 of the audit: where each region ends, and that free pages are clean.
+
+#![tactic(auto)]
+
 ghost use Rattle.std.specs.Prelude.{◌≡◌, ◌≤◌, ◌<◌, length};
 ghost use Rattle.rules.specs.Memory.{lent};
 ghost use Rattle.rules.specs.Refusals.{Admitted};

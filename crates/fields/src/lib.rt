@@ -1,4 +1,7 @@
 // Rules 6 and 7 of the audit, and whether a region is held: tests of every root, and of every field of every record.
+
+#![tactic(auto)]
+
 ghost use Rattle.std.specs.Prelude.{◌≡◌, ◌≤◌, ◌<◌, length};
 ghost use Rattle.laws.specs.Lists.{all};
 ghost use Rattle.rules.specs.Memory.{lent};

@@ -1,4 +1,7 @@
 // Pages given back to the free list: one, and a region's chain.
+
+#![tactic(auto)]
+
 ghost use Rattle.std.specs.Prelude.{◌<◌, length};
 ghost use Rattle.rules.specs.Memory.{page_count};
 ghost use Rattle.rules.specs.Pages.{give_back};

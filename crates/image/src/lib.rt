@@ -1,4 +1,7 @@
 // The two calls on a heap's text image: writing it, and reading it back.
+
+#![tactic(auto)]
+
 ghost use Rattle.std.specs.Prelude.{◌≡◌};
 ghost use Rattle.rules.specs.Memory.{lent};
 ghost use Rattle.rules.specs.Refusals.{outcome};

@@ -1,5 +1,8 @@
 // The image of document 01's example, written, read back and written again; then each kind of damage that the document names, done to it one
 // at a time, with the number and the place that reading answers (0 0 where it is no damage).
+
+#![tactic(auto)]
+
 use conversions::{refusal_number, refusal_place};
 use image::{read_image, write_image};
 use rules::{Control, Opened, Refusal, Valued};

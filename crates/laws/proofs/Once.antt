@@ -81,6 +81,7 @@ linked_one (goes {k} t) (goes u) = ap (λ r. k ∷ r) (linked_one t u)
 -- a chain goes on behind each of its numbers, with numbers of its own, and there it is shorter
 pub linked_from : {l : ℕ → ℕ} {x k : ℕ} {ks : List ℕ} → Linked l x ks → Memᴰ k ks
     → (ms : List ℕ) × Linked l (l k) ms × (length ms < length ks) × ((y : ℕ) → Memᴰ y ms → Memᴰ y ks)
+linked_from {l} {k = k} stop m = elim m [ ]
 linked_from {l} (goes {k = y} {ks} t) (Memᴰ.head e) = (ks, rw e t, le_refl _, λ y p. Memᴰ.tail p)
 linked_from (goes t) (Memᴰ.tail m) = let r = linked_from t m in (r.0, r.1, (let b = r.2 in omega arith), λ y p. Memᴰ.tail (r.3 y p))
 
@@ -99,11 +100,13 @@ linked_once (goes t) =
 
 -- the last number's link is 0
 pub linked_last : {l : ℕ → ℕ} {x k : ℕ} {ks : List ℕ} → Linked l x ks → Last ks k → l k ≡ 0
+linked_last stop last = elim last [ ]
 linked_last (goes t) only = linked_none t
 linked_last (goes t) (later u) = linked_last t u
 
 -- and a number whose link is 0 is the last
 pub linked_ends : {l : ℕ → ℕ} {x k : ℕ} {ks : List ℕ} → Linked l x ks → Memᴰ k ks → l k ≡ 0 → Last ks k
+linked_ends {k = k} stop m q = elim m [ ]
 linked_ends (goes {k} t) (Memᴰ.head e) q = head_last (rw (← e) at t) q (sym e)
   where
     head_last : {l : ℕ → ℕ} {k j : ℕ} {ks : List ℕ} → Linked l (l k) ks → l k ≡ 0 → j ≡ k → Last (j ∷ ks) k
@@ -132,6 +135,7 @@ has_last (goes {k} {ks} t) = last_of k ks
 
 pub linked_snoc : {l m : ℕ → ℕ} {x z k : ℕ} {ks : List ℕ} → Linked l x ks → Last ks z → Once ks → m z ≡ suc k → m k ≡ 0
     → ((y : ℕ) → Memᴰ y ks → y ≢ z → l y ≡ m y) → Linked m x (ks ++ k ∷ [])
+linked_snoc {m = m} {k = k} stop last o e e' same = elim last [ ]
 linked_snoc {m = m} {k = k} (goes {k = z} t) only o e e' same = let t₁ : Linked m (m z) (k ∷ []) = rw e (linked_single e') in goes t₁
 linked_snoc {m = m} {z = z} (goes {k = y} t) (later u) (once_more f o) e e' same =
     let rest = linked_snoc t u o e e' (λ w p ne. same w (Memᴰ.tail p) ne) in

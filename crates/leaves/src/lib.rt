@@ -1,5 +1,8 @@
 // What the collection reads and writes: words, pages and regions by any number, rows, copies, the scan stack. Each function does what its definition in
 // motion says, whatever the heap holds: what would leave a slice is not done, so that no fact about pages, regions or headers is wanted.
+
+#![tactic(auto)]
+
 ghost use Rattle.std.specs.Prelude.{◌≡◌, ◌-◌, ◌≤◌, ◌<◌, set};
 ghost use Rattle.laws.specs.Lists.{at};
 ghost use Rattle.laws.specs.Each.{after};

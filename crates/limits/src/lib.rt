@@ -1,4 +1,7 @@
 // The tests of every call: the lengths, then the record.
+
+#![tactic(auto)]
+
 ghost use Rattle.std.specs.Prelude.{◌≡◌, ◌/◌, ◌^◌, ◌≤◌};
 ghost use Rattle.rules.specs.Memory.{limits};
 ghost use Rattle.rules.specs.Refusals.{common};

@@ -1,4 +1,7 @@
 // The collection at work: what a step of it answers, and where its notes stand. What it does is in specs/.
+
+#![tactic(auto)]
+
 use rules::{Address, Region};
 
 // What a step says: go on with a region at a scan address; all is scanned; a page is wanted and none is free.

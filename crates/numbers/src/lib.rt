@@ -1,4 +1,7 @@
 // Whole numbers as words, and words as whole numbers; how far a number is from 0.
+
+#![tactic(auto)]
+
 ghost use Rattle.std.specs.Prelude.{◌≡◌, nat_abs};
 ghost use Rattle.rules.specs.Calls.{word_of_number, number_of_word};
 

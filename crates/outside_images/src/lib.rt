@@ -1,4 +1,7 @@
 // The images of data/: each is read, collected and written, and the text compared with its answer.
+
+#![tactic(auto)]
+
 ghost use Rattle.std.specs.Prelude.{◌≤◌};
 
 use check::same;

@@ -1,4 +1,7 @@
 // A page by its number: its words as a part of the heap, and why there is none.
+
+#![tactic(auto)]
+
 ghost use Rattle.std.specs.Prelude.{◌≡◌};
 ghost use Rattle.rules.specs.Memory.{lent};
 ghost use Rattle.rules.specs.Calls.{page_by_number, page_refusal};

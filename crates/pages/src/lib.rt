@@ -1,4 +1,7 @@
 // The size and the number of pages, clearing a part and whether it is clear, a page as a part, clearing a page, taking a page.
+
+#![tactic(auto)]
+
 ghost use Rattle.std.specs.Prelude.{◌≡◌, ◌+◌, ◌-◌, ◌/◌, ◌^◌, ◌≤◌, ◌<◌, ℕ, List, length, replicate};
 ghost use Rattle.laws.specs.Lists.{zeros};
 ghost use Rattle.rules.specs.Memory.{lent, page_count, page_words, link, link_page, body_address, page_end};

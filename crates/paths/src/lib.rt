@@ -1,4 +1,7 @@
 // Walking a path.
+
+#![tactic(auto)]
+
 ghost use Rattle.std.specs.Prelude.{◌≡◌, ◌≤◌, length};
 ghost use Rattle.rules.specs.Calls.{walk_from, walk_says, walk as walk_of};
 ghost use Rattle.rules.specs.Memory.{lent};

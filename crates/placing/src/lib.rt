@@ -1,4 +1,7 @@
 // A value placed into a region: at its a, or in a page more that is taken and linked.
+
+#![tactic(auto)]
+
 ghost use Rattle.std.specs.Prelude.{◌≡◌, ◌+◌, ◌-◌, ◌^◌, ◌≤◌, ◌<◌, ℕ, suc, List, ◌∷◌, length, set};
 ghost use Rattle.laws.specs.Lists.{put};
 ghost use Rattle.rules.specs.Memory.{lent, page_count, page_link, page_end, body_address, region_origin, set_link, set_origin, end_of, top_of, set_end, set_top};

@@ -1,4 +1,7 @@
 // What the program "collect" prints: a refusal, or the image of a heap after its collection.
+
+#![tactic(auto)]
+
 ghost use Rattle.std.specs.Prelude.{◌≤◌, length};
 ghost use Rattle.rules.specs.Memory.{lent};
 ghost use Rattle.rules.specs.Refusals.{Admitted};

@@ -1,4 +1,7 @@
 // Popping the top region: its pages go back to the free list, and its table words become 0.
+
+#![tactic(auto)]
+
 ghost use Rattle.std.specs.Prelude.{◌≡◌};
 ghost use Rattle.rules.specs.Calls.{pop as pop_of};
 ghost use Rattle.rules.specs.Memory.{lent};

@@ -1,5 +1,8 @@
 // Replays a script of calls: one operation a line on standard input, one answer a line on standard output.
 // Each call on a heap is one call of the library; the rest reads lines and writes answers.
+
+#![tactic(auto)]
+
 mod state;
 
 use script::lines::{beginning, left, next_line};

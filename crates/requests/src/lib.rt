@@ -1,4 +1,7 @@
 // What a line asks for. Of a list of words, of a path and of a text a request says where on the line they begin.
+
+#![tactic(auto)]
+
 use conversions::{page_numbered, region_numbered};
 use rules::{Control, Kind, Page, Region};
 use script::numbers::{

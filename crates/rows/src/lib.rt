@@ -1,4 +1,7 @@
 // The rows of the region table, read and written by name, and the addresses of the pages that links name.
+
+#![tactic(auto)]
+
 ghost use Rattle.std.specs.Prelude.{◌≡◌, ◌+◌, ◌-◌, ◌*◌, ◌/◌, ◌≤◌, ◌<◌, length};
 ghost use Rattle.rules.specs.Memory.{page_address, link_page, end_of, first_of, top_of, status_of, set_end, set_top, set_row, first_link};
 

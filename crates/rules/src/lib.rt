@@ -1,20 +1,22 @@
 // The types that every call shares. What the words mean is in specs/, a file for each section of document 01.
 
+#![tactic(auto)]
+
 // A page's number.
-#[derive(Drop)]
+#[derive(Clone, Copy)]
 pub struct Page(pub usize);
 
 // A region's number.
-#[derive(Drop)]
+#[derive(Clone, Copy)]
 pub struct Region(pub usize);
 
 // The address of a word: of the heap or of the constants.
-#[derive(Drop)]
+#[derive(Clone, Copy)]
 pub struct Address(pub usize);
 
 // The control record: page exponent, number of regions, and the free list as links (a page's number plus 1, or 0) with its count.
 #[repr(C)]
-#[derive(Drop)]
+#[derive(Clone, Copy)]
 pub struct Control {
     pub n: u32,
     pub regions: u32,
@@ -24,14 +26,14 @@ pub struct Control {
 }
 
 // Whether a value's words are numbers and pointers, or mean nothing to the collector.
-#[derive(Drop)]
+#[derive(Clone, Copy)]
 pub enum Kind {
     Record,
     Raw,
 }
 
 // Why a call was refused, in the order of document 01's numbers. What a case holds is its place.
-#[derive(Drop)]
+#[derive(Clone, Copy)]
 pub enum Refusal {
     Limits,
     Broken(u32),
@@ -49,42 +51,42 @@ pub enum Refusal {
 }
 
 // Done, or refused with the record as it was given.
-#[derive(Drop)]
+#[derive(Clone, Copy)]
 pub enum Plain {
     Done(Control),
     Refused(Refusal, Control),
 }
 
 // Done with a word or a count, or refused.
-#[derive(Drop)]
+#[derive(Clone, Copy)]
 pub enum Valued {
     Done(u32, Control),
     Refused(Refusal, Control),
 }
 
 // Done with yes or no, or refused.
-#[derive(Drop)]
+#[derive(Clone, Copy)]
 pub enum Told {
     Done(bool, Control),
     Refused(Refusal, Control),
 }
 
 // A call that is given no record: done with a new one, or refused with none.
-#[derive(Drop)]
+#[derive(Clone, Copy)]
 pub enum Opened {
     Done(Control),
     Refused(Refusal),
 }
 
 // A whole number as a word.
-#[derive(Drop)]
+#[derive(Clone, Copy)]
 pub enum Worded {
     Done(u32),
     Refused(Refusal),
 }
 
 // A word as a whole number.
-#[derive(Drop)]
+#[derive(Clone, Copy)]
 pub enum Numbered {
     Done(i32),
     Refused(Refusal),

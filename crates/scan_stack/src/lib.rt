@@ -1,5 +1,8 @@
 // The collection at work: the scan stack worked to its end, value by value. Each function does what its definition in motion says, whatever the
 // heap holds.
+
+#![tactic(auto)]
+
 ghost use Rattle.std.specs.Prelude.{◌≡◌, ◌≤◌, ◌<◌};
 ghost use Rattle.laws.specs.Each.{each};
 ghost use Rattle.motion.specs.Leaves.{desk, out, Narrow};

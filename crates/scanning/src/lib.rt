@@ -1,5 +1,8 @@
 // The text of an image by places: bytes, digits, numbers, and one frame. A byte outside the text is 0, which is neither a digit nor a
 // newline, so that any bytes may be read at any place.
+
+#![tactic(auto)]
+
 ghost use Rattle.std.specs.Prelude.{◌≡◌, ◌+◌, ◌^◌, ◌≤◌, ◌<◌};
 ghost use Rattle.laws.specs.Lists.{at};
 ghost use Rattle.rules.specs.Image.{part_fits};

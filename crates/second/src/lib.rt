@@ -16,6 +16,9 @@
 //   67018 + 4i + 1  the address that copy i came from    67018 + 4i + 2  the address that it went to
 //   67018 + 4i + 3  the next copy of its region, number plus 1, 0 where it is the last
 //   329162 to 333257  the list of free pages, as links
+
+#![tactic(auto)]
+
 ghost use Rattle.std.specs.Prelude.{◌≡◌, ◌+◌, ◌≤◌, ◌<◌};
 
 use rules::{Address, Control, Page, Region};

@@ -1,4 +1,7 @@
 // Setting up: all words 0, every root 1, and every page free, in rising order.
+
+#![tactic(auto)]
+
 ghost use Rattle.std.specs.Prelude.{◌≡◌, ◌*◌, ◌^◌, ◌≤◌, length, replicate};
 ghost use Rattle.rules.specs.Memory.{page_count};
 ghost use Rattle.rules.specs.Refusals.{Paged, outcome};

@@ -1,4 +1,7 @@
 // The soundings of document 01 on the calls, on real memory: each line asks the library one thing and prints what came.
+
+#![tactic(auto)]
+
 mod asking;
 mod changing;
 mod converting;

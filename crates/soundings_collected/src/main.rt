@@ -1,5 +1,8 @@
 // The soundings of document 01 on the audit, the collection and the image text, on real memory: each line asks the library one thing and
 // prints what came. Standard input is the example of document 01: its heap of "Sh", before the collection.
+
+#![tactic(auto)]
+
 mod asking;
 mod changing;
 mod lines;

@@ -1,5 +1,8 @@
 // One heap, both collectors: the first in place, the second from a copy into a heap of its own. Every word, the record and the answer are
 // compared.
+
+#![tactic(auto)]
+
 pub mod counts;
 
 use collection::collect;

@@ -1,4 +1,7 @@
 // The undoing of a collection that lacks a page. Each function does what its definition in motion says.
+
+#![tactic(auto)]
+
 ghost use Rattle.std.specs.Prelude.{◌≡◌, ◌≤◌, ◌<◌, length};
 ghost use Rattle.laws.specs.Each.{after};
 ghost use Rattle.rules.specs.Memory.{page_count, page_link, set_link};

@@ -1,4 +1,7 @@
 // The used words of a region: what its values take, headers included, on a heap that passes the audit.
+
+#![tactic(auto)]
+
 ghost use Rattle.std.specs.Prelude.{◌≡◌, ◌+◌, ◌≤◌, ◌<◌, length};
 ghost use Rattle.rules.specs.Audit.{used_by};
 ghost use Rattle.rules.specs.Calls.{used_words};

@@ -1,4 +1,7 @@
 // Headers, good pointers, and the value that a pointer names.
+
+#![tactic(auto)]
+
 ghost use Rattle.std.specs.Prelude.{◌≡◌, true, [], ◌+◌, ◌-◌, ◌/◌, ◌≤◌, ◌<◌, length};
 ghost use Rattle.laws.specs.Lists.{at};
 ghost use Rattle.rules.specs.Refusals.{Paged};

@@ -1,5 +1,8 @@
 // The text of an image, written: digits, words, frames, and the frames of a store. Each part is told where it begins; its length is
 // counted beforehand by the functions at the end, so that nothing is written where the text does not fit.
+
+#![tactic(auto)]
+
 ghost use Rattle.std.specs.Prelude.{◌≡◌, ◌+◌, ◌-◌, ◌*◌, ◌/◌, ◌^◌, ◌≤◌, ◌<◌, length};
 ghost use Rattle.std.proofs.lemmas.List.Edits.{sets};
 ghost use Rattle.rules.specs.Memory.{lent};
