@@ -208,10 +208,10 @@ module _ {s : Store} {S : Sound s} {d : Desk} (A : Stuck s S d) where
                   (get_or-set_same h x (at h (at h x / 4)) 0 (omega arith) ∙ c);
             }
 
-    undo_from : {h : List ℕ} (f x : ℕ) → Half left h → PageSteps n s.heap k x → Steps s.heap (k * P + P) x (S.fin k) → S.fin k ≤ x + f
+    undo_from : {h : List ℕ} (f x : ℕ) → Half left h → Steps s.heap (k * P + P) x (S.fin k) → PageSteps n s.heap k x → S.fin k ≤ x + f
         → ((y : ℕ) → k * P ≤ y → y < x → at h y ≡ at s.heap y) → PageBack left k (undo_vals f (k * P + P) (after x h))
     unfolding undo_turn
-    undo_from {h} f x H t here b below = ends f
+    undo_from {h} f x H here t b below = ends f
       where
         page : (y : ℕ) → In k y → at h y ≡ at s.heap y
         page y p = go (dec_lt y x)
@@ -237,10 +237,10 @@ module _ {s : Store} {S : Sound s} {d : Desk} (A : Stuck s S d) where
         ends : (f : ℕ) → PageBack left k (undo_vals f (k * P + P) (after x h))
         ends zero = rw (loop_end 0 (undo_turn (k * P + P)) (λ o. o.state) (after x h) (le_refl 0)) stays
         ends (suc f) = rw (loop_over (suc f) (undo_turn (k * P + P)) (λ o. o.state) (after x h) h (omega arith) over_is) stays
-    undo_from zero x H t (passes {l = l} st rest) b below = let q = steps_le rest in absurd (omega arith)
-    undo_from {h} (suc f) x H t (passes {l = l} st rest) b below =
+    undo_from zero x H (passes {l = l} st rest) t b below = let q = steps_le rest in absurd (omega arith)
+    undo_from {h} (suc f) x H (passes {l = l} st rest) t b below =
         let T = undo_step H (record { steps = t; stands = st }) below in
-        let on = undo_from f (x + suc l) T.half (steps_then t (passes st here)) rest (omega arith) T.below in
+        let on = undo_from {h = T.heap} f (x + suc l) T.half rest (steps_then t (passes st here)) (omega arith) T.below in
         rw (loop_more (suc f) (undo_turn (k * P + P)) (λ o. o.state) (after x h) (after (x + suc l) T.heap) (omega arith) T.turn, sub-one (suc f)) on
 
     -- the page's descriptor is never a value
@@ -253,7 +253,7 @@ module _ {s : Store} {S : Sound s} {d : Desk} (A : Stuck s S d) where
     unfolding undo_page
     undo_page_lem H =
         let a = body.inside in
-        undo_from P (k * P + 2) H here body.filled (omega arith) (descriptor H)
+        undo_from P (k * P + 2) H body.filled here (omega arith) (descriptor H)
 
   -- ---- all pages
 

@@ -224,7 +224,7 @@ given_all {free = free} once_none L f =
     record { laid = rw (append-nil free) L; like = λ l ne. like_itself; table = refl }
 given_all {own = own} {free = free} (once_more {k} {ks} new o) L f =
     let g = given L k (f k (Memᴰ.head refl)) in
-    let rest = given_all o g.laid (λ l m. upd_other own k spare l (λ e. new (rw e at m)) ∙ f l (Memᴰ.tail m)) in
+    let rest = given_all {own = upd own k spare} o g.laid (λ l m. upd_other own k spare l (λ e. new (rw e at m)) ∙ f l (Memᴰ.tail m)) in
     record {
       laid = rw (append_snoc free k ks) at rest.laid;
       like = λ l ne. like_then (g.like l (λ e. ne (Memᴰ.head e))) (rest.like l (λ m. ne (Memᴰ.tail m)));

@@ -2,7 +2,7 @@
 use Prim.Native.Nat.{ℕ, suc, ◌+◌, ◌*◌, ◌<◌}
 use native.Mathlib.Omega.{arith}
 use native.Mathlib.Decide.{ℕ_discrete}
-use mathlib.Core.Path.{◌≡◌, sym, ap, ◌∙◌}
+use mathlib.Core.Path.{◌≡◌, sym, ap, subst, ◌∙◌}
 use mathlib.Core.Logic.{◌≢◌}
 use mathlib.Core.List.{List, ◌∷◌, Memᴰ}
 use Rattle.laws.specs.Sums.{sum_over}
@@ -34,19 +34,12 @@ module _ {s : Store} {S : Sound s} {g : Ghost} {r : Run} (I : Inv s S g r) {x : 
   abbrev E : Evacuated n s g.own own g.fin fin g.pages pages r.heap r'.heap j x.good.len x.address b x.good.page p
   E = M.moved
 
-  tallied : (i : ℕ) → i < R → Dec (i ≡ j) → sum_over (filled_to n fin) (pages i) ≡ sum_over (words_at (seen s) i) (4 * x.address ∷ olds (pointers g.log))
+  tallied_home : sum_over (filled_to n fin) (pages j) ≡ sum_over (words_at (seen s) j) (4 * x.address ∷ olds (pointers g.log))
   unfolding sum_over
-  tallied i i_r (no ne) =
-      let t = I.tallied i i_r in
-      let same =
-      filled_same n g.fin fin (g.pages i)
-      (λ k m. M.fin_other k i (I.laid.mine_own i k i_r m) (not_p I M i k i_r ne m)) in
-      let none = words_elsewhere s S.within.paged x.address x.good i ne in
-      rw (M.pages_other i ne, none) (same ∙ t ∙ omega arith)
-  tallied i i_r (yes e) =
+  tallied_home =
       let t = I.tallied j x.good.known in
       let all = words_at_home s S.within.paged x.address x.good in
-      rw (e, all) (go E.place ∙ ap (λ y. y + suc x.good.len) t ∙ omega arith)
+      rw all (go E.place ∙ ap (λ y. y + suc x.good.len) t ∙ omega arith)
     where
       others : (k : ℕ) → Memᴰ k (g.pages j) → k ≢ p → g.fin k ≡ fin k
       others k m ne = M.fin_other k j (I.laid.mine_own j k x.good.known m) ne
@@ -60,6 +53,17 @@ module _ {s : Store} {S : Sound s} {g : Ghost} {r : Run} (I : Inv s S g r) {x : 
           rw longer
           (filled_page n g.fin fin (g.pages j) p (suc x.good.len) others (λ m. spare≢mine free (I.laid.mine_own j p x.good.known m))
           (sym E.b_end ∙ ap (λ y. y + suc x.good.len) place))
+
+  tallied : (i : ℕ) → i < R → Dec (i ≡ j) → sum_over (filled_to n fin) (pages i) ≡ sum_over (words_at (seen s) i) (4 * x.address ∷ olds (pointers g.log))
+  unfolding sum_over
+  tallied i i_r (no ne) =
+      let t = I.tallied i i_r in
+      let same =
+      filled_same n g.fin fin (g.pages i)
+      (λ k m. M.fin_other k i (I.laid.mine_own i k i_r m) (not_p I M i k i_r ne m)) in
+      let none = words_elsewhere s S.within.paged x.address x.good i ne in
+      rw (M.pages_other i ne, none) (same ∙ t ∙ omega arith)
+  tallied i i_r (yes e) = subst (λ y. sum_over (filled_to n fin) (pages y) ≡ sum_over (words_at (seen s) y) (4 * x.address ∷ olds (pointers g.log))) (sym e) tallied_home
 
   pub copied_inv : Inv s S (after I M) r'
   copied_inv =

@@ -140,6 +140,7 @@ record Follows (h : List ℕ) (hi a b s : ℕ) (ys : List ℕ) : Type 0 where
   pub next : Begins h hi (s + suc len) b ys
 
 vals_after : {h : List ℕ} {hi a b s : ℕ} {vs ys : List ℕ} → Vals h hi a b vs → After vs s ys → Follows h hi a b s ys
+vals_after vals_none u = elim u [ ]
 vals_after (vals_more {a} {b} {l} st t) after_here = record { len = l; low = le_refl a; stands = st; next = begins t }
 vals_after (vals_more st t) (after_there u) =
     let r = vals_after t u in
@@ -179,8 +180,8 @@ module _ {n N R : ℕ} {own : ℕ → Owner} {fin : ℕ → ℕ} {pages : ℕ �
       rw append-nil at
       (on_page k s ys [] (own_all_lem k (Memᴰ.head refl)) (vals_after v t)
       (λ l st lo q. next_none L j j_r k s l (own_all_lem k (Memᴰ.head refl)) lo st (q ∙ ap fin (sym e) ∙ sym (L.mine_top j j_r).top)))
-  next_row lk on last own_all_lem (row_more {k} {k'} {ks} {vs} {bs} v ne rest) {s} {ys} t =
-      go (after_split vs t) (λ u. next_row (linked_first lk).1 (once_tail on) (last_tail last) (λ l m. own_all_lem l (Memᴰ.tail m)) rest u)
+  next_row {x = x} lk on last own_all_lem (row_more {k} {k'} {ks} {vs} {bs} v ne rest) {s} {ys} t =
+      go (after_split vs t) (λ u. next_row {x = link n r.heap k} (linked_first lk).1 (once_tail on) (last_tail last) (λ l m. own_all_lem l (Memᴰ.tail m)) rest u)
     where
       not_last : k ≢ z'
       not_last e = once_head on (rw (← e) at (last_in (last_tail last)))

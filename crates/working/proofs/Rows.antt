@@ -73,6 +73,7 @@ pub record InRow (n : ℕ) (h : List ℕ) (fin : ℕ → ℕ) (ks : List ℕ) (b
   pub below : b + suc len ≤ fin page
 
 vals_in_lem : {h : List ℕ} {hi a e : ℕ} {vs : List ℕ} {b : ℕ} → Vals h hi a e vs → Memᴰ b vs → (l : ℕ) × Steps h hi a b × Stands h hi b l × (b + suc l ≤ e)
+vals_in_lem {b = b} vals_none m = elim m [ ]
 vals_in_lem {h} {hi} {b = b} (vals_more {a} {l = l} st t) (Memᴰ.head q) = let k = vals_le t in (l, rw q here, rw q st, omega arith)
 vals_in_lem (vals_more st t) (Memᴰ.tail m) = let r = vals_in_lem t m in (r.0, over st r.1, r.2, r.3)
 

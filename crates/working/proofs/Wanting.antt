@@ -164,7 +164,7 @@ module _ (n : ℕ) where
   pub roots_dry : {m : ℕ} {r : Run} (ws : List ℕ) → Dry m r → Dry m (roots_for n ws r)
   unfolding roots_for
   roots_dry [] d = d
-  roots_dry {m} {r} (w ∷ ws) d = roots_dry ws ((evacuate_beside w r).1 m d)
+  roots_dry {m} {r} (w ∷ ws) d = roots_dry {r = (evacuate_for n w r).1} ws ((evacuate_beside w r).1 m d)
 
   pub work_beside : (f j s : ℕ) (r : Run) → Ends (work n f j s r) (work_for n f j s r) × StaysDry r (work_for n f j s r)
   unfolding work work_for

@@ -26,7 +26,7 @@ shared-slice-read-if1 c = omega arith
 returns : tie.Need-returns invariant-loop decreases-loop
 returns c = sym (zeros_found _ _ c.before.before.loop-test.true c.if1.true) ∙ c.before.before.before.loop.invariant.0
 
-add-i : tie.Need-overflow-add-i invariant-loop decreases-loop
+add-i : tie.Need-overflow_add-i invariant-loop decreases-loop
 add-i c = omega arith
 
 loop-less : tie.Need-loop-smaller invariant-loop decreases-loop

@@ -5,11 +5,11 @@ use Rattle.rules.proofs.Limits.{address_small}
 use Rattle.pages.proofs.body_address.Statement.{statement}
 use Rattle.pages.proofs.body_address.Tie as tie
 
-page-address-requires : tie.Need-page-address-requires
+page-address-requires : tie.Need-page_address-requires
 page-address-requires c κs = search rules
 
-address-behind-requires : tie.Need-address-behind-requires
-address-behind-requires c κs = let s = address_small _ _ c.before.requires.0 c.before.requires.1 in omega (arith, c.page-address.ensures)
+address-behind-requires : tie.Need-address_behind-requires
+address-behind-requires c κs = let s = address_small _ _ c.before.requires.0 c.before.requires.1 in omega (arith, c.page_address.ensures)
 
 returns : tie.Need-returns
 returns c = search rules

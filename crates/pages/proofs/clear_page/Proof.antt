@@ -24,10 +24,10 @@ mul-clear c = omega (arith, here c.before, c.past-page.ensures)
 sub-clear : tie.Need-overflow-sub-clear
 sub-clear c = omega (arith, here c.before, c.past-page.ensures)
 
-part-clear-start : tie.Need-slice-bounds-clear-start
+part-clear-start : tie.Need-slice_bounds-clear-start
 part-clear-start c = omega (arith, here c.before, c.past-page.ensures)
 
-part-clear-end : tie.Need-slice-bounds-clear-end
+part-clear-end : tie.Need-slice_bounds-clear-end
 part-clear-end c = omega (arith, here c.before, c.past-page.ensures)
 
 clear-requires : tie.Need-clear-requires

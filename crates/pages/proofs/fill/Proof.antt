@@ -24,7 +24,7 @@ mul-part c = omega arith
 slice-write-part : tie.Need-slice-write-part invariant-loop decreases-loop
 slice-write-part c = omega arith
 
-add-i : tie.Need-overflow-add-i invariant-loop decreases-loop
+add-i : tie.Need-overflow_add-i invariant-loop decreases-loop
 add-i c = omega arith
 
 loop-less : tie.Need-loop-smaller invariant-loop decreases-loop

@@ -31,7 +31,7 @@ mul-link c = let i = page_inside _ _ _ _ refl c.before.before.requires.0 c.befor
 shared-slice-read-link : tie.Need-shared-slice-read-link
 shared-slice-read-link c = let i = page_inside _ _ _ _ refl c.before.before.before.requires.0 c.before.before.before.requires.1 in omega (arith, c.before.page-address.ensures)
 
-page-count-requires : tie.Need-page-count-requires
+page-count-requires : tie.Need-page_count-requires
 page-count-requires c κs = c.before.before.before.requires.0.high
 
 cast-if1 : tie.Need-overflow-cast-if1
@@ -40,8 +40,8 @@ cast-if1 c = omega (arith, c.before.before.before.shared-slice-known.given c.bef
 returns : tie.Need-returns
 unfolding link_fits link
 returns c =
-    let above : c.before.page-count.result < at c.before.before.before.before.before.args.heap.now c.before.before.before.page-address.result.0 = search turned in
-    rw (← c.before.before.before.page-address.ensures, ← c.before.page-count.ensures, lt-leb _ _ above)
+    let above : c.before.page_count.result < at c.before.before.before.before.before.args.heap.now c.before.before.before.page-address.result.0 = search turned in
+    rw (← c.before.before.before.page-address.ensures, ← c.before.page_count.ensures, lt-leb _ _ above)
 
 returns-2 : tie.Need-returns-2
 unfolding link_fits link

@@ -5,14 +5,14 @@ use Rattle.rules.proofs.Limits.{address_small}
 use Rattle.pages.proofs.page_end.Statement.{statement}
 use Rattle.pages.proofs.page_end.Tie as tie
 
-page-address-requires : tie.Need-page-address-requires
+page-address-requires : tie.Need-page_address-requires
 page-address-requires c κs = search rules
 
-page-words-requires : tie.Need-page-words-requires
+page-words-requires : tie.Need-page_words-requires
 page-words-requires c κs = search rules
 
-address-behind-requires : tie.Need-address-behind-requires
-address-behind-requires c κs = let s = address_small _ _ c.before.before.requires.0 c.before.before.requires.2 in omega (arith, c.before.page-address.ensures, c.page-words.ensures)
+address-behind-requires : tie.Need-address_behind-requires
+address-behind-requires c κs = let s = address_small _ _ c.before.before.requires.0 c.before.before.requires.2 in omega (arith, c.before.page_address.ensures, c.page_words.ensures)
 
 returns : tie.Need-returns
 returns c = search rules

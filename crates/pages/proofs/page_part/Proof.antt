@@ -23,10 +23,10 @@ mul-result c = omega (arith, here c.before, c.past-page.ensures)
 sub-result : tie.Need-overflow-sub-result
 sub-result c = omega (arith, here c.before, c.past-page.ensures)
 
-part-result-start : tie.Need-slice-bounds-result-start
+part-result-start : tie.Need-slice_bounds-result-start
 part-result-start c = omega (arith, here c.before, c.past-page.ensures)
 
-part-result-end : tie.Need-slice-bounds-result-end
+part-result-end : tie.Need-slice_bounds-result-end
 part-result-end c = omega (arith, here c.before, c.past-page.ensures)
 
 returns : tie.Need-returns

@@ -7,7 +7,7 @@ use lib.Pow.{shl_exact}
 use Rattle.pages.proofs.page_words.Statement.{statement}
 use Rattle.pages.proofs.page_words.Tie as tie
 
-shl-result : tie.Need-overflow-shl-result
+shl-result : tie.Need-overflow_shl-result
 shl-result c = search rules
 
 returns : tie.Need-returns

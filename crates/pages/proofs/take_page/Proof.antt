@@ -19,10 +19,10 @@ mul-heap c = let i = free_inside _ _ _ c.before.before.before.before.requires.0 
 slice-write-heap : tie.Need-slice-write-heap
 slice-write-heap c = let i = free_inside _ _ _ c.before.before.before.before.requires.0 c.before.before.before.before.requires.1 in omega (arith, c.page-address.ensures)
 
-region-origin-requires : tie.Need-region-origin-requires
+region-origin-requires : tie.Need-region_origin-requires
 region-origin-requires c κs = search rules
 
-add-heap : tie.Need-overflow-add-heap
+add-heap : tie.Need-overflow_add-heap
 add-heap c = let i = free_inside _ _ _ c.before.before.before.before.before.requires.0 c.before.before.before.before.before.requires.1 in omega (arith, c.before.page-address.ensures)
 
 mul-heap-2 : tie.Need-overflow-mul-heap-2
