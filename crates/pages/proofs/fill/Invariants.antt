@@ -1,0 +1,15 @@
+-- `pages::fill` meets its contract. The invariant: i words are filled, and the rest is as it was.
+use Prim.Native.Nat.{ℕ, ◌-◌, ◌<◌, ◌≤◌}
+use mathlib.Core.Path.{◌≡◌, refl, ap, ◌∙◌}
+use mathlib.Core.List.{List, ◌++◌}
+use native.Mathlib.Omega.{arith}
+use borrow.Author.Fill.{fill_more}
+use lib.ListN.{length, drop, replicate, set, length-set}
+use Rattle.laws.proofs.Parts.{filled}
+use Rattle.pages.proofs.fill.Given as goal
+
+abbrev pub invariant-loop-i : goal.invariant-loop-i
+invariant-loop-i l = (l.i ≤ length l.initial.part) × (l.part ≡ replicate l.i l.w ++ drop l.i l.initial.part) × (length l.part ≡ length l.initial.part)
+
+abbrev pub decreases-loop-i : goal.decreases-loop-i
+decreases-loop-i l = length l.initial.part - l.i
