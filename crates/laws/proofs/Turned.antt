@@ -2,7 +2,7 @@
 -- because a test passes exactly where its fact holds.
 use Prim.Native.Nat.{ℕ}
 use mathlib.Core.Path.{◌≡◌, sym, ◌∙◌}
-use mathlib.Core.Bool.{Bool, true, false, not}
+use mathlib.Core.Bool.{Bool, true, false}
 use borrow.Author.Rules.{rules}
 use borrow.Author.Tests.{leb-true, eqb-true, eq-eqb, not-true, not-false}
 use lib.Dec.{eqb}
@@ -14,9 +14,9 @@ pub ruleset turned = (rules, leb-true, not-true, not-false)
 pub eqb_turned : (a b : ℕ) → eqb a b ≡ eqb b a
 eqb_turned a b = same_test (eqb a b) (eqb b a) (λ t. eq-eqb b a (sym (eqb-true a b t))) (λ t. eq-eqb a b (sym (eqb-true b a t)))
 
--- the test t, where the code asked a call for it and tests the answer r as `!r`
-pub told_true : {r t : Bool} → r ≡ t → not r ≡ false → t ≡ true
-told_true {r} e n = sym e ∙ not-false r n
+-- the test t, where the code asked a call for it and the answer r says how it came out
+pub told_true : {r t : Bool} → r ≡ t → r ≡ true → t ≡ true
+told_true e yes = sym e ∙ yes
 
-pub told_false : {r t : Bool} → r ≡ t → not r ≡ true → t ≡ false
-told_false {r} e n = sym e ∙ not-true r n
+pub told_false : {r t : Bool} → r ≡ t → r ≡ false → t ≡ false
+told_false e no = sym e ∙ no

@@ -58,7 +58,7 @@ fn common_test(h: usize, c: Control) -> bool
 }
 
 // What every call tests first.
-#[derive(Drop)]
+#[derive(Clone, Copy)]
 pub enum Tested {
     Fine,
     Refused(Refusal),
