@@ -16,7 +16,7 @@ eqb_turned a b = same_test (eqb a b) (eqb b a) (λ t. eq-eqb b a (sym (eqb-true 
 
 -- the test t, where the code asked a call for it and the answer r says how it came out
 pub told_true : {r t : Bool} → r ≡ t → r ≡ true → t ≡ true
-told_true e yes = sym e ∙ yes
+told_true e came = sym e ∙ came
 
 pub told_false : {r t : Bool} → r ≡ t → r ≡ false → t ≡ false
-told_false e no = sym e ∙ no
+told_false e came = sym e ∙ came
