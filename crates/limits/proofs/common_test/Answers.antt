@@ -1,7 +1,6 @@
 -- `limits::common_test` meets its contract: it makes the tests of `common` one by one.
 use native.Mathlib.Omega.{arith}
 use borrow.Author.Tests.{le-leb, lt-leb}
-use borrow.Author.Rules.{rules}
 use Rattle.laws.proofs.Tests.{tests}
 use Rattle.rules.specs.Refusals.{common}
 use Rattle.limits.proofs.common_test.Goals as goal

@@ -1,5 +1,4 @@
 -- `limits::first_tests` meets its contract: the limits first, and once they hold, n is small enough for the common test.
-use borrow.Author.Rules.{rules}
 use Rattle.laws.proofs.Turned.{told_true}
 use Rattle.rules.proofs.Limits.{within}
 use Rattle.limits.specs.First.{first_tests}

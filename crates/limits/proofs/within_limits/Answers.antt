@@ -1,5 +1,4 @@
 -- `limits::within_limits` meets its contract: it makes the tests of `limits` one by one, n before the shift by n.
-use borrow.Author.Rules.{rules}
 use native.Mathlib.Omega.{arith}
 use borrow.Author.Tests.{le-leb, lt-leb}
 use Prim.Native.Nat.{◌*◌, ◌^◌}

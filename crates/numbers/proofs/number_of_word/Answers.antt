@@ -1,6 +1,5 @@
 -- `numbers::number_of_word` meets its contract: the laws of Numbers read each answer's bits.
 use native.Mathlib.Omega.{arith}
-use borrow.Author.Rules.{rules}
 use Rattle.numbers.proofs.Numbers.{number_even, number_above, number_below}
 use Rattle.numbers.proofs.number_of_word.Goals as goal
 

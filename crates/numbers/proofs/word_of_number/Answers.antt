@@ -1,7 +1,6 @@
 -- `numbers::word_of_number` meets its contract. On either side of 0 the code has the number n that the definition goes by, and the words
 -- are equal since n is below 2^30.
 use native.Mathlib.Omega.{arith}
-use borrow.Author.Rules.{rules}
 use Rattle.numbers.proofs.Numbers.{below, above, casts, word_below, word_too_low, word_above, word_too_high}
 use Rattle.numbers.proofs.word_of_number.Goals as goal
 

@@ -1,10 +1,8 @@
 -- `pages::all_zero` meets its contract: what is left from place i on is all zero exactly if the whole is, as long as each word was 0.
 use Prim.Native.Nat.{◌-◌, ◌≤◌}
-use mathlib.Core.Path.{◌≡◌, refl, sym, ◌∙◌}
-use native.Mathlib.Omega.{arith}
+use mathlib.Core.Path.{◌≡◌}
 use lib.ListN.{length, drop}
 use Rattle.laws.specs.Lists.{zeros}
-use Rattle.laws.proofs.Tests.{zeros_none, zeros_next, zeros_found}
 use Rattle.pages.proofs.all_zero.Given as goal
 
 abbrev pub invariant-loop-i : goal.invariant-loop-i

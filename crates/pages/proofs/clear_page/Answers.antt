@@ -2,7 +2,6 @@
 use Prim.Native.Nat.{◌^◌}
 use mathlib.Core.Path.{refl}
 use native.Mathlib.Omega.{arith}
-use borrow.Author.Rules.{rules}
 use lib.ListN.{length}
 use Rattle.rules.proofs.Limits.{Inside, page_number, page_inside}
 use Rattle.rules.proofs.Pages.{page_cleared}

@@ -1,10 +1,10 @@
 -- `pages::fill` meets its contract. The invariant: i words are filled, and the rest is as it was.
-use Prim.Native.Nat.{ℕ, ◌-◌, ◌<◌, ◌≤◌}
-use mathlib.Core.Path.{◌≡◌, refl, ap, ◌∙◌}
-use mathlib.Core.List.{List, ◌++◌}
+use Prim.Native.Nat.{ℕ, ◌<◌}
+use mathlib.Core.Path.{refl, ap, ◌∙◌}
+use mathlib.Core.List.{List}
 use native.Mathlib.Omega.{arith}
 use borrow.Author.Fill.{fill_more}
-use lib.ListN.{length, drop, replicate, set, length-set}
+use lib.ListN.{length, set, length-set}
 use Rattle.laws.proofs.Parts.{filled}
 use Rattle.pages.proofs.fill.Goals as goal
 

@@ -1,11 +1,8 @@
 -- `pages::fill` meets its contract. The invariant: i words are filled, and the rest is as it was.
-use Prim.Native.Nat.{ℕ, ◌-◌, ◌<◌, ◌≤◌}
-use mathlib.Core.Path.{◌≡◌, refl, ap, ◌∙◌}
-use mathlib.Core.List.{List, ◌++◌}
-use native.Mathlib.Omega.{arith}
-use borrow.Author.Fill.{fill_more}
-use lib.ListN.{length, drop, replicate, set, length-set}
-use Rattle.laws.proofs.Parts.{filled}
+use Prim.Native.Nat.{◌-◌, ◌≤◌}
+use mathlib.Core.Path.{◌≡◌}
+use mathlib.Core.List.{◌++◌}
+use lib.ListN.{length, drop, replicate}
 use Rattle.pages.proofs.fill.Given as goal
 
 abbrev pub invariant-loop-i : goal.invariant-loop-i

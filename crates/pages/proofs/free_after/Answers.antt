@@ -1,5 +1,4 @@
 -- `pages::free_after` meets its contract: page k lies inside the heap, and free last is 0 where the count was 1.
-use borrow.Author.Rules.{rules}
 use Prim.Native.Nat.{◌<◌}
 use mathlib.Core.Path.{◌≡◌, refl, sym}
 use native.Mathlib.Omega.{arith}

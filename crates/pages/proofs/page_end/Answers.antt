@@ -1,5 +1,4 @@
 -- `pages::page_end` meets its contract: neither the address nor what is added wraps.
-use borrow.Author.Rules.{rules}
 use native.Mathlib.Omega.{arith}
 use Rattle.rules.proofs.Limits.{address_small}
 use Rattle.pages.proofs.page_end.Goals as goal

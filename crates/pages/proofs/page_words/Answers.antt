@@ -1,5 +1,4 @@
 -- `pages::page_words` meets its contract: n is at most 8, so the shift drops no bit.
-use borrow.Author.Rules.{rules}
 use native.Mathlib.Omega.{arith}
 use mathlib.Core.Path.{◌∙◌}
 use native.Mathlib.Nat.{one-mul}

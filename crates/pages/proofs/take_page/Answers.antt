@@ -1,5 +1,4 @@
 -- `pages::take_page` meets its contract: page k lies inside the heap, and its two words are written in the order of `take_page`.
-use borrow.Author.Rules.{rules}
 use native.Mathlib.Omega.{arith}
 use lib.ListN.{length-set}
 use Rattle.rules.proofs.Limits.{page_number}

@@ -1,5 +1,4 @@
 -- `rows::clear_row` meets its contract: the row lies inside the table, and its four words become 0 in order.
-use borrow.Author.Rules.{rules}
 use native.Mathlib.Omega.{arith}
 use lib.ListN.{length-set}
 use Rattle.rows.proofs.clear_row.Goals as goal

@@ -3,7 +3,6 @@ use Prim.Native.Nat.{ℕ, suc, ◌/◌, ◌^◌, ◌<◌, ◌≤◌}
 use native.Mathlib.Nat.{div-add-mod', mul-le-mul_left}
 use native.Mathlib.Omega.{arith}
 use mathlib.Core.Path.{◌≡◌, ◌∙◌, ap}
-use borrow.Author.Rules.{rules}
 use Rattle.rules.proofs.Limits.{page_size}
 use Rattle.rows.proofs.first_link.Goals as goal
 

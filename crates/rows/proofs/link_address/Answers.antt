@@ -1,7 +1,6 @@
 -- `rows::link_address` meets its contract: it is the address of the page, as both conversions say.
 use mathlib.Core.Path.{◌∙◌, ap}
 use Prim.Native.Nat.{◌*◌, ◌^◌}
-use borrow.Author.Rules.{rules}
 use Rattle.rows.proofs.link_address.Goals as goal
 
 pub returns : goal.returns

@@ -1,7 +1,6 @@
 -- `rows::top_of` meets its contract: the row lies inside the table, and a word of it is below 2^32.
 use Prim.Native.Nat.{◌+◌, ◌*◌}
 use native.Mathlib.Omega.{arith}
-use borrow.Author.Rules.{rules}
 use Rattle.rows.proofs.top_of.Goals as goal
 
 pub overflow_cast-table : goal.overflow_cast-table

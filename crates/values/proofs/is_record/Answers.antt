@@ -6,15 +6,11 @@ use lib.Dec.{eqb}
 use Rattle.rules.specs.Words.{is_record}
 use Rattle.rules.proofs.Headers.{record_by_lem}
 use Rattle.laws.proofs.Turned.{eqb_turned}
-use Rattle.values.proofs.is_record.Statement.{statement}
-use Rattle.values.proofs.is_record.Tie as tie
+use Rattle.values.proofs.is_record.Goals as goal
 
 -- the test b, however it is written
 record-test : (h : ℕ) (b : Bool) → b ≡ eqb (h % 8) 1 → b ≡ is_record h
 record-test h b q = q ∙ sym (record_by_lem h)
 
-returns : tie.Need-returns
+pub returns : goal.returns
 returns c = search (record-test, eqb_turned)
-
-pub is-record-spec : {M : Type 1} → statement M
-is-record-spec = tie.close (tie.spec returns)
