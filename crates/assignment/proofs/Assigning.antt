@@ -25,7 +25,7 @@ pub record Lies (h : List ℕ) (a : ℕ) : Type 0 where
   pub header : a < length h
   pub value : a + 1 + at h a / 8 ≤ length h
 
-pub lies : (n R : ℕ) (h : List ℕ) (a : ℕ) {g : Bool} → Paged n (length h) → g ≡ good_heap n R h a → not g ≡ false → Lies h a
+pub lies : (n R : ℕ) (h : List ℕ) (a : ℕ) {g : Bool} → Paged n (length h) → g ≡ good_heap n R h a → g ≡ true → Lies h a
 lies n R h a {g} p e t =
     let f = good_fits n R h a p (told_true e t) in
     let header = f.0 in
@@ -38,34 +38,34 @@ module _ (h t r k : List ℕ) (c : Control) (w i x : ℕ) where
 
   module _ (a : ℕ) where
     module _ (is : word_of w ≡ in_const a) {g : Bool} (e : g ≡ good_const k a) where
-      pub to_no_const : not g ≡ true → refused (lent h t r k c) Refusal.NotGood ≡ assign_by (lent h t r k c) (word_of w) i x
+      pub to_no_const : g ≡ false → refused (lent h t r k c) Refusal.NotGood ≡ assign_by (lent h t r k c) (word_of w) i x
       unfolding assign_by
       to_no_const f = rw (is, ← e, f)
 
-      pub to_const : not g ≡ false → refused (lent h t r k c) Refusal.Constant ≡ assign_by (lent h t r k c) (word_of w) i x
+      pub to_const : g ≡ true → refused (lent h t r k c) Refusal.Constant ≡ assign_by (lent h t r k c) (word_of w) i x
       unfolding assign_by
       to_const f = rw (is, ← e, f)
 
     module _ (is : word_of w ≡ in_heap a) {g : Bool} (e : g ≡ good_heap c.n c.regions h a) where
-      pub to_no_heap : not g ≡ true → refused (lent h t r k c) Refusal.NotGood ≡ assign_by (lent h t r k c) (word_of w) i x
+      pub to_no_heap : g ≡ false → refused (lent h t r k c) Refusal.NotGood ≡ assign_by (lent h t r k c) (word_of w) i x
       unfolding assign_by
       to_no_heap f = rw (is, ← e, f)
 
-      module _ (good : not g ≡ false) {d : Bool} (e' : d ≡ is_record (at h a)) where
-        pub to_raw : not d ≡ true → refused (lent h t r k c) Refusal.NoFields ≡ assign_by (lent h t r k c) (word_of w) i x
+      module _ (good : g ≡ true) {d : Bool} (e' : d ≡ is_record (at h a)) where
+        pub to_raw : d ≡ false → refused (lent h t r k c) Refusal.NoFields ≡ assign_by (lent h t r k c) (word_of w) i x
         unfolding assign_by assign_at
         to_raw f = rw (is, ← e, good, ← e', f)
 
-        module _ (rec : not d ≡ false) where
+        module _ (rec : d ≡ true) where
           pub to_no_field : at h a / 8 ≤ i → refused (lent h t r k c) Refusal.NoSuch ≡ assign_by (lent h t r k c) (word_of w) i x
           unfolding assign_by assign_at
           to_no_field l = rw (is, ← e, good, ← e', rec, le-leb (at h a / 8) i l)
 
           module _ (field : i < at h a / 8) {b : Bool} (e'' : b ≡ good_in c.n c.regions h k x) where
-            pub no_word : not b ≡ true → refused (lent h t r k c) Refusal.NotGood ≡ assign_by (lent h t r k c) (word_of w) i x
+            pub no_word : b ≡ false → refused (lent h t r k c) Refusal.NotGood ≡ assign_by (lent h t r k c) (word_of w) i x
             unfolding assign_by assign_at
             no_word f = rw (is, ← e, good, ← e', rec, lt-leb (at h a / 8) i field, ← e'', f)
 
-            pub assigned : (m : ℕ) → m ≡ a + i + 1 → not b ≡ false → outcome (Plain.Done c) (set h m x) t r k ≡ assign_by (lent h t r k c) (word_of w) i x
+            pub assigned : (m : ℕ) → m ≡ a + i + 1 → b ≡ true → outcome (Plain.Done c) (set h m x) t r k ≡ assign_by (lent h t r k c) (word_of w) i x
             unfolding assign_by assign_at
             assigned m at_field f = rw (at_field, is, ← e, good, ← e', rec, lt-leb (at h a / 8) i field, ← e'', f, add-one (a + i))

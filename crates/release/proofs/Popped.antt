@@ -39,12 +39,12 @@ module _ (s : Store) (p : Passes s) where
 
   module _ (some : s.ctl.regions ≡ 0 → ⊥) (j : ℕ) (top : j ≡ s.ctl.regions - 1)
       (free : Bool) (told : free ≡ let_go s.ctl.n s.heap s.table s.roots j) where
-    pub pop_held : not free ≡ true → refused s Refusal.Held ≡ pop s
+    pub pop_held : free ≡ false → refused s Refusal.Held ≡ pop s
     unfolding pop pop_top
     pop_held f = sym (passed s p (refused s) _ ∙ rw (ne_eqb _ _ some, ← top, ← told, f))
 
     -- the heap and the record are left as h and c, and the table as t
-    pub pop_done : (l : ℕ) (h t : List ℕ) (c : Control) → not free ≡ false → l ≡ first_link s.ctl.n s.table j
+    pub pop_done : (l : ℕ) (h t : List ℕ) (c : Control) → free ≡ true → l ≡ first_link s.ctl.n s.table j
         → Left (give_chain s.ctl.n (page_count s.ctl.n s.heap) l) s.heap s.ctl h c → t ≡ set_row s.table j 0 0 0 0
         → outcome (Plain.Done (control s.ctl.n (s.ctl.regions - 1) c.first c.last c.count)) h t s.roots s.consts ≡ pop s
     unfolding pop pop_top pop_on

@@ -5,18 +5,11 @@ use native.Mathlib.Omega.{arith}
 use lib.Dec.{leb}
 use borrow.Author.Rules.{rules}
 use Rattle.rules.specs.Calls.{due_at}
-use Rattle.due.proofs.due_at.Statement.{statement}
-use Rattle.due.proofs.due_at.Tie as tie
+use Rattle.due.proofs.due_at.Goals as goal
 
 -- both tests, `<` and `<=`, are a `leb`: m is what must not be above the pages
 thrice : (m count pages : ℕ) → m ≡ suc (3 * count) → leb m pages ≡ due_at count pages
 thrice m count pages e = rw e
 
-mul-result : tie.Need-overflow-mul-result
-mul-result c = search rules
-
-returns : tie.Need-returns
+pub returns : goal.returns
 returns c = thrice _ c.args.count c.args.pages (omega arith)
-
-pub due-at-spec : {M : Type 1} → statement M
-due-at-spec = tie.close (tie.spec mul-result returns)

@@ -1,0 +1,12 @@
+-- `allocation::words_fit` meets its contract: only the words of a record are judged.
+use borrow.Author.Rules.{rules}
+use Rattle.allocation.proofs.words_fit.Goals as goal
+
+pub good_words-requires : goal.good_words-requires
+good_words-requires c = c.requires
+
+pub returns-in-Record : goal.returns-in-Record
+returns-in-Record c = λ t r. rw c.in-Record.is c.good_words.ensures
+
+pub returns-in-Raw : goal.returns-in-Raw
+returns-in-Raw c = λ t r. rw c.in-Raw.is
