@@ -14,14 +14,14 @@ use rows::{first_link, first_of, link_address};
 use rules::{Control, Region};
 
 // The pages of the regions' chains, or that one is broken.
-#[derive(Drop)]
+#[derive(Clone, Copy)]
 pub enum Chained {
     Pages(usize),
     Broken,
 }
 
 // The pages of the free list and the link to the last of them, or that it is broken.
-#[derive(Drop)]
+#[derive(Clone, Copy)]
 pub enum Listed {
     Pages(usize, u32),
     Broken,

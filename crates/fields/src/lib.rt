@@ -20,7 +20,7 @@ use rules::{Control, Region};
 use values::{fits, good_word, is_record};
 
 // What a word is tested for: that it is a number or a good pointer, or that it does not point into a region.
-#[derive(Drop)]
+#[derive(Clone, Copy)]
 pub enum Wanted {
     Good,
     Apart(Region),

@@ -5,7 +5,7 @@
 use rules::{Address, Region};
 
 // What a step says: go on with a region at a scan address; all is scanned; a page is wanted and none is free.
-#[derive(Drop)]
+#[derive(Clone, Copy)]
 pub enum Step {
     Go(Region, Address),
     Finished,

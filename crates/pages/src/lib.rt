@@ -121,7 +121,7 @@ pub fn link_fits(heap: &[u32], k: Page, n: u32, count: u32) -> bool
 }
 
 // The free list after a page is taken.
-#[derive(Drop)]
+#[derive(Clone, Copy)]
 pub struct Taken {
     pub first: u32,
     pub last: u32,
