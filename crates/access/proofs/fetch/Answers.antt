@@ -1,7 +1,6 @@
 -- `access::fetch` meets its contract: after the first tests it hands back what `look` does.
 use mathlib.Core.Path.{◌∙◌}
 use mathlib.Core.List.{[]}
-use borrow.Author.Rules.{rules}
 use Rattle.rules.specs.Calls.{fetch}
 use Rattle.limits.proofs.First.{tests_refuse, tests_pass, tests_admit}
 use Rattle.access.proofs.fetch.Goals as goal

@@ -1,6 +1,5 @@
 -- `access::fetch_refusal` meets its contract: a value that is there has at least its header, so the part is empty only where there is none.
 use native.Mathlib.Omega.{arith}
-use borrow.Author.Rules.{rules}
 use Rattle.rules.specs.declared.Plain.{Plain}
 use Rattle.rules.specs.Calls.{fetch_refusal}
 use Rattle.rules.proofs.Looks.{there_none, there_some}

@@ -1,5 +1,4 @@
 -- `access::set_root` meets its contract: the tests in their order, and one word written inside the roots.
-use borrow.Author.Rules.{rules}
 use borrow.Author.Tests.{le-leb, lt-leb}
 use Rattle.rules.specs.Calls.{set_root}
 use Rattle.rules.specs.Memory.{lent}

@@ -1,5 +1,4 @@
 -- `allocation::allocate` meets its contract: after the tests in their order all that placing the value asks for is known.
-use borrow.Author.Rules.{rules}
 use Prim.Native.Nat.{◌+◌, ◌^◌, ◌<◌, ◌≤◌}
 use native.Mathlib.Omega.{arith}
 use borrow.Author.Tests.{le-leb, lt-leb, lt-ltb, le-ltb}

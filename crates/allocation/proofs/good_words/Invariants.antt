@@ -1,15 +1,11 @@
 -- `allocation::good_words` meets its contract: each word passed is good, and the test over the words from i on is still the whole answer.
 use Prim.Native.Nat.{◌-◌, ◌≤◌}
-use mathlib.Core.Path.{◌≡◌, sym, ◌∙◌}
+use mathlib.Core.Path.{◌≡◌}
 use mathlib.Core.Bool.{true, ◌&&◌}
-use native.Mathlib.Omega.{arith}
-use native.Mathlib.Nat.{le_refl}
 use lib.ListN.{length}
 use lib.Seq.{slice}
 use Rattle.laws.specs.Lists.{all}
 use Rattle.rules.specs.Words.{good_in}
-use Rattle.laws.proofs.Tests.{fields_all, fields_go, fields_stop, fields_end}
-use Rattle.laws.proofs.Turned.{told_true, told_false}
 use Rattle.allocation.proofs.good_words.Given as goal
 
 abbrev pub invariant-loop-i : goal.invariant-loop-i

@@ -1,5 +1,4 @@
 -- `allocation::header_for` meets its contract: one case of `header_for` for each kind.
-use borrow.Author.Rules.{rules}
 use Rattle.allocation.proofs.header_for.Goals as goal
 
 pub returns-in-Record : goal.returns-in-Record

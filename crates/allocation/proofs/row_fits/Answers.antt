@@ -1,5 +1,4 @@
 -- `allocation::row_fits` meets its contract: it makes the tests of `row_fits` one by one.
-use borrow.Author.Rules.{rules}
 use Prim.Native.Nat.{◌+◌, ◌<◌, ◌≤◌}
 use mathlib.Core.Path.{◌≡◌}
 use native.Mathlib.Omega.{arith}

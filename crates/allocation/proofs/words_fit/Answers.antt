@@ -1,5 +1,4 @@
 -- `allocation::words_fit` meets its contract: only the words of a record are judged.
-use borrow.Author.Rules.{rules}
 use Rattle.allocation.proofs.words_fit.Goals as goal
 
 pub good_words-requires : goal.good_words-requires

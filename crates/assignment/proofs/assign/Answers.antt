@@ -3,7 +3,6 @@ use Rattle.rules.specs.Calls.{assign}
 use Rattle.rules.specs.Memory.{lent}
 use Rattle.rules.specs.Refusals.{refused}
 use Rattle.limits.proofs.First.{tests_refuse, tests_pass, tests_admit}
-use borrow.Author.Rules.{rules}
 use Rattle.assignment.proofs.assign.Goals as goal
 
 pub returns-in-Refused : goal.returns-in-Refused

@@ -1,6 +1,5 @@
 -- `assignment::assign_into` meets its contract: its tests are the definition's, in its order, and a field of a good record lies inside the heap.
 use native.Mathlib.Omega.{arith}
-use borrow.Author.Rules.{rules}
 use Rattle.rules.proofs.Looks.{word_is_number, word_is_const, word_is_heap}
 use Rattle.assignment.proofs.Assigning.{Lies, lies, to_number, to_no_const, to_const, to_no_heap, to_raw, to_no_field, no_word, assigned}
 use Rattle.assignment.proofs.assign_into.Goals as goal

@@ -1,19 +1,14 @@
 -- `chains::free_listed` meets its contract: what is left to test is the whole test, the pages passed with those that are left are all of them, and
 -- the last link of those that are left is the last link.
-use mathlib.Core.Path.{◌≡◌, refl, sym, ◌∙◌}
+use mathlib.Core.Path.{◌≡◌}
 use mathlib.Core.Bool.{true, ◌&&◌}
-use mathlib.Core.Logic.{⊎_elim}
-use Prim.Native.Nat.{◌+◌, ◌^◌, ◌≤◌}
-use native.Mathlib.Omega.{arith}
+use Prim.Native.Nat.{◌+◌}
 use lib.Dec.{eqb}
 use lib.ListN.{length}
-use Rattle.laws.proofs.Tallies.{sum_done, sum_skip, sum_step}
 use Rattle.rules.specs.Memory.{chain, chain_end, free_pages}
 use Rattle.rules.specs.Audit.{ends_well, last_link}
-use Rattle.rules.proofs.Limits.{Inside, page_here, pages_few}
-use Rattle.rules.proofs.Chains.{Over, next_page_lem, over_fuel, over_none, over_bad}
 use Rattle.chains.specs.Walked.{bear}
-use Rattle.chains.proofs.Turns.{last_by, chained_page, chained_other, chained_ends, chained_hangs, length_page, length_over, last_page_lem, last_over, list_open, list_length, list_last, free_short, all_listed, not_listed}
+use Rattle.chains.proofs.Turns.{last_by}
 use Rattle.chains.proofs.free_listed.Given as goal
 
 abbrev pub invariant-pages : goal.invariant-pages

@@ -1,21 +1,13 @@
 -- `chains::regions_chained` meets its contract. At each level what is left to test, with what the outer level has left, is the whole test, and
 -- the pages passed with those that are left are all pages.
-use mathlib.Core.Path.{◌≡◌, sym, ◌∙◌}
+use mathlib.Core.Path.{◌≡◌}
 use mathlib.Core.Bool.{◌&&◌}
-use mathlib.Core.Logic.{⊎_elim}
-use Prim.Native.Nat.{suc, ◌+◌, ◌-◌, ◌^◌, ◌≤◌}
-use native.Mathlib.Omega.{arith}
+use Prim.Native.Nat.{suc, ◌+◌, ◌-◌}
 use lib.Dec.{eqb}
 use lib.ListN.{length}
 use Rattle.laws.specs.Lists.{all_from}
-use Rattle.laws.proofs.Tests.{from_end}
-use Rattle.laws.proofs.Tallies.{sum_done, sum_skip, sum_step, sum_open}
-use Rattle.laws.proofs.Turned.{told_true, told_false}
 use Rattle.rules.specs.Memory.{chain, chain_end, pages_from}
-use Rattle.rules.proofs.Limits.{Inside, page_here, pages_few}
-use Rattle.rules.proofs.Chains.{Over, next_page_lem, over_fuel, over_none, over_bad}
 use Rattle.chains.specs.Walked.{bear, region_chained}
-use Rattle.chains.proofs.Turns.{chained_open, chained_shut, chained_page, chained_other, chained_ends, chained_hangs, length_open, length_page, length_over, length_none, pages_short, all_chained, not_chained}
 use Rattle.chains.proofs.regions_chained.Given as goal
 
 abbrev pub invariant-pages : goal.invariant-pages

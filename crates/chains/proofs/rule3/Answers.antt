@@ -1,7 +1,6 @@
 -- `chains::rule3` meets its contract: the walks' answers and the three tests are the walked form of rule 3.
 use mathlib.Core.Path.{sym, ap, ◌∙◌}
 use native.Mathlib.Omega.{arith}
-use borrow.Author.Rules.{rules}
 use borrow.Author.Tests.{eq-eqb, ne_eqb}
 use lib.Dec.{eqb}
 use Rattle.chains.proofs.Three.{three_chained, three_listed, three_sums, sums_fit}

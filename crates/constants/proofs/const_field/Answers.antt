@@ -1,7 +1,6 @@
 -- `constants::const_field` meets its contract: each way in which the code decides is what the definition decides.
 use mathlib.Core.Path.{sym, ap, ◌∙◌}
 use native.Mathlib.Omega.{arith}
-use borrow.Author.Rules.{rules}
 use Rattle.rules.specs.Words.{good_const}
 use Rattle.constants.proofs.Constants.{field_heap, field_const, field_number}
 use Rattle.constants.proofs.const_field.Goals as goal

@@ -1,15 +1,10 @@
 -- `constants::const_fields` meets its contract: at each level what is left to test, with what the outer level has left, is the whole test.
-use mathlib.Core.Path.{◌≡◌, refl, sym, ◌∙◌}
-use mathlib.Core.Bool.{true, ◌&&◌}
-use Prim.Native.Nat.{◌-◌, ◌≤◌}
+use mathlib.Core.Path.{refl, sym, ◌∙◌}
+use Prim.Native.Nat.{◌≤◌}
 use native.Mathlib.Omega.{arith}
 use lib.ListN.{length}
-use lib.Seq.{slice}
-use Rattle.laws.specs.Lists.{all}
 use Rattle.laws.proofs.Tests.{fields_end, fields_go, fields_stop}
 use Rattle.laws.proofs.Turned.{told_true, told_false}
-use Rattle.rules.specs.Words.{vals_in, const_vals, fields_pass}
-use Rattle.rules.specs.Audit.{const_field}
 use Rattle.rules.proofs.Headers.{fit_of}
 use Rattle.rules.proofs.Stepping.{vals_none, vals_stop, values_over, raw_go, record_go}
 use Rattle.constants.proofs.Constants.{consts_all}

@@ -1,13 +1,11 @@
 -- `constants::consts_filled` meets its contract: the zeros after the values that are left are those after all values.
 use mathlib.Core.Path.{◌≡◌, sym, ◌∙◌}
-use mathlib.Core.Logic.{⊎_elim}
-use Prim.Native.Nat.{◌-◌, ◌≤◌}
+use Prim.Native.Nat.{◌≤◌}
 use native.Mathlib.Omega.{arith}
 use lib.ListN.{length}
 use Rattle.laws.proofs.Turned.{told_true, told_false}
-use Rattle.rules.specs.Audit.{filled}
 use Rattle.rules.proofs.Stepping.{vals_none, vals_stop}
-use Rattle.contents.proofs.Turns.{Zeros, zeros_over, zeros_step}
+use Rattle.contents.proofs.Turns.{zeros_over, zeros_step}
 use Rattle.constants.proofs.Constants.{filled_all}
 use Rattle.rules.specs.Words.{vals_in}
 use mathlib.Core.List.{[]}

@@ -1,7 +1,6 @@
 -- `contents::rule5` meets its contract: at each level what is left to test, with what the outer levels have left, is the whole rule.
 use mathlib.Core.Path.{◌≡◌, refl, sym, ap, ◌∙◌}
-use mathlib.Core.Bool.{true, ◌&&◌}
-use mathlib.Core.Logic.{⊎_elim}
+use mathlib.Core.Bool.{◌&&◌}
 use Prim.Native.Nat.{◌+◌, ◌-◌, ◌^◌, ◌≤◌}
 use native.Mathlib.Omega.{arith}
 use lib.ListN.{length, get_or}
@@ -16,7 +15,7 @@ use Rattle.rules.proofs.Limits.{Inside, page_here, pages_few}
 use Rattle.rules.proofs.Chains.{Over, next_page_lem, over_fuel, over_none, over_bad}
 use Rattle.rules.proofs.Nests.{pages_over, regions_go}
 use Rattle.rules.proofs.Stepping.{vals_none, vals_stop}
-use Rattle.contents.proofs.Turns.{Rest, Passed, five_page, rest_over, rest_go, zeros_off, page_on, page_at, page_off}
+use Rattle.contents.proofs.Turns.{Passed, five_page, rest_over, rest_go, zeros_off, page_on, page_at, page_off}
 use Rattle.contents.proofs.rule5.Goals as goal
 use Rattle.contents.proofs.rule5.Goals.{else-values-test, then-values-test+then-not-fits, After-address_behind-end, After-link_address-base, After-page_count-pages, Left-pages, Left-values, else-pages-test, then-pages-test+else-link-eq0+then-pages-link, then-pages-test+then-link-eq0}
 

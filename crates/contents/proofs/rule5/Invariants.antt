@@ -1,21 +1,12 @@
 -- `contents::rule5` meets its contract: at each level what is left to test, with what the outer levels have left, is the whole rule.
-use mathlib.Core.Path.{◌≡◌, refl, sym, ap, ◌∙◌}
+use mathlib.Core.Path.{◌≡◌}
 use mathlib.Core.Bool.{true, ◌&&◌}
-use mathlib.Core.Logic.{⊎_elim}
-use Prim.Native.Nat.{◌+◌, ◌-◌, ◌^◌, ◌≤◌}
-use native.Mathlib.Omega.{arith}
-use lib.ListN.{length, get_or}
+use Prim.Native.Nat.{◌+◌, ◌-◌}
+use lib.ListN.{get_or}
 use Rattle.laws.specs.Lists.{all, all_from}
-use Rattle.laws.proofs.Tests.{from_end}
-use Rattle.laws.proofs.Turned.{told_true, told_false}
 use Rattle.rules.specs.Memory.{chain, region_pages}
-use Rattle.rules.specs.Words.{fits}
-use Rattle.rules.specs.Audit.{page_filled, rule5}
-use Rattle.rules.proofs.Limits.{Inside, page_here, pages_few}
-use Rattle.rules.proofs.Chains.{Over, next_page_lem, over_fuel, over_none, over_bad}
-use Rattle.rules.proofs.Nests.{pages_over, regions_go}
-use Rattle.rules.proofs.Stepping.{vals_none, vals_stop}
-use Rattle.contents.proofs.Turns.{Rest, Passed, five_page, rest_over, rest_go, zeros_off, page_on, page_at, page_off}
+use Rattle.rules.specs.Audit.{page_filled}
+use Rattle.contents.proofs.Turns.{Rest}
 use Rattle.contents.proofs.rule5.Given as goal
 
 abbrev pub invariant-values : goal.invariant-values

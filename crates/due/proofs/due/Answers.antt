@@ -1,5 +1,4 @@
 -- `due::due` meets its contract: the first tests, and then the one comparison.
-use borrow.Author.Rules.{rules}
 use Rattle.rules.specs.declared.Told.{Told}
 use Rattle.rules.specs.Calls.{due}
 use Rattle.limits.proofs.First.{tests_refuse, tests_pass, tests_admit}

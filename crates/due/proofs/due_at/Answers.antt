@@ -3,7 +3,6 @@ use Prim.Native.Nat.{ℕ, suc, ◌*◌}
 use mathlib.Core.Path.{◌≡◌}
 use native.Mathlib.Omega.{arith}
 use lib.Dec.{leb}
-use borrow.Author.Rules.{rules}
 use Rattle.rules.specs.Calls.{due_at}
 use Rattle.due.proofs.due_at.Goals as goal
 

@@ -1,19 +1,11 @@
 -- `ends::rule4` meets its contract: at each level what is left to test, with what the outer level has left, is the whole rule.
-use mathlib.Core.Path.{◌≡◌, refl, sym, ◌∙◌}
+use mathlib.Core.Path.{◌≡◌}
 use mathlib.Core.Bool.{true, ◌&&◌}
-use mathlib.Core.Logic.{⊎_elim}
-use Prim.Native.Nat.{◌+◌, ◌-◌, ◌^◌, ◌≤◌}
-use native.Mathlib.Omega.{arith}
-use lib.ListN.{length}
+use Prim.Native.Nat.{◌+◌, ◌-◌}
 use Rattle.laws.specs.Lists.{all, all_from}
-use Rattle.laws.proofs.Tests.{from_end}
-use Rattle.laws.proofs.Turned.{told_true, told_false}
 use Rattle.rules.specs.Memory.{chain}
 use Rattle.rules.specs.Audit.{ends_at}
-use Rattle.rules.proofs.Limits.{Inside, page_here, pages_few}
-use Rattle.rules.proofs.Chains.{Over, next_page_lem, over_fuel, over_none, over_bad}
-use Rattle.rules.proofs.Nests.{pages_over}
-use Rattle.ends.proofs.Turns.{region_ends, four_each, four_shut, four_open, four_on, four_at, four_off}
+use Rattle.ends.proofs.Turns.{region_ends}
 use Rattle.ends.proofs.rule4.Given as goal
 
 abbrev pub invariant-pages : goal.invariant-pages

@@ -1,13 +1,9 @@
 -- `ends::rule9` meets its contract: what is left to test from the present page on is the whole rule.
-use mathlib.Core.Path.{◌≡◌, refl, sym, ◌∙◌}
-use mathlib.Core.Bool.{true, ◌&&◌}
+use mathlib.Core.Path.{refl, sym, ◌∙◌}
 use Prim.Native.Nat.{◌^◌, ◌≤◌}
 use native.Mathlib.Omega.{arith}
 use lib.ListN.{length}
-use Rattle.laws.specs.Lists.{all}
 use Rattle.laws.proofs.Turned.{told_true, told_false}
-use Rattle.rules.specs.Memory.{chain}
-use Rattle.rules.specs.Audit.{clean}
 use Rattle.rules.proofs.Limits.{Inside, page_here, pages_few}
 use Rattle.rules.proofs.Chains.{next_page_lem, over_fuel, over_none, over_bad}
 use Rattle.rules.proofs.Nests.{pages_over}

@@ -1,24 +1,15 @@
 -- `fields::records_pass` meets its contract: at each of the four levels what is left to test, with what the outer levels have left, is the whole test.
-use mathlib.Core.Path.{◌≡◌, refl, sym, ◌∙◌}
+use mathlib.Core.Path.{◌≡◌}
 use mathlib.Core.Bool.{true, ◌&&◌}
-use mathlib.Core.Logic.{⊎_elim}
-use Prim.Native.Nat.{◌+◌, ◌-◌, ◌^◌, ◌≤◌}
-use native.Mathlib.Omega.{arith}
-use lib.ListN.{length, get_or}
+use Prim.Native.Nat.{◌+◌, ◌-◌}
+use lib.ListN.{get_or}
 use lib.Seq.{slice}
 use Rattle.laws.specs.Lists.{all}
-use Rattle.laws.proofs.Tests.{from_end, fields_end, fields_go, fields_stop}
-use Rattle.laws.proofs.Turned.{told_true, told_false}
 use Rattle.rules.specs.Memory.{chain}
 use Rattle.rules.specs.Words.{vals_in, fields_pass}
 use Rattle.rules.specs.Audit.{page_pass}
-use Rattle.rules.proofs.Headers.{fit_of}
-use Rattle.rules.proofs.Limits.{Inside, page_here, pages_few}
-use Rattle.rules.proofs.Stepping.{vals_none, vals_stop, values_over, raw_go, record_go}
-use Rattle.rules.proofs.Chains.{Over, next_page_lem, over_fuel, over_none, over_bad}
-use Rattle.rules.proofs.Nests.{pages_over, regions_go}
 use Rattle.fields.specs.Passing.{passes}
-use Rattle.fields.proofs.Turns.{Records, page_records}
+use Rattle.fields.proofs.Turns.{Records}
 use Rattle.fields.proofs.records_pass.Given as goal
 
 abbrev pub invariant-loop-field : goal.invariant-loop-field

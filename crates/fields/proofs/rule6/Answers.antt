@@ -1,5 +1,4 @@
 -- `fields::rule6` meets its contract: the fields of all regions are tested for what the rule says.
-use native.Mathlib.Omega.{arith}
 use Rattle.rules.specs.Audit.{rule6}
 use Rattle.fields.specs.Passing.{passes}
 use Rattle.fields.proofs.rule6.Goals as goal

@@ -1,7 +1,6 @@
 -- `fields::word_passes` meets its contract: each case of what is wanted has its own test.
 use mathlib.Core.Path.{sym, ap, ◌∙◌}
 use mathlib.Core.Bool.{not}
-use borrow.Author.Rules.{rules}
 use Rattle.fields.proofs.Turns.{pass_good, pass_apart}
 use Rattle.fields.proofs.word_passes.Goals as goal
 

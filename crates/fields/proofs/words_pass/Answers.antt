@@ -1,14 +1,8 @@
 -- `fields::words_pass` meets its contract: what is left to test, from the present word on, is the whole test.
-use mathlib.Core.Path.{◌≡◌, refl, sym, ◌∙◌}
-use mathlib.Core.Bool.{true, ◌&&◌}
-use Prim.Native.Nat.{◌-◌}
+use mathlib.Core.Path.{sym, ◌∙◌}
 use native.Mathlib.Nat.{le_refl}
-use native.Mathlib.Omega.{arith}
-use lib.Seq.{slice}
-use Rattle.laws.specs.Lists.{all}
 use Rattle.laws.proofs.Tests.{fields_all, fields_end, fields_go, fields_stop}
 use Rattle.laws.proofs.Turned.{told_true, told_false}
-use Rattle.fields.specs.Passing.{passes}
 use Rattle.fields.proofs.words_pass.Goals as goal
 
 pub word_passes-requires : goal.word_passes-requires

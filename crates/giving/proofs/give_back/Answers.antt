@@ -1,5 +1,4 @@
 -- `giving::give_back` meets its contract: the page is cleared, and where there was a last free page, its link is written.
-use borrow.Author.Rules.{rules}
 use mathlib.Core.Path.{refl}
 use native.Mathlib.Omega.{arith}
 use Rattle.rules.proofs.Limits.{page_number, page_here, pages_few}

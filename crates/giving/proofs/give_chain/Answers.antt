@@ -3,7 +3,7 @@ use mathlib.Core.Path.{ap}
 use native.Mathlib.Omega.{arith}
 use Rattle.laws.specs.Lists.{at}
 use Rattle.rules.proofs.Limits.{page_here, pages_few}
-use Rattle.giving.proofs.Going.{Going, begins, goes_free, goes_on, ends_none, ends_far, ends_out}
+use Rattle.giving.proofs.Going.{begins, goes_free, goes_on, ends_none, ends_far, ends_out}
 use Rattle.giving.proofs.give_chain.Goals as goal
 
 pub page_count-pages-requires : goal.page_count-pages-requires

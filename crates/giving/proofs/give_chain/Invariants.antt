@@ -1,9 +1,5 @@
 -- `giving::give_chain` meets its contract: the loop goes along the links, and a turn is what `give_back` does.
-use mathlib.Core.Path.{ap}
-use native.Mathlib.Omega.{arith}
-use Rattle.laws.specs.Lists.{at}
-use Rattle.rules.proofs.Limits.{page_here, pages_few}
-use Rattle.giving.proofs.Going.{Going, begins, goes_free, goes_on, ends_none, ends_far, ends_out}
+use Rattle.giving.proofs.Going.{Going}
 use Rattle.giving.proofs.give_chain.Given as goal
 
 abbrev pub invariant-loop-left : goal.invariant-loop-left

@@ -3,7 +3,6 @@ use borrow.Author.Tests.{le-leb, lt-leb}
 use Rattle.rules.specs.declared.Valued.{Valued}
 use Rattle.rules.specs.Calls.{walk}
 use Rattle.limits.proofs.First.{tests_refuse, tests_pass, tests_admit}
-use borrow.Author.Rules.{rules}
 use Rattle.paths.proofs.walk.Goals as goal
 
 pub returns-in-Refused : goal.returns-in-Refused

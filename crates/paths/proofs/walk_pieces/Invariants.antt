@@ -1,13 +1,10 @@
 -- `paths::walk_pieces` meets its contract: the walk of the whole path from w is the walk of what lies behind i from the word reached. A piece that
 -- ends moves both on, one that stops stops the whole. The measure is what is left of the path.
-use Prim.Native.Nat.{◌+◌, ◌-◌, ◌≤◌}
-use mathlib.Core.Path.{◌≡◌, sym, ap, ◌∙◌}
+use Prim.Native.Nat.{◌-◌, ◌≤◌}
+use mathlib.Core.Path.{◌≡◌}
 use lib.ListN.{length, drop}
-use native.Mathlib.Omega.{arith}
-use borrow.Author.Rules.{rules}
-use Rattle.rules.specs.Calls.{walk_from, walk_says}
+use Rattle.rules.specs.Calls.{walk_from}
 use Rattle.rules.specs.Words.{look as look_of}
-use Rattle.paths.proofs.Pieces.{piece_ends, piece_stops, last_piece}
 use Rattle.paths.proofs.walk_pieces.Given as goal
 
 abbrev pub invariant-loop-i : goal.invariant-loop-i

@@ -1,6 +1,4 @@
 -- `placing::append_page` meets its contract: it makes the three writes of the contract, in their order.
-use borrow.Author.Rules.{rules}
-use mathlib.Core.Path.{refl}
 use native.Mathlib.Omega.{arith}
 use lib.ListN.{length-set}
 use Rattle.placing.proofs.append_page.Goals as goal

@@ -1,5 +1,5 @@
 -- `placing::join_page` meets its contract: the page before is the one that ends at e, and the new one lies inside the heap.
-use mathlib.Core.Path.{refl, ◌∙◌}
+use mathlib.Core.Path.{refl}
 use native.Mathlib.Omega.{arith}
 use Rattle.rules.proofs.Limits.{page_number, page_inside}
 use Rattle.placing.proofs.join_page.Goals as goal

@@ -1,10 +1,8 @@
 -- `placing::put_further` meets its contract: there is no page, or one with a link that does not fit; or the page is taken, joined and filled.
-use borrow.Author.Rules.{rules}
 use Prim.Native.Nat.{◌-◌}
 use mathlib.Core.Path.{◌≡◌, sym, ap, ◌∙◌}
 use mathlib.Core.List.{◌∷◌}
 use native.Mathlib.Omega.{arith}
-use borrow.Author.Tests.{not-true, not-false}
 use lib.ListN.{length}
 use Rattle.rules.specs.Memory.{lent}
 use Rattle.rules.specs.Pages.{link_fits}

@@ -1,9 +1,9 @@
 -- `placing::put_words` meets its contract: i words are copied, and the rest is as it was.
-use Prim.Native.Nat.{◌+◌, ◌-◌, ◌<◌, ◌≤◌}
-use mathlib.Core.Path.{◌≡◌, refl, ap, ◌∙◌}
+use Prim.Native.Nat.{◌+◌, ◌<◌}
+use mathlib.Core.Path.{refl, ap, ◌∙◌}
 use native.Mathlib.Omega.{arith}
 use lib.ListN.{length, get_or, set, length-set}
-use lib.Seq.{paste, paste-zero}
+use lib.Seq.{paste-zero}
 use Rattle.laws.proofs.Copies.{paste_more, paste_all}
 use Rattle.placing.proofs.put_words.Goals as goal
 

@@ -1,5 +1,4 @@
 -- `placing::store_value` meets its contract: the header and then the words are the value at a, and a moves past them.
-use borrow.Author.Rules.{rules}
 use Prim.Native.Nat.{suc, ◌+◌}
 use mathlib.Core.Path.{◌≡◌, ap, ◌∙◌}
 use native.Mathlib.Omega.{arith}

@@ -1,6 +1,5 @@
 -- `regions::push` meets its contract: after the tests a page is there to be taken, it lies inside the heap, and what is taken and written is what
 -- `push_on` says of it.
-use borrow.Author.Rules.{rules}
 use Prim.Native.Nat.{◌≤◌, ◌<◌}
 use native.Mathlib.Omega.{arith}
 use native.Mathlib.Numerals.{add-one}

@@ -1,11 +1,10 @@
 -- `setting_up::list_pages` meets its contract. The invariant is `Linked`: the pages below k are linked, and from page k on all words are 0.
 use Prim.Native.Nat.{suc, ◌+◌, ◌/◌, ◌^◌, ◌<◌}
-use mathlib.Core.Path.{◌≡◌, refl, sym, ap, ◌∙◌}
+use mathlib.Core.Path.{refl, sym, ap, ◌∙◌}
 use native.Mathlib.Omega.{arith}
-use borrow.Author.Rules.{rules}
 use lib.ListN.{length, length-set}
 use Rattle.rules.proofs.Limits.{whole_pages, two_pages, page_number, page_inside}
-use Rattle.rules.proofs.Fresh.{Linked, linked_start, linked_more, linked_end}
+use Rattle.rules.proofs.Fresh.{linked_start, linked_more, linked_end}
 use Rattle.setting_up.proofs.list_pages.Goals as goal
 use Rattle.setting_up.proofs.list_pages.Goals.{In-loop-left}
 

@@ -1,11 +1,8 @@
 -- `setting_up::list_pages` meets its contract. The invariant is `Linked`: the pages below k are linked, and from page k on all words are 0.
-use Prim.Native.Nat.{suc, ◌+◌, ◌/◌, ◌^◌, ◌<◌}
-use mathlib.Core.Path.{◌≡◌, refl, sym, ap, ◌∙◌}
-use native.Mathlib.Omega.{arith}
-use borrow.Author.Rules.{rules}
-use lib.ListN.{length, length-set}
-use Rattle.rules.proofs.Limits.{whole_pages, two_pages, page_number, page_inside}
-use Rattle.rules.proofs.Fresh.{Linked, linked_start, linked_more, linked_end}
+use Prim.Native.Nat.{◌/◌, ◌^◌}
+use mathlib.Core.Path.{◌≡◌}
+use lib.ListN.{length}
+use Rattle.rules.proofs.Fresh.{Linked}
 use Rattle.setting_up.proofs.list_pages.Given as goal
 
 abbrev pub invariant-loop-left : goal.invariant-loop-left

@@ -1,5 +1,4 @@
 -- `setting_up::set_up` meets its contract: within the limits the cleared heap is one that `list_pages` can list, and the last page has number N - 1.
-use borrow.Author.Rules.{rules}
 use Prim.Native.Nat.{suc, ◌-◌, ◌/◌, ◌^◌}
 use mathlib.Core.Path.{◌≡◌, sym, ap, ◌∙◌}
 use native.Mathlib.Omega.{arith}

@@ -1,11 +1,7 @@
 -- `table_words::idle` meets its contract: what is left to test, from the present region on, is the whole test.
-use mathlib.Core.Path.{◌≡◌, sym, ◌∙◌}
-use Prim.Native.Nat.{◌+◌}
+use mathlib.Core.Path.{sym, ◌∙◌}
 use native.Mathlib.Omega.{arith}
-use lib.Dec.{eqb}
-use Rattle.laws.specs.Lists.{all_from}
 use Rattle.laws.proofs.Tests.{is_eqb, not_eqb, from_next, from_stop, from_end}
-use Rattle.rules.specs.Memory.{status_of}
 use Rattle.table_words.proofs.idle.Goals as goal
 
 pub loop-left-init : goal.loop-left-init

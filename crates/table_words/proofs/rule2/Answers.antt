@@ -1,6 +1,5 @@
 -- `table_words::rule2` meets its contract: the two tests are the definition's, and R is at most 64 by the first tests.
 use mathlib.Core.Path.{sym, ◌∙◌}
-use native.Mathlib.Omega.{arith}
 use Rattle.laws.proofs.Turned.{told_true, told_false}
 use Rattle.table_words.proofs.Two.{two_off, two_at}
 use Rattle.table_words.proofs.rule2.Goals as goal
