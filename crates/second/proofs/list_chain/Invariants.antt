@@ -1,7 +1,6 @@
 -- `second::list_chain` is safe and ends: each turn uses up one of the pages that may be listed.
 use mathlib.Core.Path.{◌≡◌}
 use lib.ListN.{length}
-use borrow.Author.Rules.{rules}
 use Rattle.second.proofs.list_chain.Given as goal
 
 abbrev pub invariant-loop-left : goal.invariant-loop-left

@@ -2,7 +2,6 @@
 use mathlib.Core.Path.{◌≡◌}
 use Prim.Native.Nat.{◌-◌, ◌≤◌}
 use lib.ListN.{length}
-use borrow.Author.Rules.{rules}
 use Rattle.second.proofs.list_old.Given as goal
 
 abbrev pub invariant-loop-j : goal.invariant-loop-j

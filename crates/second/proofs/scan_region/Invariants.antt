@@ -1,7 +1,6 @@
 -- `second::scan_region` is safe and ends: each turn uses up one of the copies that may be scanned.
 use mathlib.Core.Path.{◌≡◌}
 use lib.ListN.{length}
-use borrow.Author.Rules.{rules}
 use Rattle.second.proofs.scan_region.Given as goal
 
 abbrev pub invariant-loop-left : goal.invariant-loop-left
