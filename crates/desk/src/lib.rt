@@ -36,6 +36,7 @@ fn print_read(
 }
 
 // Whether a first frame asks for no more than there is room for.
+#[tactic(auto, using(laws::proofs::Tests::tests), unfolding(crate::specs::Taking::takes_head))]
 fn takes_head(h: Head) -> bool
     ensures { result ≡ takes_head h }
 {

@@ -21,7 +21,7 @@ pub enum Rest {
 }
 
 // The first frame's words.
-#[derive(Drop)]
+#[derive(Clone, Copy)]
 pub struct Head {
     pub n: u32,
     pub pages: u32,
