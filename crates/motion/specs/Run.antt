@@ -8,7 +8,7 @@ use Rattle.laws.specs.Lists.{at}
 use Rattle.laws.specs.Loop.{Turn, more, over, loop}
 use Rattle.laws.specs.Each.{After, after, each}
 use Rattle.motion.specs.declared.Step.{Step}
-use Rattle.motion.specs.Leaves.{Desk, desk, out, low, free_first, taken, page_start, region_on, copied, forwarded, wake, go_on, on_step, pop}
+use Rattle.motion.specs.Leaves.{Desk, out, low, free_first, taken, page_start, region_on, copied, forwarded, wake, go_on, on_step, pop}
 
 -- ---- What knows nothing of the page size. An answer `false` is that a page is wanted and none is free.
 

@@ -1,0 +1,25 @@
+-- `ending::own_chain` meets its contract: the loop runs `along`, and a turn writes the origin.
+use mathlib.Core.Path.{refl, sym, ◌∙◌}
+use native.Mathlib.Omega.{arith}
+use Rattle.laws.proofs.Each.{along_more, along_far, along_last, along_end}
+use Rattle.rules.proofs.Pages.{link_at}
+use Rattle.motion.proofs.Chains.{owned, named}
+use Rattle.ending.proofs.own_chain.Goals as goal
+
+pub returns-then-pages-k : goal.returns-then-pages-k
+returns-then-pages-k c = sym (along_far _ _ _ _ _ _ (omega arith)) ∙ c.loop-left.invariant
+
+pub returns-then-next-eq0 : goal.returns-then-next-eq0
+returns-then-next-eq0 c =
+    let next = link_at _ _ _ _ _ c.page_address-start.ensures c.word-next.ensures.0 in
+    let turn = owned _ _ _ _ _ _ _ c.page_address-start.ensures c.region_origin.ensures c.write.ensures in
+    sym (along_last _ _ _ _ _ _ _ _ _ c.loop-left-test.true refl c.if-pages-k.false next c.if-next-eq0.true turn) ∙ c.loop-left.invariant
+
+pub loop-left-preserved : goal.loop-left-preserved
+loop-left-preserved c =
+    let next = named _ _ c.if-next-eq0.false c.link_page-k.ensures ∙ link_at _ _ _ _ _ c.page_address-start.ensures c.word-next.ensures.0 in
+    let turn = owned _ _ _ _ _ _ _ c.page_address-start.ensures c.region_origin.ensures c.write.ensures in
+    sym (along_more _ _ _ _ _ _ _ _ _ c.loop-left-test.true refl c.if-pages-k.false next turn) ∙ c.loop-left.invariant
+
+pub returns : goal.returns
+returns c = sym (along_end _ _ _ _ _ _ c.loop-left-test.false) ∙ c.loop-left.invariant

@@ -1,0 +1,18 @@
+-- `scan_stack::scan_fields` meets its contract: the loop runs `each`, and a turn is what `evacuate` does.
+use Prim.Native.Nat.{◌+◌, ◌-◌, ◌≤◌}
+use mathlib.Core.Path.{◌≡◌}
+use Rattle.laws.specs.Each.{each}
+use Rattle.motion.specs.Leaves.{desk}
+use Rattle.motion.specs.Run.{evacuate as evacuate_def}
+use Rattle.scan_stack.proofs.scan_fields.Given as goal
+
+abbrev pub invariant-loop-i : goal.invariant-loop-i
+invariant-loop-i l = record {
+  runs :
+      each (l.l - l.i) (evacuate_def l.n) (l.x.0 + l.i) (desk l.heap l.notes) ≡
+      each l.l (evacuate_def l.n) l.x.0 (desk l.initial.heap l.initial.notes);
+  within : l.i ≤ l.l;
+}
+
+abbrev pub decreases-loop-i : goal.decreases-loop-i
+decreases-loop-i l = l.l - l.i
