@@ -6,9 +6,11 @@ use numbers::magnitude;
 use rules::{Control, Numbered, Opened, Page, Plain, Refusal, Told, Valued, Worded};
 use script::hash;
 use script::output::{flush, put, put_bytes, put_decimal, put_hex, put_word, put_words};
+use std::io;
+use std::io::Write;
 
 // What an operation answers.
-#[derive(Drop)]
+#[derive(Clone, Copy)]
 pub enum Answer {
     Unknown,
     Quiet,
@@ -24,7 +26,7 @@ pub enum Answer {
 }
 
 // An answer, and the record from then on.
-#[derive(Drop)]
+#[derive(Clone, Copy)]
 pub struct Outcome {
     pub answer: Answer,
     pub control: Control,
@@ -102,52 +104,59 @@ fn hash_of(heap: &[u32], table: &[u32], roots: &[u32], consts: &[u32], c: Contro
     hash::word(last, c.count)
 }
 
-fn put_refusal(out: &mut [u8], at: usize, why: Refusal) -> usize {
-    let a = put_bytes(out, at, b"no ");
-    let b = put_decimal(out, a, conversions::refusal_number(why) as u64);
-    let c = put(out, b, b' ');
-    put_decimal(out, c, conversions::refusal_place(why) as u64)
+fn put_refusal(to: &mut impl Write, out: &mut [u8], at: usize, why: Refusal) -> io::Result<usize> {
+    let a = put_bytes(to, out, at, b"no ")?;
+    let b = put_decimal(to, out, a, conversions::refusal_number(why) as u64)?;
+    let c = put(to, out, b, b' ')?;
+    put_decimal(to, out, c, conversions::refusal_place(why) as u64)
 }
 
-fn put_number(out: &mut [u8], at: usize, i: i32) -> usize {
+fn put_number(to: &mut impl Write, out: &mut [u8], at: usize, i: i32) -> io::Result<usize> {
     if i < 0 {
-        let a = put_bytes(out, at, b"ok -");
-        return put_decimal(out, a, magnitude(i) as u64);
+        let a = put_bytes(to, out, at, b"ok -")?;
+        return put_decimal(to, out, a, magnitude(i) as u64);
     }
-    let a = put_bytes(out, at, b"ok ");
-    put_decimal(out, a, magnitude(i) as u64)
+    let a = put_bytes(to, out, at, b"ok ")?;
+    put_decimal(to, out, a, magnitude(i) as u64)
 }
 
-fn put_told(out: &mut [u8], at: usize, yes: bool) -> usize {
+fn put_told(to: &mut impl Write, out: &mut [u8], at: usize, yes: bool) -> io::Result<usize> {
     if yes {
-        return put_bytes(out, at, b"ok 1");
+        return put_bytes(to, out, at, b"ok 1");
     }
-    put_bytes(out, at, b"ok 0")
+    put_bytes(to, out, at, b"ok 0")
 }
 
-fn put_image(out: &mut [u8], at: usize, length: u32, sum: u64) -> usize {
-    let a = put_bytes(out, at, b"ok ");
-    let b = put_decimal(out, a, length as u64);
-    let c = put(out, b, b' ');
-    put_hex(out, c, sum, 16)
+fn put_image(
+    to: &mut impl Write,
+    out: &mut [u8],
+    at: usize,
+    length: u32,
+    sum: u64,
+) -> io::Result<usize> {
+    let a = put_bytes(to, out, at, b"ok ")?;
+    let b = put_decimal(to, out, a, length as u64)?;
+    let c = put(to, out, b, b' ')?;
+    put_hex(to, out, c, sum, 16)
 }
 
-fn put_one(out: &mut [u8], at: usize, w: u32) -> usize {
-    let a = put_bytes(out, at, b"ok");
-    put_word(out, a, w)
+fn put_one(to: &mut impl Write, out: &mut [u8], at: usize, w: u32) -> io::Result<usize> {
+    let a = put_bytes(to, out, at, b"ok")?;
+    put_word(to, out, a, w)
 }
 
-fn put_count(out: &mut [u8], at: usize, k: u32) -> usize {
-    let a = put_bytes(out, at, b"ok ");
-    put_decimal(out, a, k as u64)
+fn put_count(to: &mut impl Write, out: &mut [u8], at: usize, k: u32) -> io::Result<usize> {
+    let a = put_bytes(to, out, at, b"ok ")?;
+    put_decimal(to, out, a, k as u64)
 }
 
-fn put_part(out: &mut [u8], at: usize, part: &[u32]) -> usize {
-    let a = put_bytes(out, at, b"ok");
-    put_words(out, a, part)
+fn put_part(to: &mut impl Write, out: &mut [u8], at: usize, part: &[u32]) -> io::Result<usize> {
+    let a = put_bytes(to, out, at, b"ok")?;
+    put_words(to, out, a, part)
 }
 
 fn put_value<'a>(
+    to: &mut impl Write,
     out: &mut [u8],
     at: usize,
     w: u32,
@@ -156,11 +165,12 @@ fn put_value<'a>(
     roots: &'a [u32],
     consts: &'a [u32],
     c: Control,
-) -> usize {
-    put_part(out, at, access::fetch(heap, table, roots, consts, c, w))
+) -> io::Result<usize> {
+    put_part(to, out, at, access::fetch(heap, table, roots, consts, c, w))
 }
 
 fn put_page<'a>(
+    to: &mut impl Write,
     out: &mut [u8],
     at: usize,
     k: Page,
@@ -169,8 +179,9 @@ fn put_page<'a>(
     roots: &'a [u32],
     consts: &'a [u32],
     c: Control,
-) -> usize {
+) -> io::Result<usize> {
     put_part(
+        to,
         out,
         at,
         page_views::page_by_number(heap, table, roots, consts, c, k),
@@ -179,6 +190,7 @@ fn put_page<'a>(
 
 // The end of a call's answer: the hash, and the line's end.
 fn put_hash(
+    to: &mut impl Write,
     out: &mut [u8],
     at: usize,
     heap: &[u32],
@@ -186,14 +198,15 @@ fn put_hash(
     roots: &[u32],
     consts: &[u32],
     c: Control,
-) -> usize {
-    let a = put_bytes(out, at, b" #");
-    let b = put_hex(out, a, hash_of(heap, table, roots, consts, c), 16);
-    put(out, b, b'\n')
+) -> io::Result<usize> {
+    let a = put_bytes(to, out, at, b" #")?;
+    let b = put_hex(to, out, a, hash_of(heap, table, roots, consts, c), 16)?;
+    put(to, out, b, b'\n')
 }
 
 // What a call answers, before the hash.
 fn put_result<'a>(
+    to: &mut impl Write,
     out: &mut [u8],
     at: usize,
     answer: Answer,
@@ -202,24 +215,25 @@ fn put_result<'a>(
     roots: &'a [u32],
     consts: &'a [u32],
     c: Control,
-) -> usize {
+) -> io::Result<usize> {
     match answer {
-        Answer::Word(w) => put_one(out, at, w),
-        Answer::Count(k) => put_count(out, at, k),
-        Answer::Told(yes) => put_told(out, at, yes),
-        Answer::Number(i) => put_number(out, at, i),
-        Answer::Value(w) => put_value(out, at, w, heap, table, roots, consts, c),
-        Answer::Page(k) => put_page(out, at, k, heap, table, roots, consts, c),
-        Answer::Image(length, sum) => put_image(out, at, length, sum),
-        Answer::Refused(why) => put_refusal(out, at, why),
-        Answer::Done => put_bytes(out, at, b"ok"),
-        Answer::Quiet => at,
-        Answer::Unknown => at,
+        Answer::Word(w) => put_one(to, out, at, w),
+        Answer::Count(k) => put_count(to, out, at, k),
+        Answer::Told(yes) => put_told(to, out, at, yes),
+        Answer::Number(i) => put_number(to, out, at, i),
+        Answer::Value(w) => put_value(to, out, at, w, heap, table, roots, consts, c),
+        Answer::Page(k) => put_page(to, out, at, k, heap, table, roots, consts, c),
+        Answer::Image(length, sum) => put_image(to, out, at, length, sum),
+        Answer::Refused(why) => put_refusal(to, out, at, why),
+        Answer::Done => put_bytes(to, out, at, b"ok"),
+        Answer::Quiet => Ok(at),
+        Answer::Unknown => Ok(at),
     }
 }
 
 // The line of a call's answer.
 fn put_line<'a>(
+    to: &mut impl Write,
     out: &mut [u8],
     answer: Answer,
     heap: &'a [u32],
@@ -227,38 +241,40 @@ fn put_line<'a>(
     roots: &'a [u32],
     consts: &'a [u32],
     c: Control,
-) -> usize {
-    let at = put_result(out, 0, answer, heap, table, roots, consts, c);
-    put_hash(out, at, heap, table, roots, consts, c)
+) -> io::Result<usize> {
+    let at = put_result(to, out, 0, answer, heap, table, roots, consts, c)?;
+    put_hash(to, out, at, heap, table, roots, consts, c)
 }
 
 // Writes the line of a call's answer, gathered in a buffer of its own.
 fn tell_call<'a>(
+    to: &mut impl Write,
     answer: Answer,
     heap: &'a [u32],
     table: &'a [u32],
     roots: &'a [u32],
     consts: &'a [u32],
     c: Control,
-) {
+) -> io::Result<()> {
     let mut out = [0u8; 4096];
-    let at = put_line(&mut out, answer, heap, table, roots, consts, c);
-    flush(&out, at);
+    let at = put_line(to, &mut out, answer, heap, table, roots, consts, c)?;
+    flush(to, &out, at)
 }
 
 // Writes an answer's line.
 pub fn tell<'a>(
+    to: &mut impl Write,
     o: Outcome,
     heap: &'a [u32],
     table: &'a [u32],
     roots: &'a [u32],
     consts: &'a [u32],
-) {
+) -> io::Result<()> {
     let answer = o.answer;
     let c = o.control;
     match answer {
-        Answer::Quiet => flush(b".\n", 2),
-        Answer::Unknown => flush(b"?\n", 2),
-        _ => tell_call(answer, heap, table, roots, consts, c),
+        Answer::Quiet => flush(to, b".\n", 2),
+        Answer::Unknown => flush(to, b"?\n", 2),
+        _ => tell_call(to, answer, heap, table, roots, consts, c),
     }
 }

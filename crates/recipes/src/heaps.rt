@@ -20,6 +20,8 @@ use conversions::region_numbered;
 use regions::push;
 use rules::{Control, Kind, Opened, Plain, Valued};
 use setting_up::set_up;
+use std::io;
+use std::io::Write;
 use telling::say;
 
 pub fn record_of(p: Plain) -> Control {
@@ -45,29 +47,30 @@ fn valued_record(v: Valued) -> Control {
 }
 
 // The record that an answer hands back. The answer of a step that is done aloud is printed.
-pub fn heard(aloud: bool, p: Plain) -> Control {
+pub fn heard(out: &mut impl Write, aloud: bool, p: Plain) -> io::Result<Control> {
     if aloud {
-        return say::plain(p);
+        return say::plain(out, p);
     }
-    record_of(p)
+    Ok(record_of(p))
 }
 
-pub fn opened_heard(aloud: bool, o: Opened) -> Control {
+pub fn opened_heard(out: &mut impl Write, aloud: bool, o: Opened) -> io::Result<Control> {
     if aloud {
-        return say::opened(o);
+        return say::opened(out, o);
     }
-    opened_record(o)
+    Ok(opened_record(o))
 }
 
-fn valued_heard(aloud: bool, v: Valued) -> Control {
+fn valued_heard(out: &mut impl Write, aloud: bool, v: Valued) -> io::Result<Control> {
     if aloud {
-        return say::valued(v);
+        return say::valued(out, v);
     }
-    valued_record(v)
+    Ok(valued_record(v))
 }
 
 // So many regions more.
 fn pushed(
+    out: &mut impl Write,
     heap: &mut [u32],
     table: &mut [u32],
     roots: &[u32],
@@ -75,14 +78,14 @@ fn pushed(
     c: Control,
     regions: u32,
     aloud: bool,
-) -> Control {
+) -> io::Result<Control> {
     let mut now = c;
     let mut left = regions;
     while 0 < left {
-        now = heard(aloud, push(heap, table, roots, consts, now));
+        now = heard(out, aloud, push(heap, table, roots, consts, now))?;
         left -= 1;
     }
-    now
+    Ok(now)
 }
 
 pub fn place(i: u32) -> usize {
@@ -178,6 +181,7 @@ fn rooted(
 
 // A step of k numbers, by the letter that its name begins with.
 fn done(
+    out: &mut impl Write,
     heap: &mut [u32],
     table: &mut [u32],
     roots: &mut [u32],
@@ -187,17 +191,21 @@ fn done(
     row: &[u32; 16],
     k: usize,
     aloud: bool,
-) -> Control {
+) -> io::Result<Control> {
     match letter {
-        b'o' => opened_heard(aloud, set_up(heap, table, roots, consts, row[0])),
-        b'p' => pushed(heap, table, roots, consts, c, row[0], aloud),
-        b'r' | b'w' => valued_heard(aloud, stored(heap, table, roots, consts, c, letter, row, k)),
-        b'a' => heard(aloud, assigned(heap, table, roots, consts, c, row)),
-        b'n' => heard(aloud, rooted(heap, table, roots, consts, c, row)),
-        b'c' => controlled(c, row),
+        b'o' => opened_heard(out, aloud, set_up(heap, table, roots, consts, row[0])),
+        b'p' => pushed(out, heap, table, roots, consts, c, row[0], aloud),
+        b'r' | b'w' => valued_heard(
+            out,
+            aloud,
+            stored(heap, table, roots, consts, c, letter, row, k),
+        ),
+        b'a' => heard(out, aloud, assigned(heap, table, roots, consts, c, row)),
+        b'n' => heard(out, aloud, rooted(heap, table, roots, consts, c, row)),
+        b'c' => Ok(controlled(c, row)),
         _ => {
             spoiled(heap, table, roots, letter, row);
-            c
+            Ok(c)
         }
     }
 }
@@ -251,6 +259,7 @@ pub fn first(text: &[u8]) -> u8 {
 
 // The step that a text is; aloud, its answer is printed.
 pub fn step(
+    out: &mut impl Write,
     heap: &mut [u32],
     table: &mut [u32],
     roots: &mut [u32],
@@ -258,10 +267,21 @@ pub fn step(
     c: Control,
     text: &[u8],
     aloud: bool,
-) -> Control {
+) -> io::Result<Control> {
     let mut row = [0u32; 16];
     let k = numbers(text, &mut row);
-    done(heap, table, roots, consts, c, first(text), &row, k, aloud)
+    done(
+        out,
+        heap,
+        table,
+        roots,
+        consts,
+        c,
+        first(text),
+        &row,
+        k,
+        aloud,
+    )
 }
 
 // Where what starts at a place ends: at the first such byte, or with the text.
@@ -280,21 +300,22 @@ pub fn end_of(text: &[u8], from: usize, byte: u8) -> usize
 
 // The steps of a recipe, in their order.
 fn follow(
+    out: &mut impl Write,
     heap: &mut [u32],
     table: &mut [u32],
     roots: &mut [u32],
     consts: &[u32],
     c: Control,
     recipe: &[u8],
-) -> Control {
+) -> io::Result<Control> {
     let mut now = c;
     let mut at = 0;
     while at < recipe.len() {
         let e = end_of(recipe, at, b';');
-        now = step(heap, table, roots, consts, now, &recipe[at..e], false);
+        now = step(out, heap, table, roots, consts, now, &recipe[at..e], false)?;
         at = e + 1;
     }
-    now
+    Ok(now)
 }
 
 // The steps that stand for the first of a recipe, by its letter.
@@ -309,29 +330,31 @@ fn beginning<'a>(letter: u8, label: &'a [u8], four: &'a [u8]) -> &'a [u8] {
 // What a recipe begins with, in pages of 16 words. The heap of document 01's image: "Sh" at 2, its record at 5, which is root 0. Raw values of
 // 7, 7, 10 and 4 words, headers counted, with roots that name the 10, 7, 7 and 4. Else a new heap.
 fn begun(
+    out: &mut impl Write,
     heap: &mut [u32],
     table: &mut [u32],
     roots: &mut [u32],
     consts: &[u32],
     letter: u8,
-) -> Control {
+) -> io::Result<Control> {
     let c = opened_record(set_up(heap, table, roots, consts, 4));
     let steps = beginning(
         letter,
         b"push 1;words 0 83 104;record 0 8 15;name 0 20;",
         b"push 1;words 0 5 5 5 5 5 5;words 0 6 6 6 6 6 6;words 0 7 7 7 7 7 7 7 7 7;words 0 8 8 8;name 0 72;name 1 8;name 2 36;name 3 112;",
     );
-    follow(heap, table, roots, consts, c, steps)
+    follow(out, heap, table, roots, consts, c, steps)
 }
 
 // The heap that a recipe makes.
 pub fn made(
+    out: &mut impl Write,
     heap: &mut [u32],
     table: &mut [u32],
     roots: &mut [u32],
     consts: &[u32],
     recipe: &[u8],
-) -> Control {
-    let c = begun(heap, table, roots, consts, first(recipe));
-    follow(heap, table, roots, consts, c, recipe)
+) -> io::Result<Control> {
+    let c = begun(out, heap, table, roots, consts, first(recipe))?;
+    follow(out, heap, table, roots, consts, c, recipe)
 }

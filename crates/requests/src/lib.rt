@@ -21,7 +21,7 @@ pub enum Part {
 }
 
 // How many words are lent of each part.
-#[derive(Drop)]
+#[derive(Clone, Copy)]
 pub struct Lengths {
     pub heap: usize,
     pub table: usize,

@@ -3,6 +3,7 @@
 
 #![tactic(auto)]
 
+pub mod filling;
 pub mod hash;
 pub mod lines;
 pub mod lists;

@@ -1,7 +1,8 @@
-// Lines of standard input, which comes in chunks.
+// Lines of a reader, whose bytes come in chunks.
 ghost use Rattle.std.specs.Prelude.{◌<◌};
 
-use libc::STDIN_FILENO;
+use std::io;
+use std::io::Read;
 
 // How far the input has been read: the chunk's bytes from `from` to `end` are still to come, and `line` bytes of the next line are there.
 #[derive(Drop)]
@@ -69,24 +70,23 @@ fn take(chunk: &[u8], line: &mut [u8], i: Input) -> Input {
 }
 
 // Reads a chunk. Where nothing comes the input is over.
-fn refill(chunk: &mut [u8], i: Input) -> Input {
-    let got = libc::read(STDIN_FILENO, chunk);
-    let end = io::count(got, chunk);
-    Input {
+fn refill(source: &mut impl Read, chunk: &mut [u8], i: Input) -> io::Result<Input> {
+    let end = source.read(chunk)?;
+    Ok(Input {
         from: 0,
         end,
         line: i.line,
         is_whole: end == 0,
         is_over: end == 0,
-    }
+    })
 }
 
 // One step to the next line.
-fn step(chunk: &mut [u8], line: &mut [u8], i: Input) -> Input {
+fn step(source: &mut impl Read, chunk: &mut [u8], line: &mut [u8], i: Input) -> io::Result<Input> {
     if i.from < i.end {
-        return take(chunk, line, i);
+        return Ok(take(chunk, line, i));
     }
-    refill(chunk, i)
+    refill(source, chunk, i)
 }
 
 // The turns that are left after one.
@@ -120,7 +120,12 @@ fn closed(line: &mut [u8], i: Input) -> Input {
 }
 
 // The next line. At the input's end it is what stands there without a newline, or nothing.
-pub fn next_line(chunk: &mut [u8], line: &mut [u8], i: Input) -> Input {
+pub fn next_line(
+    source: &mut impl Read,
+    chunk: &mut [u8],
+    line: &mut [u8],
+    i: Input,
+) -> io::Result<Input> {
     let mut now = Input {
         from: i.from,
         end: i.end,
@@ -130,10 +135,10 @@ pub fn next_line(chunk: &mut [u8], line: &mut [u8], i: Input) -> Input {
     };
     let mut turns = u64::MAX;
     while 0 < turns {
-        now = step(chunk, line, now);
+        now = step(source, chunk, line, now)?;
         turns = left(turns, now.is_whole);
     }
-    closed(line, now)
+    Ok(closed(line, now))
 }
 
 // Whether a line has nothing but spaces.

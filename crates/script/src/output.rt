@@ -1,61 +1,94 @@
-// Output, gathered in a lent buffer and written when that is full. `at` counts the buffer's bytes so far, and each function answers the new count.
-use libc::STDOUT_FILENO;
+// Output, gathered in a lent buffer and written to a writer when that is full. `at` counts the buffer's bytes so far, and each function answers the
+// new count.
+use std::io;
+use std::io::Write;
 
 // Writes what is gathered.
-pub fn flush(out: &[u8], at: usize) {
+pub fn flush(to: &mut impl Write, out: &[u8], at: usize) -> io::Result<()> {
     if at <= out.len() {
-        io::write_all(STDOUT_FILENO, &out[0..at]);
+        to.write_all(&out[0..at])?;
     }
+    Ok(())
 }
 
 // One byte.
-pub fn put(out: &mut [u8], at: usize, b: u8) -> usize {
+pub fn put(to: &mut impl Write, out: &mut [u8], at: usize, b: u8) -> io::Result<usize> {
     if at < out.len() {
         out[at] = b;
-        return at + 1;
+        return Ok(at + 1);
     }
-    flush(out, at);
+    flush(to, out, at)?;
     if 0 < out.len() {
         out[0] = b;
-        return 1;
+        return Ok(1);
     }
-    0
+    Ok(0)
 }
 
 // Bytes, one after the other.
-pub fn put_bytes(out: &mut [u8], at: usize, text: &[u8]) -> usize {
+pub fn put_bytes(to: &mut impl Write, out: &mut [u8], at: usize, text: &[u8]) -> io::Result<usize> {
     let mut next = at;
     for i in 0..text.len() {
-        next = put(out, next, text[i]);
+        next = put(to, out, next, text[i])?;
     }
-    next
+    Ok(next)
+}
+
+// The gathered output as a writer of text.
+#[derive(Drop)]
+struct Gathered<'a, W> {
+    to: &'a mut W,
+    out: &'a mut [u8],
+    at: usize,
+}
+
+impl<W: Write> Write for Gathered<'_, W> {
+    fn write(&mut self, text: &[u8]) -> io::Result<usize> {
+        self.at = put_bytes(self.to, self.out, self.at, text)?;
+        Ok(text.len())
+    }
+
+    fn flush(&mut self) -> io::Result<()> {
+        Ok(())
+    }
 }
 
 // A decimal.
-pub fn put_decimal(out: &mut [u8], at: usize, x: u64) -> usize {
-    let mut text = [0u8; 20];
-    let n = io::decimal(x, &mut text);
-    put_bytes(out, at, &text[..n])
+pub fn put_decimal(to: &mut impl Write, out: &mut [u8], at: usize, x: u64) -> io::Result<usize> {
+    let mut gathered = Gathered { to, out, at };
+    write!(gathered, "{x}")?;
+    Ok(gathered.at)
 }
 
 // A hexadecimal number of at least width digits.
-pub fn put_hex(out: &mut [u8], at: usize, x: u64, width: usize) -> usize {
-    let mut text = [0u8; 16];
-    let n = io::hex(x, width, &mut text);
-    put_bytes(out, at, &text[..n])
+pub fn put_hex(
+    to: &mut impl Write,
+    out: &mut [u8],
+    at: usize,
+    x: u64,
+    width: usize,
+) -> io::Result<usize> {
+    let mut gathered = Gathered { to, out, at };
+    write!(gathered, "{x:0width$x}")?;
+    Ok(gathered.at)
 }
 
 // A space and a word.
-pub fn put_word(out: &mut [u8], at: usize, w: u32) -> usize {
-    let next = put(out, at, b' ');
-    put_hex(out, next, w as u64, 1)
+pub fn put_word(to: &mut impl Write, out: &mut [u8], at: usize, w: u32) -> io::Result<usize> {
+    let next = put(to, out, at, b' ')?;
+    put_hex(to, out, next, w as u64, 1)
 }
 
 // Words, each after a space.
-pub fn put_words(out: &mut [u8], at: usize, words: &[u32]) -> usize {
+pub fn put_words(
+    to: &mut impl Write,
+    out: &mut [u8],
+    at: usize,
+    words: &[u32],
+) -> io::Result<usize> {
     let mut next = at;
     for i in 0..words.len() {
-        next = put_word(out, next, words[i]);
+        next = put_word(to, out, next, words[i])?;
     }
-    next
+    Ok(next)
 }

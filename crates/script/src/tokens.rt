@@ -1,7 +1,7 @@
 // A line's tokens, separated by single spaces.
 
 // Where a line has been read to: the index just past a token, where a space or the line's end has to stand.
-#[derive(Drop)]
+#[derive(Clone, Copy)]
 pub struct Cursor {
     pub at: usize,
 }

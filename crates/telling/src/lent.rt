@@ -3,38 +3,47 @@ ghost use Rattle.std.specs.Prelude.{◌<◌};
 
 use crate::say;
 use rules::Control;
+use std::io;
+use std::io::Write;
 
 // The pages. Every heap that is shown has pages of 16 words, as those of document 01's soundings.
-fn pages(heap: &[u32]) {
+fn pages(out: &mut impl Write, heap: &[u32]) -> io::Result<()> {
     let mut a: usize = 0;
     while a < heap.len() {
         if heap.len() - a < 16 {
-            return;
+            return Ok(());
         }
         let e = a + 16;
-        say::words(&heap[a..e]);
+        say::words(out, &heap[a..e])?;
         a = e;
     }
+    Ok(())
 }
 
 // The roots, where nothing else is to be seen.
-pub fn only_roots(roots: &[u32]) {
-    say::text(b", roots");
-    say::words(roots);
-    say::text(b"\n");
+pub fn only_roots(out: &mut impl Write, roots: &[u32]) -> io::Result<()> {
+    say::text(out, b", roots")?;
+    say::words(out, roots)?;
+    say::text(out, b"\n")
 }
 
 // The record, the table, the roots and the pages.
-pub fn show(heap: &[u32], table: &[u32], roots: &[u32], c: Control) {
-    say::text(b"; record");
-    say::record(c);
-    say::text(b", table");
-    say::words(table);
-    say::text(b", roots");
-    say::words(roots);
-    say::text(b", pages");
-    pages(heap);
-    say::text(b"\n");
+pub fn show(
+    out: &mut impl Write,
+    heap: &[u32],
+    table: &[u32],
+    roots: &[u32],
+    c: Control,
+) -> io::Result<()> {
+    say::text(out, b"; record")?;
+    say::record(out, c)?;
+    say::text(out, b", table")?;
+    say::words(out, table)?;
+    say::text(out, b", roots")?;
+    say::words(out, roots)?;
+    say::text(out, b", pages")?;
+    pages(out, heap)?;
+    say::text(out, b"\n")
 }
 
 // A sum of the words in their order: what stood before a call is told from what stands after it.
@@ -71,18 +80,18 @@ fn same(a: Control, b: Control) -> bool {
 
 // What a call left: that nothing changed, or the record and the parts.
 pub fn report(
+    out: &mut impl Write,
     before: u64,
     given: Control,
     heap: &[u32],
     table: &[u32],
     roots: &[u32],
     after: Control,
-) {
+) -> io::Result<()> {
     if same(given, after) {
         if before == sum(heap, table, roots) {
-            say::text(b"; nothing changed\n");
-            return;
+            return say::text(out, b"; nothing changed\n");
         }
     }
-    show(heap, table, roots, after);
+    show(out, heap, table, roots, after)
 }

@@ -1,96 +1,97 @@
 // What is printed: text, numbers, parts of words, answers.
 use conversions::{refusal_number, refusal_place};
 use rules::{Control, Opened, Plain, Refusal, Told, Valued};
+use std::io;
+use std::io::Write;
 
-pub fn text(s: &[u8]) {
-    io::write_all(1, s);
+pub fn text(out: &mut impl Write, s: &[u8]) -> io::Result<()> {
+    out.write_all(s)
 }
 
-pub fn decimal(k: u32) {
-    io::print_decimal(1, k as u64);
+pub fn decimal(out: &mut impl Write, k: u32) -> io::Result<()> {
+    write!(out, "{k}")
 }
 
-pub fn hex(w: u32) {
-    io::print_hex(1, w as u64, 1);
+pub fn hex(out: &mut impl Write, w: u32) -> io::Result<()> {
+    write!(out, "{w:x}")
 }
 
-fn item(i: usize, w: u32) {
+fn item(out: &mut impl Write, i: usize, w: u32) -> io::Result<()> {
     if 0 < i {
-        text(b" ");
+        text(out, b" ")?;
     }
-    decimal(w);
+    decimal(out, w)
 }
 
 // The words up to the last that is not 0.
-fn list(part: &[u32]) {
+fn list(out: &mut impl Write, part: &[u32]) -> io::Result<()> {
     let mut i = 0;
     while i < part.len() {
         if pages::all_zero(&part[i..]) {
-            return;
+            return Ok(());
         }
-        item(i, part[i]);
+        item(out, i, part[i])?;
         i += 1;
     }
+    Ok(())
 }
 
 // A part in decimal without its trailing zeros, in parentheses, so that an empty one is seen.
-pub fn words(part: &[u32]) {
-    text(b" (");
-    list(part);
-    text(b")");
+pub fn words(out: &mut impl Write, part: &[u32]) -> io::Result<()> {
+    text(out, b" (")?;
+    list(out, part)?;
+    text(out, b")")
 }
 
-pub fn refused(why: Refusal) {
-    text(b"refused ");
-    decimal(refusal_number(why));
-    text(b", place ");
-    decimal(refusal_place(why));
+pub fn refused(out: &mut impl Write, why: Refusal) -> io::Result<()> {
+    text(out, b"refused ")?;
+    decimal(out, refusal_number(why))?;
+    text(out, b", place ")?;
+    decimal(out, refusal_place(why))
 }
 
 // The record: n, R, free first, free last, free count.
-pub fn record(c: Control) {
-    words(&[c.n, c.regions, c.first, c.last, c.count]);
+pub fn record(out: &mut impl Write, c: Control) -> io::Result<()> {
+    words(out, &[c.n, c.regions, c.first, c.last, c.count])
 }
 
 // A plain answer; the record that it hands back.
-pub fn plain(p: Plain) -> Control {
+pub fn plain(out: &mut impl Write, p: Plain) -> io::Result<Control> {
     match p {
         Plain::Done(c) => {
-            text(b"done");
-            c
+            text(out, b"done")?;
+            Ok(c)
         }
         Plain::Refused(why, c) => {
-            refused(why);
-            c
+            refused(out, why)?;
+            Ok(c)
         }
     }
 }
 
-pub fn valued(v: Valued) -> Control {
+pub fn valued(out: &mut impl Write, v: Valued) -> io::Result<Control> {
     match v {
         Valued::Done(w, c) => {
-            decimal(w);
-            c
+            decimal(out, w)?;
+            Ok(c)
         }
         Valued::Refused(why, c) => {
-            refused(why);
-            c
+            refused(out, why)?;
+            Ok(c)
         }
     }
 }
 
-pub fn told(t: Told) {
+pub fn told(out: &mut impl Write, t: Told) -> io::Result<()> {
     match t {
         Told::Done(yes, _) => {
             if yes {
-                text(b"yes");
+                text(out, b"yes")
             } else {
-                text(b"no");
+                text(out, b"no")
             }
         }
-        Told::Refused(why, _) => {
-            refused(why);
-        }
+        Told::Refused(why, _) => refused(out, why),
     }
 }
 
@@ -105,15 +106,15 @@ pub fn no_record() -> Control {
     }
 }
 
-pub fn opened(o: Opened) -> Control {
+pub fn opened(out: &mut impl Write, o: Opened) -> io::Result<Control> {
     match o {
         Opened::Done(c) => {
-            text(b"done");
-            c
+            text(out, b"done")?;
+            Ok(c)
         }
         Opened::Refused(why) => {
-            refused(why);
-            no_record()
+            refused(out, why)?;
+            Ok(no_record())
         }
     }
 }
