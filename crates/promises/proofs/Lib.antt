@@ -10,8 +10,11 @@ pub mod Keeps
 pub mod KeepsReading
 pub mod NumbersBack
 pub mod Demand1
+pub mod Holds1
 pub mod Demand2
+pub mod Holds2
 pub mod Demand3
+pub mod Holds3
 pub mod ImageDigits
 pub mod ImageFrames
 pub mod ImageStores

@@ -21,7 +21,7 @@ use Rattle.rules.specs.declared.Worded.{Worded}
 use Rattle.rules.specs.declared.Numbered.{Numbered}
 use Rattle.rules.specs.Memory.{Store, page_count, page_words, end_of, top_of}
 use Rattle.rules.specs.Words.{Word, number, in_heap, in_const, word_of, pointer_address, good_in}
-use Rattle.rules.specs.Refusals.{Outcome, refused, within_limits, common_test, admitted, unbroken}
+use Rattle.rules.specs.Refusals.{Outcome, refused, within_limits, common_test, admitted}
 use Rattle.rules.specs.Pages.{Run, begun}
 use Rattle.rules.specs.Calls.{look_in, word_of_number, number_of_word, set_up, push_on, push, pop_on, pop_top, pop, header_for, allocate_on, allocate_in, allocate, fetch, is_there, fetch_refusal, assign_at, assign_by, assign, set_root, Walked, ends, stops, is_number, step_into, walk_from, walk_says, walk, audit, due, used_words, page_by_number, page_refusal}
 use Rattle.rules.specs.Collection.{Ended, finished, lacks_page, unfinished, freshen, evacuate_all, work_stack, leaves, ending, collected, collect}
