@@ -1,5 +1,4 @@
 -- `printing::print_collected` meets its contract: a refusal is the collection's, and what a finished one leaves can be written.
-use borrow.Author.Rules.{rules}
 use native.Mathlib.Omega.{arith}
 use Rattle.printing.proofs.Lengths.{printed_as}
 use Rattle.printing.proofs.Collected.{left_admitted, collected_image, collected_refused}

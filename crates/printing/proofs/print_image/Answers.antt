@@ -1,6 +1,5 @@
 -- `printing::print_image` meets its contract: the text has room, and is written from the first byte on.
 use Prim.Native.Nat.{◌≤◌}
-use borrow.Author.Rules.{rules}
 use native.Mathlib.Omega.{arith}
 use lib.ListN.{length}
 use Rattle.rules.specs.Image.{image_text}

@@ -1,5 +1,4 @@
 -- `printing::print_refusal` meets its contract: the frame is written from the first byte on, and has two words.
-use borrow.Author.Rules.{rules}
 use mathlib.Core.Path.{sym, ◌∙◌}
 use native.Mathlib.Omega.{arith}
 use Rattle.rules.proofs.Frames.{length_frame}
