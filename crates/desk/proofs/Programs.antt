@@ -9,7 +9,6 @@ use native.Mathlib.Omega.{arith}
 use borrow.Author.Tests.{leb-true, le-leb, eq-eqb}
 use lib.ListN.{length, take, get_or}
 use lib.Seq.{length-take-le}
-use Rattle.laws.specs.Lists.{at}
 use Rattle.laws.proofs.Tests.{both}
 use Rattle.rules.specs.declared.Control.{Control}
 use Rattle.rules.specs.declared.Refusal.{Refusal}

@@ -1,5 +1,4 @@
 -- `desk::collect_text` meets its contract: with too little room nothing is printed; else the parts are as long as printing wants them.
-use borrow.Author.Rules.{rules}
 use mathlib.Core.Path.{refl}
 use native.Mathlib.Omega.{arith}
 use Rattle.desk.proofs.collect_text.Goals as goal

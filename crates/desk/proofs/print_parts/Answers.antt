@@ -1,5 +1,4 @@
 -- `desk::print_parts` meets its contract: a first frame that asks for too much is refused at line 1; for any other there is room.
-use borrow.Author.Rules.{rules}
 use mathlib.Core.Path.{◌≡◌, sym, ap, ◌∙◌}
 use mathlib.Core.Bool.{true}
 use native.Mathlib.Omega.{arith}

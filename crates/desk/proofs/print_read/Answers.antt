@@ -1,6 +1,4 @@
 -- `desk::print_read` meets its contract: the parts have the lengths of the image, so that reading is refused only for a malformed text.
-use mathlib.Core.Path.{◌∙◌}
-use borrow.Author.Rules.{rules}
 use Rattle.printing.proofs.Lengths.{printed_as}
 use Rattle.desk.proofs.Programs.{read_refused, read_done}
 use Rattle.desk.proofs.print_read.Goals as goal
