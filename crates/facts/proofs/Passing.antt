@@ -11,7 +11,7 @@ use mathlib.Core.List.{List, Memᴰ}
 use lib.ListN.{length}
 use lib.Dec.{eqb}
 use borrow.Author.Tests.{lt-ltb, le-leb, eq-eqb, ne_eqb}
-use Rattle.laws.specs.Lists.{at, all}
+use Rattle.laws.specs.Lists.{all}
 use Rattle.laws.proofs.Facts.{and_of, all_of, at_all, below_of, behind_zeros}
 use Rattle.laws.proofs.Once.{Once, last_one, Linked, stop, goes, linked_fits, linked_ends, once_each}
 use Rattle.rules.specs.declared.Control.{Control}

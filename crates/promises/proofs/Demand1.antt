@@ -86,7 +86,7 @@ pub record Demand1 : Type 0 where
   -- a refused fetch or page call returns an empty part, and one that is not refused a value, or the page
   pub no_value : (s : Store) (w : ℕ) (r : Refusal) → fetch_refusal s w ≡ Plain.Refused r s.ctl → fetch s w ≡ []
   pub some_value : (s : Store) (w : ℕ) → fetch_refusal s w ≡ Plain.Done s.ctl → is_there (fetch s w) ≡ true
-  pub no_page_lem : (s : Store) (k : ℕ) (r : Refusal) → page_refusal s k ≡ Plain.Refused r s.ctl → page_by_number s k ≡ []
+  pub no_page : (s : Store) (k : ℕ) (r : Refusal) → page_refusal s k ≡ Plain.Refused r s.ctl → page_by_number s k ≡ []
   pub the_page : (s : Store) (k : ℕ) → page_refusal s k ≡ Plain.Done s.ctl → page_by_number s k ≡ page_words s.ctl.n s.heap k
   -- and the tests' numbers are those that document 01 lists for each call, in its order
   pub paper : Numbers

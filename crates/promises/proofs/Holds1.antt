@@ -77,7 +77,7 @@ demand1 = record {
   of_number = λ w. refuses (number_lawful w);
   no_value = λ s w. (fetch_hands s w).nothing;
   some_value = λ s w. (fetch_hands s w).there;
-  no_page_lem = λ s k. (page_hands s k).nothing;
+  no_page = λ s k. (page_hands s k).nothing;
   the_page = λ s k. (page_hands s k).there;
   paper = the_numbers;
 }

@@ -123,5 +123,5 @@ admits h t r k c l m =
       first = leb-true _ _ f1;
       count = leb-true _ _ c1;
       some_page = both_some c.first c.count (together _ _ fk);
-      no_page_lem = λ z. eqb-true c.first 0 (together _ _ fk ∙ eq-eqb c.count 0 z);
+      no_page = λ z. eqb-true c.first 0 (together _ _ fk ∙ eq-eqb c.count 0 z);
     }

@@ -2,7 +2,7 @@
 use Rattle.std.specs.Prelude.{ℕ, zero, suc, ◌+◌, ◌-◌, ◌^◌, Bool, true, false, ◌&&◌, List, [], ◌∷◌, length, set, replicate, leb, eqb}
 use Rattle.std.specs.Bool.{beq}
 use Rattle.std.proofs.Math.Option.{Option, none, some}
-use Rattle.laws.specs.Lists.{at, put}
+use Rattle.laws.specs.Lists.{put}
 use Rattle.rules.specs.declared.Control.{Control}
 use Rattle.rules.specs.Memory.{Store, control, page_count, page_address, page_link, region_origin, body_address, page_end, link, set_link, set_origin, end_of, top_of, set_end, set_top}
 

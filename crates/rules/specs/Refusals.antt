@@ -144,7 +144,7 @@ pub record Admitted (h t r k : ℕ) (c : Control) : Type 0 where
   pub first : c.first ≤ h / 2 ^ c.n
   pub count : c.count ≤ h / 2 ^ c.n
   pub some_page : 0 < c.count → 0 < c.first
-  pub no_page_lem : c.count ≡ 0 → c.first ≡ 0
+  pub no_page : c.count ≡ 0 → c.first ≡ 0
 
 -- the rest of a call after these tests; `refuse` is how the call refuses
 abbrev pub admitted : {O : Type 0} → (Refusal → O) → Store → O → O

@@ -7,7 +7,6 @@ use native.Mathlib.Decide.{ℕ_discrete}
 use mathlib.Core.Path.{◌≡◌, refl, sym, ap, ◌∙◌}
 use mathlib.Core.Logic.{◌≢◌, ◌↔◌}
 use mathlib.Core.List.{List, [], ◌∷◌, Memᴰ}
-use Rattle.laws.specs.Lists.{at}
 use Rattle.laws.specs.Sums.{sum_over}
 use Rattle.laws.proofs.Once.{Once, once_none, once_more}
 use Rattle.rules.specs.declared.Valued.{Valued}

@@ -7,7 +7,6 @@ use mathlib.Core.Path.{◌≡◌, refl, ap}
 use mathlib.Core.Logic.{◌⊎◌, inl, inr}
 use mathlib.Core.List.Memᴰ
 use mathlib.Core.List.{List, [], ◌∷◌, ◌++◌, Memᴰ}
-use Rattle.laws.specs.Lists.{at}
 use Rattle.laws.specs.Sums.{sum_over}
 use Rattle.laws.proofs.Once.{Once, once_sum}
 use Rattle.laws.proofs.Sums.{sum_append}

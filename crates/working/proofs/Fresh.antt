@@ -13,7 +13,6 @@ use Rattle.facts.proofs.Laid.{Owner, old, mine, Layout, old≢spare, old≢beyon
 use Rattle.facts.proofs.Aged.{aged, aged_from, aged_mine, aged_laid}
 use Rattle.facts.proofs.Sound.{Chained, in_free, in_region, Sound}
 use Rattle.working.proofs.Owned.{Owned}
-use Rattle.rules.proofs.Pages.{taken}
 
 -- ---- the state
 
