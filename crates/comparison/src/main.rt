@@ -11,6 +11,9 @@ use rules::Control;
 use samples::chance;
 use samples::making::make;
 use samples::shape::{Shape, shape_of};
+use std::io;
+use std::io::Write;
+use std::rt::Files;
 use trials::{both, counts};
 
 // A sample collected twice, and counted before and after.
@@ -82,31 +85,33 @@ fn all_samples(most: u32, consts: &[u32], sums: &mut [u32]) {
     }
 }
 
-fn all_images(sums: &mut [u32]) {
+fn all_images(rt: &impl Files, sums: &mut [u32]) -> io::Result<()> {
     let mut i: u32 = 0;
     while i < 1000 {
-        if !image_of(i, sums) {
-            return;
+        if !image_of(rt, i, sums)? {
+            return Ok(());
         }
         i += 1;
     }
+    Ok(())
 }
 
-fn samples_compared() {
+fn samples_compared(out: &mut impl Write) -> io::Result<()> {
     // records of a number and of the first two, a raw "Sh", a record of no words
     let consts = [9u32, 7, 19, 83, 104, 17, 2, 10, 1, 0];
     let mut sums = [0u32; 64];
     all_samples(4000, &consts, &mut sums);
-    report::samples(&sums);
+    report::samples(out, &sums)
 }
 
-fn images_compared() {
+fn images_compared(rt: &impl Files, out: &mut impl Write) -> io::Result<()> {
     let mut sums = [0u32; 64];
-    all_images(&mut sums);
-    report::images(&sums);
+    all_images(rt, &mut sums)?;
+    report::images(out, &sums)
 }
 
-fn main() {
-    samples_compared();
-    images_compared();
+fn main(rt: HostRuntime) -> io::Result<()> {
+    let mut out = rt.stdout();
+    samples_compared(&mut out)?;
+    images_compared(&rt, &mut out)
 }

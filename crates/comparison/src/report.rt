@@ -1,46 +1,49 @@
 // The report: what was met, and how it came out.
-ghost use Rattle.std.specs.Prelude.{◌≤◌};
+ghost use Rattle.std.specs.Prelude.{◌≤◌, IfOk};
 
 use leaves::word;
+use std::io;
+use std::io::Write;
 use trials::counts;
 
 // The number at a place, and the end of its line.
-fn number(sums: &[u32], k: usize) {
-    io::write_all(1, b" ");
-    io::print_decimal(1, word(sums, k) as u64);
-    io::write_all(1, b"\n");
+fn number(out: &mut impl Write, sums: &[u32], k: usize) -> io::Result<()> {
+    let n = word(sums, k);
+    writeln!(out, " {n}")
 }
 
 // A byte of a name, or at its end the number at place k; the place that comes next. A dash leaves a place out.
-fn byte(b: u8, sums: &[u32], k: usize) -> usize
+fn byte(out: &mut impl Write, b: u8, sums: &[u32], k: usize) -> io::Result<usize>
     requires { k ≤ 64 }
-    ensures { result ≤ 64 }
+    ensures { IfOk result (λ next. next ≤ 64) }
 {
     if b == b'-' {
-        return (k + 1) % 64;
+        return Ok((k + 1) % 64);
     }
     if b == b'\n' {
-        number(sums, k);
-        return (k + 1) % 64;
+        number(out, sums, k)?;
+        return Ok((k + 1) % 64);
     }
-    io::write_all(1, &[b]);
-    k
+    out.write_all(&[b])?;
+    Ok(k)
 }
 
 // A line for each name, with the number at its place: the first at `from`, each next one at the next.
-fn lines(names: &[u8], sums: &[u32], from: usize)
+fn lines(out: &mut impl Write, names: &[u8], sums: &[u32], from: usize) -> io::Result<()>
     requires { from ≤ 64 }
 {
     let mut i: usize = 0;
     let mut k = from;
     while i < names.len() {
-        k = byte(names[i], sums, k);
+        k = byte(out, names[i], sums, k)?;
         i += 1;
     }
+    Ok(())
 }
 
-fn shapes(sums: &[u32]) {
+fn shapes(out: &mut impl Write, sums: &[u32]) -> io::Result<()> {
     lines(
+        out,
         b"heaps
   of pages of 16 words
   of pages of 32 words
@@ -56,15 +59,16 @@ roots that point to values
 ",
         sums,
         counts::HEAPS,
-    );
+    )
 }
 
 // A census, under a title.
-fn kinds(title: &[u8], sums: &[u32], from: usize)
+fn kinds(out: &mut impl Write, title: &[u8], sums: &[u32], from: usize) -> io::Result<()>
     requires { from ≤ 64 }
 {
-    io::write_all(1, title);
+    out.write_all(title)?;
     lines(
+        out,
         b"  pages of regions
   full pages
   records
@@ -78,11 +82,12 @@ fn kinds(title: &[u8], sums: &[u32], from: usize)
 ",
         sums,
         from,
-    );
+    )
 }
 
-fn endings(sums: &[u32]) {
+fn endings(out: &mut impl Write, sums: &[u32]) -> io::Result<()> {
     lines(
+        out,
         b"finished
   that gained pages
   pages gained
@@ -96,19 +101,20 @@ differences
 ",
         sums,
         counts::FINISHED,
-    );
+    )
 }
 
-pub fn samples(sums: &[u32]) {
-    shapes(sums);
-    kinds(b"before the collections\n", sums, counts::BEFORE);
-    kinds(b"after those that finished\n", sums, counts::LIVING);
-    endings(sums);
+pub fn samples(out: &mut impl Write, sums: &[u32]) -> io::Result<()> {
+    shapes(out, sums)?;
+    kinds(out, b"before the collections\n", sums, counts::BEFORE)?;
+    kinds(out, b"after those that finished\n", sums, counts::LIVING)?;
+    endings(out, sums)
 }
 
-pub fn images(sums: &[u32]) {
-    lines(b"images\n", sums, counts::HEAPS);
+pub fn images(out: &mut impl Write, sums: &[u32]) -> io::Result<()> {
+    lines(out, b"images\n", sums, counts::HEAPS)?;
     lines(
+        out,
         b"  finished
 -----  refused for want of a page
 -  refused else
@@ -117,5 +123,5 @@ pub fn images(sums: &[u32]) {
 ",
         sums,
         counts::FINISHED,
-    );
+    )
 }

@@ -4,12 +4,15 @@
 
 ghost use Rattle.std.specs.Prelude.{◌≤◌};
 
-use check::same;
 use conversions::{refusal_number, refusal_place};
 use image::{read_image, write_image};
 use reading::{Head, Judged, judge};
 use rules::{Control, Opened, Plain, Refusal, Valued};
 use samples::census::add;
+use script::filling::fill;
+use std::fs::File;
+use std::rt::Files;
+use std::{io, str};
 use trials::{both, counts};
 use writing::write_frame;
 
@@ -18,22 +21,22 @@ fn digit(k: u32) -> u8 {
 }
 
 // The file's bytes; how many there are. A file that is missing has none.
-fn read_file(path: &[u8], text: &mut [u8]) -> usize {
-    let file = os::open_read(path);
-    if file < 0 {
-        return 0;
-    }
-    let n = io::read_full(file, text);
-    libc::close(file);
-    n
+fn read_file(rt: &impl Files, path: &[u8], text: &mut [u8]) -> io::Result<usize> {
+    let Ok(name) = str::from_utf8(path) else {
+        return Ok(0);
+    };
+    let Ok(mut file) = File::open(rt, name) else {
+        return Ok(0);
+    };
+    fill(&mut file, text)
 }
 
-fn read_input(i: u32, text: &mut [u8]) -> usize {
+fn read_input(rt: &impl Files, i: u32, text: &mut [u8]) -> io::Result<usize> {
     let path = [digit(i / 100), digit(i / 10), digit(i), b'.', b'i', b'n'];
-    read_file(&path, text)
+    read_file(rt, &path, text)
 }
 
-fn read_answer(i: u32, text: &mut [u8]) -> usize {
+fn read_answer(rt: &impl Files, i: u32, text: &mut [u8]) -> io::Result<usize> {
     let path = [
         digit(i / 100),
         digit(i / 10),
@@ -43,7 +46,7 @@ fn read_answer(i: u32, text: &mut [u8]) -> usize {
         b'u',
         b't',
     ];
-    read_file(&path, text)
+    read_file(rt, &path, text)
 }
 
 // The line that the program "collect" prints for a refusal; its length.
@@ -61,7 +64,7 @@ fn begins_so(out: &[u8], k: usize, expected: &[u8]) -> bool {
     if out.len() < k {
         return false;
     }
-    same(&out[0..k], expected)
+    &out[0..k] == expected
 }
 
 // Whether a refusal's line is the expected text.
@@ -184,29 +187,30 @@ fn answered_by(text: &[u8], bytes: &[u8], m: usize, sums: &mut [u32]) -> bool {
 }
 
 // Whether the text that came is the file's answer.
-fn as_answered(i: u32, text: &[u8], sums: &mut [u32]) -> bool {
+fn as_answered(rt: &impl Files, i: u32, text: &[u8], sums: &mut [u32]) -> io::Result<bool> {
     let mut expected = [0u8; 4096];
-    let m = read_answer(i, &mut expected);
-    answered_by(text, &expected, m, sums)
+    let m = read_answer(rt, i, &mut expected)?;
+    Ok(answered_by(text, &expected, m, sums))
 }
 
-fn image_read(i: u32, text: &[u8], n: usize, sums: &mut [u32]) {
+fn image_read(rt: &impl Files, i: u32, text: &[u8], n: usize, sums: &mut [u32]) -> io::Result<()> {
     add(sums, counts::HEAPS, 1);
     if text.len() < n {
-        return;
+        return Ok(());
     }
-    if !as_answered(i, &text[0..n], sums) {
+    if !as_answered(rt, i, &text[0..n], sums)? {
         add(sums, counts::TEXTS_DIFFER, 1);
     }
+    Ok(())
 }
 
 // Image number i; false where there is none.
-pub fn image_of(i: u32, sums: &mut [u32]) -> bool {
+pub fn image_of(rt: &impl Files, i: u32, sums: &mut [u32]) -> io::Result<bool> {
     let mut text = [0u8; 4096];
-    let n = read_input(i, &mut text);
+    let n = read_input(rt, i, &mut text)?;
     if n == 0 {
-        return false;
+        return Ok(false);
     }
-    image_read(i, &text, n, sums);
-    true
+    image_read(rt, i, &text, n, sums)?;
+    Ok(true)
 }

@@ -7,6 +7,8 @@ use rules::Control;
 use script::lines::is_skipped;
 use script::output::flush;
 use script::parts::within;
+use std::io;
+use std::io::Write;
 
 // How many words are lent of each part, and the record.
 #[derive(Drop)]
@@ -61,12 +63,19 @@ fn clear_first(part: &mut [u32], k: usize) {
 }
 
 // Makes the four parts, all zero.
-fn lend(heap: &mut [u32], table: &mut [u32], roots: &mut [u32], consts: &mut [u32], lent: Lengths) {
+fn lend(
+    to: &mut impl Write,
+    heap: &mut [u32],
+    table: &mut [u32],
+    roots: &mut [u32],
+    consts: &mut [u32],
+    lent: Lengths,
+) -> io::Result<()> {
     clear_first(heap, lent.heap);
     clear_first(table, lent.table);
     clear_first(roots, lent.roots);
     clear_first(consts, lent.consts);
-    flush(b".\n", 2);
+    flush(to, b".\n", 2)
 }
 
 // Carries out what a line asks for on the lent parts.
@@ -88,20 +97,22 @@ fn perform(
 
 // Carries out what a line asks for on the lent parts and writes its answer; the record from then on.
 fn answer(
+    to: &mut impl Write,
     line: &[u8],
     heap: &mut [u32],
     table: &mut [u32],
     roots: &mut [u32],
     consts: &mut [u32],
     c: Control,
-) -> Control {
+) -> io::Result<Control> {
     let o = perform(line, heap, table, roots, consts, c);
-    tell(o, heap, table, roots, consts);
-    o.control
+    tell(to, o, heap, table, roots, consts)?;
+    Ok(o.control)
 }
 
 // Lends the parts, as long as they are, to a line.
 fn lend_to(
+    to: &mut impl Write,
     line: &[u8],
     heap: &mut [u32],
     table: &mut [u32],
@@ -109,12 +120,13 @@ fn lend_to(
     consts: &mut [u32],
     lent: Lengths,
     c: Control,
-) -> Control {
+) -> io::Result<Control> {
     let h = within(lent.heap, heap.len());
     let t = within(lent.table, table.len());
     let r = within(lent.roots, roots.len());
     let k = within(lent.consts, consts.len());
     answer(
+        to,
         line,
         &mut heap[0..h],
         &mut table[0..t],
@@ -126,15 +138,16 @@ fn lend_to(
 
 // One line.
 pub fn run_line(
+    to: &mut impl Write,
     line: &[u8],
     heap: &mut [u32],
     table: &mut [u32],
     roots: &mut [u32],
     consts: &mut [u32],
     s: State,
-) -> State {
+) -> io::Result<State> {
     if is_skipped(line) {
-        return s;
+        return Ok(s);
     }
     if let Lending::Of(lent) = asked_to_lend(
         line,
@@ -143,11 +156,11 @@ pub fn run_line(
         roots.len(),
         consts.len(),
     ) {
-        lend(heap, table, roots, consts, lent);
-        return with_lent(lent);
+        lend(to, heap, table, roots, consts, lent)?;
+        return Ok(with_lent(lent));
     }
     let lent = s.lent;
     let c = s.control;
-    let control = lend_to(line, heap, table, roots, consts, lent, c);
-    State { lent, control }
+    let control = lend_to(to, line, heap, table, roots, consts, lent, c)?;
+    Ok(State { lent, control })
 }

@@ -20,6 +20,6 @@ pub fn below(x: u32, m: u32) -> u32
 
 // The start for sample i: far apart for neighbours.
 pub fn start(i: u32) -> u32 {
-    let a = std::num::wrapping_add_u32(i, 2654435769);
+    let a = i.wrapping_add(2654435769);
     next(next(next(a ^ (a << 7))))
 }

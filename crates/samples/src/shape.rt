@@ -3,7 +3,7 @@ ghost use Rattle.std.specs.Prelude.{◌<◌, ◌≤◌};
 
 use crate::chance::{below, next};
 
-#[derive(Drop)]
+#[derive(Clone, Copy)]
 pub struct Shape {
     pub n: u32,
     pub pages: u32,

@@ -11,25 +11,28 @@ use crate::{changing, looking};
 use collection::collect;
 use recipes::heaps;
 use rules::Control;
+use std::io;
+use std::io::Write;
 use telling::say;
 
 // The record of the heap that is asked: of the one that a recipe makes, or of that one collected. Parts that are to be set up have none.
 fn given(
+    out: &mut impl Write,
     heap: &mut [u32],
     table: &mut [u32],
     roots: &mut [u32],
     consts: &[u32],
     recipe: &[u8],
     letter: u8,
-) -> Control {
+) -> io::Result<Control> {
     if letter == b'o' {
-        return say::no_record();
+        return Ok(say::no_record());
     }
-    let c = heaps::made(heap, table, roots, consts, recipe);
+    let c = heaps::made(out, heap, table, roots, consts, recipe)?;
     if letter == b'c' {
-        return heaps::record_of(collect(heap, table, roots, consts, c));
+        return Ok(heaps::record_of(collect(heap, table, roots, consts, c)));
     }
-    c
+    Ok(c)
 }
 
 // Whether the question with this letter leaves the parts as they are.
@@ -42,18 +45,19 @@ fn only_looks(letter: u8) -> bool {
 
 // The heap is made, and the question asked.
 pub fn asks(
+    out: &mut impl Write,
     heap: &mut [u32],
     table: &mut [u32],
     roots: &mut [u32],
     consts: &[u32],
     recipe: &[u8],
     question: &[u8],
-) {
+) -> io::Result<()> {
     let letter = heaps::first(question);
-    let c = given(heap, table, roots, consts, recipe, letter);
+    let c = given(out, heap, table, roots, consts, recipe, letter)?;
     if only_looks(letter) {
-        looking::looks(heap, table, roots, consts, c, question);
+        looking::looks(out, heap, table, roots, consts, c, question)
     } else {
-        changing::changes(heap, table, roots, consts, c, question);
+        changing::changes(out, heap, table, roots, consts, c, question)
     }
 }

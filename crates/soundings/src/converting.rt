@@ -1,61 +1,63 @@
 // Words and values: "a whole number i from -2^30 to 2^30-1, stored as 2i+1 modulo 2^32".
 use numbers::{magnitude, number_of_word, word_of_number};
 use rules::{Numbered, Worded};
+use std::io;
+use std::io::Write;
 use telling::say;
 
 // The word of a number.
-fn word_of(name: &[u8], i: i32) {
-    say::text(name);
+fn word_of(out: &mut impl Write, name: &[u8], i: i32) -> io::Result<()> {
+    say::text(out, name)?;
     match word_of_number(i) {
         Worded::Done(w) => {
-            say::hex(w);
+            say::hex(out, w)?;
         }
         Worded::Refused(why) => {
-            say::refused(why);
+            say::refused(out, why)?;
         }
     }
-    say::text(b"\n");
+    say::text(out, b"\n")
 }
 
 // A number with its sign.
-fn signed(i: i32) {
+fn signed(out: &mut impl Write, i: i32) -> io::Result<()> {
     if i < 0 {
-        say::text(b"-");
+        say::text(out, b"-")?;
     }
-    say::decimal(magnitude(i));
+    say::decimal(out, magnitude(i))
 }
 
 // The number of a word.
-fn number_of(w: u32) {
-    say::text(b"number of ");
-    say::hex(w);
-    say::text(b": ");
+fn number_of(out: &mut impl Write, w: u32) -> io::Result<()> {
+    say::text(out, b"number of ")?;
+    say::hex(out, w)?;
+    say::text(out, b": ")?;
     match number_of_word(w) {
         Numbered::Done(i) => {
-            signed(i);
+            signed(out, i)?;
         }
         Numbered::Refused(why) => {
-            say::refused(why);
+            say::refused(out, why)?;
         }
     }
-    say::text(b"\n");
+    say::text(out, b"\n")
 }
 
-fn words() {
-    word_of(b"word of 0: ", 0);
-    word_of(b"word of -1: ", -1);
-    word_of(b"word of 2^30-1: ", 1073741823);
-    word_of(b"word of -2^30: ", -1073741824);
-    word_of(b"word of 2^30: ", 1073741824);
-    word_of(b"word of -2^30-1: ", -1073741825);
+fn words(out: &mut impl Write) -> io::Result<()> {
+    word_of(out, b"word of 0: ", 0)?;
+    word_of(out, b"word of -1: ", -1)?;
+    word_of(out, b"word of 2^30-1: ", 1073741823)?;
+    word_of(out, b"word of -2^30: ", -1073741824)?;
+    word_of(out, b"word of 2^30: ", 1073741824)?;
+    word_of(out, b"word of -2^30-1: ", -1073741825)
 }
 
-pub fn soundings() {
-    say::text(b"Numbers\n");
-    words();
-    number_of(1);
-    number_of(0xffffffff);
-    number_of(0x7fffffff);
-    number_of(0x80000001);
-    number_of(2);
+pub fn soundings(out: &mut impl Write) -> io::Result<()> {
+    say::text(out, b"Numbers\n")?;
+    words(out)?;
+    number_of(out, 1)?;
+    number_of(out, 0xffffffff)?;
+    number_of(out, 0x7fffffff)?;
+    number_of(out, 0x80000001)?;
+    number_of(out, 2)
 }

@@ -9,10 +9,13 @@ mod lines;
 mod looking;
 mod sections;
 
-fn main() {
-    converting::soundings();
-    sections::opening();
-    sections::storing();
-    sections::looking();
-    sections::popping();
+use std::io;
+
+fn main(rt: HostRuntime) -> io::Result<()> {
+    let mut out = rt.stdout();
+    converting::soundings(&mut out)?;
+    sections::opening(&mut out)?;
+    sections::storing(&mut out)?;
+    sections::looking(&mut out)?;
+    sections::popping(&mut out)
 }

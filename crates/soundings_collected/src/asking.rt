@@ -12,6 +12,8 @@ use crate::{changing, looking};
 use image::read_image;
 use recipes::heaps;
 use rules::Control;
+use std::io;
+use std::io::Write;
 
 // Whether the heap of a question is read from the image's text.
 pub fn reads(letter: u8) -> bool {
@@ -39,22 +41,24 @@ fn collects(letter: u8) -> bool {
 
 // The record of the heap that is asked, which comes from an image's text or from a recipe.
 fn given(
+    out: &mut impl Write,
     heap: &mut [u32],
     table: &mut [u32],
     roots: &mut [u32],
     consts: &mut [u32],
     source: &[u8],
     letter: u8,
-) -> Control {
+) -> io::Result<Control> {
     if reads(letter) {
         let o = read_image(source, heap, table, roots, consts);
-        return heaps::opened_heard(is_aloud(letter), o);
+        return heaps::opened_heard(out, is_aloud(letter), o);
     }
-    heaps::made(heap, table, roots, consts, source)
+    heaps::made(out, heap, table, roots, consts, source)
 }
 
 // The heap is made, or read, and the question asked. A write is lent so many bytes.
 pub fn asks(
+    out: &mut impl Write,
     heap: &mut [u32],
     table: &mut [u32],
     roots: &mut [u32],
@@ -62,11 +66,11 @@ pub fn asks(
     source: &[u8],
     letter: u8,
     room: u32,
-) {
-    let c = given(heap, table, roots, consts, source, letter);
+) -> io::Result<()> {
+    let c = given(out, heap, table, roots, consts, source, letter)?;
     if collects(letter) {
-        changing::changes(heap, table, roots, consts, c, letter, room);
+        changing::changes(out, heap, table, roots, consts, c, letter, room)
     } else {
-        looking::looks(heap, table, roots, consts, c, letter, room);
+        looking::looks(out, heap, table, roots, consts, c, letter, room)
     }
 }

@@ -8,10 +8,13 @@
 use crate::asking;
 use recipes::{cutting, heaps};
 use script::parts;
+use std::io;
+use std::io::Write;
 use telling::say;
 
 // The question, on parts of these lengths.
 fn sized(
+    out: &mut impl Write,
     heap: &mut [u32],
     table: &mut [u32],
     roots: &mut [u32],
@@ -19,8 +22,9 @@ fn sized(
     source: &[u8],
     row: &[u32; 16],
     letter: u8,
-) {
+) -> io::Result<()> {
     asking::asks(
+        out,
         cutting::first_words(heap, row[0]),
         table,
         cutting::first_words(roots, row[1]),
@@ -28,16 +32,17 @@ fn sized(
         source,
         letter,
         row[3],
-    );
+    )
 }
 
 // The question, on parts whose words are all 7, and a record of one word.
-fn on_parts(source: &[u8], row: &[u32; 16], letter: u8) {
+fn on_parts(out: &mut impl Write, source: &[u8], row: &[u32; 16], letter: u8) -> io::Result<()> {
     let mut heap = [7u32; 128];
     let mut table = [7u32; 256];
     let mut roots = [7u32; 4];
     let mut consts = [9u32, row[3]];
     sized(
+        out,
         &mut heap,
         &mut table,
         &mut roots,
@@ -45,16 +50,16 @@ fn on_parts(source: &[u8], row: &[u32; 16], letter: u8) {
         source,
         row,
         letter,
-    );
+    )
 }
 
 // The recipe and the question: the heap comes from the image's text or from the recipe.
-fn on_source(image: &[u8], row: &[u32; 16], rest: &[u8]) {
+fn on_source(out: &mut impl Write, image: &[u8], row: &[u32; 16], rest: &[u8]) -> io::Result<()> {
     let letter = heaps::first(cutting::behind_bar(rest));
     if asking::reads(letter) {
-        on_parts(image, row, letter);
+        on_parts(out, image, row, letter)
     } else {
-        on_parts(cutting::before_bar(rest), row, letter);
+        on_parts(out, cutting::before_bar(rest), row, letter)
     }
 }
 
@@ -73,30 +78,37 @@ fn changed(text: &mut [u8], at: u32, byte: u8) -> u8 {
 }
 
 // The same on the image's text as the numbers have it, which stands as before when they are done.
-fn on_text(image: &mut [u8], row: &[u32; 16], rest: &[u8]) {
+fn on_text(out: &mut impl Write, image: &mut [u8], row: &[u32; 16], rest: &[u8]) -> io::Result<()> {
     let was = changed(image, row[5], heaps::first(rest));
-    on_source(parts::first_bytes(image, heaps::place(row[4])), row, rest);
+    on_source(
+        out,
+        parts::first_bytes(image, heaps::place(row[4])),
+        row,
+        rest,
+    )?;
     changed(image, row[5], was);
+    Ok(())
 }
 
 // What stands behind a line's first bar.
-fn numbered(image: &mut [u8], rest: &[u8]) {
+fn numbered(out: &mut impl Write, image: &mut [u8], rest: &[u8]) -> io::Result<()> {
     let mut row = [0u32; 16];
     heaps::numbers(cutting::before_bar(rest), &mut row);
-    on_text(image, &row, cutting::behind_bar(rest));
+    on_text(out, image, &row, cutting::behind_bar(rest))
 }
 
-fn sounding(image: &mut [u8], line: &[u8]) {
-    say::text(cutting::before_bar(line));
-    numbered(image, cutting::behind_bar(line));
+fn sounding(out: &mut impl Write, image: &mut [u8], line: &[u8]) -> io::Result<()> {
+    say::text(out, cutting::before_bar(line))?;
+    numbered(out, image, cutting::behind_bar(line))
 }
 
 // Each line ends with a newline. The image's text is for the lines that ask about one.
-pub fn all(image: &mut [u8], lines: &[u8]) {
+pub fn all(out: &mut impl Write, image: &mut [u8], lines: &[u8]) -> io::Result<()> {
     let mut at = 0;
     while at < lines.len() {
         let e = heaps::end_of(lines, at, b'\n');
-        sounding(image, &lines[at..e]);
+        sounding(out, image, &lines[at..e])?;
         at = e + 1;
     }
+    Ok(())
 }

@@ -9,16 +9,20 @@ mod lines;
 mod looking;
 mod sections;
 
-fn soundings(image: &mut [u8]) {
-    sections::auditing(image);
-    sections::collecting(image);
-    sections::slips(image);
-    sections::images(image);
+use script::filling::fill;
+use std::io;
+use std::io::Write;
+
+fn soundings(out: &mut impl Write, image: &mut [u8]) -> io::Result<()> {
+    sections::auditing(out, image)?;
+    sections::collecting(out, image)?;
+    sections::slips(out, image)?;
+    sections::images(out, image)
 }
 
 // Behind the image's text stand newlines, for the line that reads one too many.
-fn main() {
+fn main(rt: HostRuntime) -> io::Result<()> {
     let mut image = [10u8; 256];
-    io::read_full(0, &mut image);
-    soundings(&mut image);
+    fill(&mut rt.stdin(), &mut image)?;
+    soundings(&mut rt.stdout(), &mut image)
 }

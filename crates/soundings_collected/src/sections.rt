@@ -1,11 +1,14 @@
 // The lines, as `lines` reads them.
 use crate::lines;
+use std::io;
+use std::io::Write;
 use telling::say;
 
 // The heap of "Sh" passes; each line spoils it in one place, or two, and is told the first broken rule.
-pub fn auditing(image: &mut [u8]) {
-    say::text(b"The audit\n");
+pub fn auditing(out: &mut impl Write, image: &mut [u8]) -> io::Result<()> {
+    say::text(out, b"The audit\n")?;
     lines::all(
+        out,
         image,
         b"audit, nothing spoiled: |on 32 1 2 7|label;|audit
 audit, R is 65: |on 32 1 2 7|label;control 65 2 2 1;|audit
@@ -30,14 +33,15 @@ audit, a root is 12: |on 32 1 2 7|label;spoil 0 12;|audit
 audit, a constant's field is 8: |on 32 1 2 8|label;|audit
 audit, a constant's field is 8 and a root is 12: |on 32 1 2 8|label;spoil 0 12;|audit
 audit, a free page's word is 1 and a is 17: |on 32 1 2 7|label;heap 20 1;table 2 17;|audit\n",
-    );
+    )
 }
 
 // The heap of "Sh"; then a record of itself, and two records, each the other's field. Of the lines with no value that the roots name:
 // none at all; a raw value in region 1 and a record of it in region 0; none, and a free page is lacking before any root is looked at.
-pub fn collecting(image: &mut [u8]) {
-    say::text(b"The collection\n");
+pub fn collecting(out: &mut impl Write, image: &mut [u8]) -> io::Result<()> {
+    say::text(out, b"The collection\n")?;
     lines::all(
+        out,
         image,
         b"collect \"Sh\": |on 32 1 2 7|label;|collect
 collect a record of itself: |on 32 1 2 7|push 1;record 0 1;assign 8 0 8;name 0 8;|collect
@@ -48,7 +52,7 @@ collect R 0, roots all numbers: |on 32 3 2 7||collect
 collect no live value: |on 64 2 2 7|push 2;words 1 5;record 0 72;name 0 2;|collect
 collect two empty regions, one page free: |on 48 1 2 7|push 2;|collect
 collect a root that is 12: |on 32 1 2 7|label;spoil 0 12;|collect\n",
-    );
+    )
 }
 
 // The slips that document 01 has seen elsewhere, in its order: on each heap a collector that makes the slip leaves other words.
@@ -61,9 +65,10 @@ collect a root that is 12: |on 32 1 2 7|label;spoil 0 12;|collect\n",
 // twice.
 //   Raw words: they are the pointers to the value itself, to its last word and past the heap.
 //   Pages free before and after: the values do not fit as many pages after the collection as before.
-pub fn slips(image: &mut [u8]) {
-    say::text(b"Slips\n");
+pub fn slips(out: &mut impl Write, image: &mut [u8]) -> io::Result<()> {
+    say::text(out, b"Slips\n")?;
     lines::all(
+        out,
         image,
         b"collect a page that ends full: |on 64 1 2 7|push 2;record 1 1;record 0 72 1 1 1 1 1 1 1 1 1 1 1 1;assign 72 0 8;name 0 8;|collect
 collect full pages with pages behind: |on 128 4 2 7|push 2;record 0 1 1 1 1 1 1 1 1 1 1 1 1 1;words 1 5 5 5 5 5 5 5 5 5 5 5 5 5;record 0 8;words 1 3;name 0 8;name 1 72;name 2 136;name 3 200;|collect
@@ -71,13 +76,14 @@ collect a region met while it is scanned: |on 64 1 2 7|push 2;record 0 1;record 
 collect raw words 8 20 4000: |on 32 1 2 7|push 1;words 0 8 20 4000;name 0 8;|collect
 collect with a page too few: |on 64 4 2 7|four;|collect
 pages free before and after 7, 7, 10, 4 words: |on 80 4 2 7|four;|free\n",
-    );
+    )
 }
 
 // The example of document 01 has 202 bytes.
-pub fn images(image: &mut [u8]) {
-    say::text(b"Image text\n");
+pub fn images(out: &mut impl Write, image: &mut [u8]) -> io::Result<()> {
+    say::text(out, b"Image text\n")?;
     lines::all(
+        out,
         image,
         b"read the example: |on 32 1 0 0 202||parts
 write it into 201 bytes: |on 32 1 0 201 202||write
@@ -91,5 +97,5 @@ read it with two frames of kind 05: |on 32 1 0 0 202 118|5|read
 read it with a capital F: |on 32 1 0 0 202 193|F|read
 read it with a zero word kept: |on 32 1 0 0 202 193|0|read
 read it with a newline more: |on 32 1 0 0 203||read\n",
-    );
+    )
 }
