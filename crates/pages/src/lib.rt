@@ -129,6 +129,7 @@ pub struct Taken {
 }
 
 // The free list once page k, its first, is taken.
+#[tactic(auto, using(rules::proofs::Pages::last_none, rules::proofs::Pages::last_stays), unfolding(rules::specs::Memory::link))]
 pub fn free_after(heap: &[u32], k: Page, c: Control) -> Taken
     requires { (PageFree (length heap.now) c) × (k.0 ≡ link_page c.first) }
     ensures { (result.first ≡ link c.n heap.now k.0) × (result.last ≡ last_if (c.count - 1) c.last) × (result.count ≡ c.count - 1) }
