@@ -1,5 +1,6 @@
 // Output, gathered in a lent buffer and written to a writer when that is full. `at` counts the buffer's bytes so far, and each function answers the
 // new count.
+use crate::parts::within;
 use std::io;
 use std::io::Write;
 
@@ -60,7 +61,7 @@ pub fn put_decimal(to: &mut impl Write, out: &mut [u8], at: usize, x: u64) -> io
     Ok(gathered.at)
 }
 
-// A hexadecimal number of at least width digits.
+// A hexadecimal number of at least width digits; a width above 16 counts as 16.
 pub fn put_hex(
     to: &mut impl Write,
     out: &mut [u8],
@@ -68,8 +69,9 @@ pub fn put_hex(
     x: u64,
     width: usize,
 ) -> io::Result<usize> {
+    let digits = within(width, 16);
     let mut gathered = Gathered { to, out, at };
-    write!(gathered, "{x:0width$x}")?;
+    write!(gathered, "{x:0digits$x}")?;
     Ok(gathered.at)
 }
 
