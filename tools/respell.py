@@ -1,7 +1,7 @@
 #!/usr/bin/env python3
 """Spells the repository's own names of specs/ and proofs/ as Rattle's libraries do: words in snake case, `'` for a prime.
 
-usage: python3 tools/respell.py [ROOT]      once, on what /opt/rattle/port/port.py left
+usage: python3 tools/respell.py [ROOT]      once, on what the kit's port.py left
 
 Three kinds of text are turned:
   - lemma files (specs/*.antt, proofs/*.antt): every name but those that the file imports from the kit;

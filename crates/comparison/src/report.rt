@@ -12,7 +12,8 @@ fn number(out: &mut impl Write, sums: &[u32], k: usize) -> io::Result<()> {
     writeln!(out, " {n}")
 }
 
-// A byte of a name, or at its end the number at place k; the place that comes next. A dash leaves a place out.
+// A byte of a name, or at its end the number at place k; the place that comes next. A dash leaves a place out. The only error is that of a write
+// that fails; it leaves nothing but what was printed.
 fn byte(out: &mut impl Write, b: u8, sums: &[u32], k: usize) -> io::Result<usize>
     requires { k ≤ 64 }
     ensures { IfOk result (λ next. next ≤ 64) }
