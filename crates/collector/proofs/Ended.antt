@@ -11,15 +11,21 @@ use Rattle.rules.specs.declared.Plain.{Plain}
 use Rattle.rules.specs.declared.Refusal.{Refusal}
 use Rattle.rules.specs.Memory.{lent, page_count}
 use Rattle.rules.specs.Refusals.{outcome}
+use Rattle.leaves.specs.declared.size.Pages.{Pages}
+use Rattle.leaves.specs.Walks.{AllOf}
 use Rattle.motion.specs.Leaves.{desk, free_first, free_last, taken, begun_notes}
 use Rattle.motion.specs.Whole.{attempt, undo, own_all, give_all, written_roots, written_table, record_by, done_as, done, lacking, ended, working_collect}
 
-pub finished : (c c' : Control) (N : ℕ) (h t rs notes rs' h₁ h₂ notes₂ t' k : List ℕ) → N ≡ length h / 2 ^ c.n → rs' ≡ written_roots h rs
-    → h₁ ≡ own_all c.n N c.regions notes h → desk h₂ notes₂ ≡ give_all c.n N c.regions t (desk h₁ notes)
+pub finished : (c c' : Control) (p : Pages) (h t rs notes rs' h₁ h₂ notes₂ t' k : List ℕ) → p.n ≡ c.n → AllOf p h → rs' ≡ written_roots h rs
+    → h₁ ≡ own_all p.n p.count c.regions notes h → desk h₂ notes₂ ≡ give_all p.n p.count c.regions t (desk h₁ notes)
     → t' ≡ written_table c.regions notes₂ t → c' ≡ record_by c notes₂
     → outcome (Plain.Done c') h₂ t' rs' k ≡ done (lent h t rs k c) (page_count c.n h) (desk h notes)
 unfolding done done_as
-finished c c' N h t rs notes rs' h₁ h₂ notes₂ t' k q a b d e f = rw (f, e, a, ← q, ← b, ← d)
+finished c c' p h t rs notes rs' h₁ h₂ notes₂ t' k n g a b d e f =
+    let count : p.count ≡ length h / 2 ^ c.n = rw n at g.count in
+    let owned = rw (n, count) at b in
+    let given = rw (n, count) at d in
+    rw (f, e, a, ← owned, ← given)
 
 -- the notes at the start
 pub begun_is : (first last : ℕ) (t t' : List ℕ) → t ≡ set (replicate 400 0) free_first first → t' ≡ set t free_last last → t' ≡ begun_notes first last
