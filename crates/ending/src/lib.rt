@@ -2,11 +2,10 @@
 
 #![tactic(auto)]
 
-ghost use Rattle.std.specs.Prelude.{◌≡◌, ◌+◌, ◌-◌, ◌≤◌, ◌<◌, length};
-ghost use Rattle.rules.specs.Memory.{page_count, page_link, row};
+ghost use Rattle.std.specs.Prelude.{◌≡◌, ◌≤◌, ◌<◌, length};
+ghost use Rattle.rules.specs.Memory.{page_count, row};
 ghost use Rattle.rules.specs.Refusals.{Paged};
-ghost use Rattle.laws.specs.Lists.{at};
-ghost use Rattle.motion.specs.Leaves.{desk, low as low_def, taken, given};
+ghost use Rattle.motion.specs.Leaves.{desk};
 ghost use Rattle.leaves.specs.Walks.{AllOf};
 ghost use Rattle.motion.specs.Whole.{own, own_all, give_back, give_all, root_word, written_roots, written_table, record_by};
 
