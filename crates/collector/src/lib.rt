@@ -3,7 +3,6 @@
 #![tactic(auto)]
 
 ghost use Rattle.std.specs.Prelude.{◌≡◌, List, ℕ, ◌≤◌, length};
-ghost use Rattle.rules.specs.declared.Plain.{Plain};
 ghost use Rattle.rules.specs.Memory.{lent, page_count};
 ghost use Rattle.rules.specs.Refusals.{Paged, outcome};
 ghost use Rattle.leaves.specs.Walks.{AllOf};
@@ -16,7 +15,7 @@ use leaves::size::Pages;
 use leaves::{word, write};
 use motion::{FREE_FIRST, FREE_LAST, NOTES, TAKEN};
 use pages::page_count;
-use rules::{Control, Plain, Refusal};
+use rules::{Control, Refusal, Refused};
 use undoing::{relink_all, undo_headers};
 
 // The pages of a heap.
@@ -50,7 +49,7 @@ fn finish(
     c: Control,
 ) -> Control
     requires { (Paged c.n (length heap.old)) × (c.regions ≤ 64) × (length table.old ≡ 256) × (length notes.old ≡ 400) }
-    ensures { (k : List ℕ) → outcome (Plain.Done result) heap.new table.new roots.new k
+    ensures { (k : List ℕ) → outcome (Ok result) heap.new table.new roots.new k
         ≡ done (lent heap.old table.old roots.old k c) (page_count c.n heap.old) (desk heap.old notes.old) }
 {
     let pages = pages_of(heap, c.n);
@@ -62,7 +61,12 @@ fn finish(
 }
 
 // The collection of a heap that has passed its tests: all living values copied and all else given back, or, where a page lacks, everything as it was.
-pub fn copy_living(heap: &mut [u32], table: &mut [u32], roots: &mut [u32], c: Control) -> Plain
+pub fn copy_living(
+    heap: &mut [u32],
+    table: &mut [u32],
+    roots: &mut [u32],
+    c: Control,
+) -> Result<Control, Refused>
     requires { (Paged c.n (length heap.old)) × (c.regions ≤ 64) × (length table.old ≡ 256) }
     ensures { (k : List ℕ) → outcome result heap.new table.new roots.new k
         ≡ working_collect (lent heap.old table.old roots.old k c) }
@@ -75,7 +79,10 @@ pub fn copy_living(heap: &mut [u32], table: &mut [u32], roots: &mut [u32], c: Co
     if !enough {
         let taken = word(&notes, TAKEN);
         undo(heap, table, taken, c);
-        return Plain::Refused(Refusal::NoPage, c);
+        return Err(Refused {
+            why: Refusal::NoPage,
+            control: c,
+        });
     }
-    Plain::Done(finish(heap, &mut notes, table, roots, c))
+    Ok(finish(heap, &mut notes, table, roots, c))
 }
