@@ -33,17 +33,17 @@ unfolding begun_notes
 begun_is first last t t' e q = rw (q, e)
 
 -- a page is lacking: h₁ and notes₂ are what the attempt left
-pub lacks : (c : Control) (h t rs notes h₁ notes₂ h₂ k : List ℕ) (m : ℕ) (ok : Bool) → notes ≡ begun_notes c.first c.last
-    → after ok (desk h₁ notes₂) ≡ attempt c.n c.regions (2 * length h) rs (desk h notes) → ok ≡ false → length h₁ ≡ length h → m ≡ at notes₂ taken
+pub lacks : (c : Control) (h t rs notes h₁ notes₂ h₂ k : List ℕ) (m : ℕ) → notes ≡ begun_notes c.first c.last
+    → after false (desk h₁ notes₂) ≡ attempt c.n c.regions (2 * length h) rs (desk h notes) → length h₁ ≡ length h → m ≡ at notes₂ taken
     → h₂ ≡ undo c.n m (page_count c.n h₁) c.regions c.first t h₁
     → outcome (refusing Refusal.NoPage c) h₂ t rs k ≡ working_collect (lent h t rs k c)
 unfolding lacking ended working_collect
-lacks c h t rs notes h₁ notes₂ h₂ k m ok a b e l d f = rw (f, l, d, ← a, ← b, e)
+lacks c h t rs notes h₁ notes₂ h₂ k m a b l d f = rw (f, l, d, ← a, ← b)
 
 -- the attempt has pages enough, and `finish` ends it
-pub ends : (c c' : Control) (h t rs notes h₁ notes₂ h₂ t' rs' k : List ℕ) (ok : Bool) → notes ≡ begun_notes c.first c.last
-    → after ok (desk h₁ notes₂) ≡ attempt c.n c.regions (2 * length h) rs (desk h notes) → ok ≡ true → length h₁ ≡ length h
+pub ends : (c c' : Control) (h t rs notes h₁ notes₂ h₂ t' rs' k : List ℕ) → notes ≡ begun_notes c.first c.last
+    → after true (desk h₁ notes₂) ≡ attempt c.n c.regions (2 * length h) rs (desk h notes) → length h₁ ≡ length h
     → outcome (Ok c') h₂ t' rs' k ≡ done (lent h₁ t rs k c) (page_count c.n h₁) (desk h₁ notes₂)
     → outcome (Ok c') h₂ t' rs' k ≡ working_collect (lent h t rs k c)
 unfolding done_as done ended working_collect
-ends c c' h t rs notes h₁ notes₂ h₂ t' rs' k ok a b e l f = rw (← a, ← b, e, ← l) f
+ends c c' h t rs notes h₁ notes₂ h₂ t' rs' k a b l f = rw (← a, ← b, ← l) f

@@ -13,7 +13,7 @@ use attempting::attempt;
 use ending::{give_all, own_all, record_by, write_roots, write_table};
 use leaves::size::Pages;
 use leaves::{word, write};
-use motion::{FREE_FIRST, FREE_LAST, NOTES, TAKEN};
+use motion::{FREE_FIRST, FREE_LAST, NOTES, NoPage, TAKEN};
 use pages::page_count;
 use rules::{Control, Refusal, Refused};
 use undoing::{relink_all, undo_headers};
@@ -75,14 +75,14 @@ pub fn copy_living(
     write(&mut notes, FREE_FIRST, c.first as usize);
     write(&mut notes, FREE_LAST, c.last as usize);
     let fuel = 2 * heap.len();
-    let enough = attempt(heap, &mut notes, roots, c.regions, fuel, c.n);
-    if !enough {
-        let taken = word(&notes, TAKEN);
-        undo(heap, table, taken, c);
-        return Err(Refused {
-            why: Refusal::NoPage,
-            control: c,
-        });
+    match attempt(heap, &mut notes, roots, c.regions, fuel, c.n) {
+        Ok(()) => Ok(finish(heap, &mut notes, table, roots, c)),
+        Err(NoPage) => {
+            undo(heap, table, word(&notes, TAKEN), c);
+            Err(Refused {
+                why: Refusal::NoPage,
+                control: c,
+            })
+        }
     }
-    Ok(finish(heap, &mut notes, table, roots, c))
 }
