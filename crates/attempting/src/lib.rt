@@ -2,8 +2,9 @@
 
 #![tactic(auto)]
 
-ghost use Rattle.std.specs.Prelude.{◌≡◌, ◌<◌, is_ok};
+ghost use Rattle.std.specs.Prelude.{◌≡◌, ◌≤◌, ◌<◌, is_ok};
 ghost use Rattle.laws.specs.Each.{after};
+ghost use Rattle.motion.specs.Leaves.{desk, out};
 ghost use Rattle.motion.specs.Desks.{laid, Same};
 ghost use Rattle.motion.specs.Whole.{fresh as fresh_def, freshen as freshen_def, move_root, move_roots, work_stack, attempt as attempt_def};
 
@@ -82,14 +83,21 @@ fn work_stack(desk: &mut Desk<'_>, fuel: usize) -> Result<Option<Entry>, NoPage>
 
 // Fresh pages, roots, scan stack. It fails where the pages are not enough.
 #[tactic(auto, unfolding(motion::specs::Whole::work_done, motion::specs::Whole::roots_done, motion::specs::Whole::fresh_done))]
-pub fn attempt(desk: &mut Desk<'_>, roots: &[u32], regions: u32, fuel: usize) -> Result<(), NoPage>
-    ensures attempted { after (is_ok result) (laid desk.new)
-        ≡ attempt_def desk.old.n regions fuel roots.now (laid desk.old) }
-    ensures same { Same desk.old desk.new }
+pub fn attempt(
+    heap: &mut [u32],
+    notes: &mut [u32],
+    roots: &[u32],
+    regions: u32,
+    fuel: usize,
+    n: u32,
+) -> Result<(), NoPage>
+    requires { (4 ≤ n) × (n ≤ 8) }
+    ensures { out (is_ok result) heap.new notes.new ≡ attempt_def n regions fuel roots.now (desk heap.old notes.old) }
 {
-    freshen(desk, regions)?;
-    move_roots(desk, roots)?;
-    match work_stack(desk, fuel)? {
+    let mut desk = Desk { heap, notes, n };
+    freshen(&mut desk, regions)?;
+    move_roots(&mut desk, roots)?;
+    match work_stack(&mut desk, fuel)? {
         None => Ok(()),
         Some(_) => Err(NoPage),
     }
