@@ -2,7 +2,7 @@
 use Rattle.std.specs.Prelude.{Ok}
 use Rattle.rules.specs.Refusals.{outcome, refusing}
 use Prim.Native.Nat.{ℕ, ◌*◌, ◌/◌, ◌^◌}
-use mathlib.Core.Bool.{Bool, true, false}
+use mathlib.Core.Bool.{true, false}
 use mathlib.Core.Path.{◌≡◌}
 use mathlib.Core.List.{List}
 use lib.ListN.{length, set, replicate}
