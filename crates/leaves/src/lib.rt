@@ -16,6 +16,9 @@ use conversions::{
 use motion::{DEPTH, Desk, Entry, STACK};
 use rules::{Address, Page, Region};
 
+pub mod chain;
+pub mod size;
+
 // The word at i, 0 outside.
 pub fn word(s: &[u32], i: usize) -> usize
     ensures { (result ≡ at s.now i) × (result < 4294967296) }
