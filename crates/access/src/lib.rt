@@ -9,7 +9,7 @@ ghost use Rattle.rules.specs.Refusals.{outcome};
 
 use limits::{Tested, first_tests};
 use rules::{Control, Plain, Refusal};
-use values::{good_word, look, nothing};
+use values::{Memory, good_word, look, nothing};
 
 // The value that a word points to, as a part of the heap or of the constants; an empty part where the call is refused.
 pub fn fetch<'a>(
@@ -26,7 +26,7 @@ pub fn fetch<'a>(
     if let Tested::Refused(_) = tested {
         return nothing(heap);
     }
-    look(heap, consts, c.n, c.regions, w)
+    look(Memory { heap, consts, c }, w)
 }
 
 // Whether a fetch is refused, and why.
@@ -44,7 +44,7 @@ pub fn fetch_refusal<'a>(
     if let Tested::Refused(why) = tested {
         return Plain::Refused(why, c);
     }
-    let value = look(heap, consts, c.n, c.regions, w);
+    let value = look(Memory { heap, consts, c }, w);
     if value.len() == 0 {
         return Plain::Refused(Refusal::NotGood, c);
     }
@@ -71,7 +71,7 @@ pub fn set_root(
     if roots.len() <= root {
         return Plain::Refused(Refusal::NoSuch, c);
     }
-    if !good_word(heap, consts, c.n, c.regions, w) {
+    if !good_word(Memory { heap, consts, c }, w) {
         return Plain::Refused(Refusal::NotGood, c);
     }
     roots[root] = w;

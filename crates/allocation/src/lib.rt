@@ -15,7 +15,7 @@ use pages::page_words;
 use placing::put_value;
 use rows::{end_of, top_of};
 use rules::{Control, Kind, Refusal, Region, Valued};
-use values::good_word;
+use values::{Memory, good_word};
 
 // Whether region j's e and a are fit for an allocation: e is a multiple of P from P to NP, a lies from e-P+2 to e.
 fn row_fits(heap: &[u32], table: &[u32], j: Region, n: u32) -> bool
@@ -42,18 +42,10 @@ fn row_fits(heap: &[u32], table: &[u32], j: Region, n: u32) -> bool
 }
 
 // Whether each word is a number or a good pointer.
-fn good_words(heap: &[u32], consts: &[u32], n: u32, regions: u32, words: &[u32]) -> bool
-    requires { (Paged n (length heap.now)) × (length consts.now ≤ 65535) }
-    ensures { result ≡ all (good_in n regions heap.now consts.now) words.now }
+fn good_words(memory: Memory<'_>, words: &[u32]) -> bool
+    ensures { let m = memory.entry in result ≡ all (good_in m.c.n m.c.regions m.heap.now m.consts.now) words.now }
 {
-    let mut i = 0;
-    while i < words.len() {
-        if !good_word(heap, consts, n, regions, words[i]) {
-            return false;
-        }
-        i += 1;
-    }
-    true
+    words.iter().all(|w| good_word(memory, *w))
 }
 
 // Whether the words may stand in a value of this kind.
@@ -62,7 +54,7 @@ fn words_fit(heap: &[u32], consts: &[u32], c: Control, kind: Kind, words: &[u32]
     ensures { (t r : List ℕ) → result ≡ words_fit (lent heap.now t r consts.now c) kind words.now }
 {
     match kind {
-        Kind::Record => good_words(heap, consts, c.n, c.regions, words),
+        Kind::Record => good_words(Memory { heap, consts, c }, words),
         Kind::Raw => true,
     }
 }

@@ -11,7 +11,7 @@ ghost use Rattle.rules.specs.Words.{word_of};
 use conversions::pointer_address;
 use limits::{Tested, first_tests};
 use rules::{Control, Plain, Refusal};
-use values::{good_const, good_heap, good_word, is_record};
+use values::{Memory, good_const, good_heap, good_word, is_record};
 
 // What assigning does after the first tests, whatever the table and the roots are: the target is judged first, then the field's number,
 // then the word.
@@ -48,7 +48,7 @@ fn assign_into(
     if (header / 8) as usize <= field {
         return Plain::Refused(Refusal::NoSuch, c);
     }
-    if !good_word(heap, consts, c.n, c.regions, word) {
+    if !good_word(Memory { heap, consts, c }, word) {
         return Plain::Refused(Refusal::NotGood, c);
     }
     heap[i + field + 1] = word;

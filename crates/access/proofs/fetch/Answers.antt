@@ -9,8 +9,8 @@ pub returns-in-Refused : goal.returns-in-Refused
 unfolding fetch
 returns-in-Refused c = c.nothing.ensures ∙ tests_refuse _ _ _ _ _ c.first_tests-tested.ensures (λ r. []) _ c.in-Refused.is
 
-pub look-requires : goal.look-requires
-look-requires c = let a = tests_admit _ _ _ _ _ c.first_tests-tested.ensures c.in_default.is in (a.paged, a.consts)
+pub invariant_of-look : goal.invariant_of-look
+invariant_of-look c = let a = tests_admit _ _ _ _ _ c.first_tests-tested.ensures c.in_default.is in record { paged = a.paged; few = a.consts }
 
 pub returns : goal.returns
 unfolding fetch

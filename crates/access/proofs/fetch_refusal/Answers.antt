@@ -10,8 +10,8 @@ pub returns-in-Refused : goal.returns-in-Refused
 unfolding fetch_refusal
 returns-in-Refused c = tests_refuse _ _ _ _ _ c.first_tests-tested.ensures (λ r. Plain.Refused r c.args.c) _ c.in-Refused.is
 
-pub look-value-requires : goal.look-value-requires
-look-value-requires c = let a = tests_admit _ _ _ _ _ c.first_tests-tested.ensures c.in_default.is in (a.paged, a.consts)
+pub invariant_of-look : goal.invariant_of-look
+invariant_of-look c = let a = tests_admit _ _ _ _ _ c.first_tests-tested.ensures c.in_default.is in record { paged = a.paged; few = a.consts }
 
 pub returns-then-value-eq0 : goal.returns-then-value-eq0
 unfolding fetch_refusal

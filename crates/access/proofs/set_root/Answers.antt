@@ -14,8 +14,8 @@ pub returns-then-roots-root : goal.returns-then-roots-root
 unfolding set_root
 returns-then-roots-root c = let f = tests_pass _ _ _ _ _ c.first_tests-tested.ensures c.in_default.is in rw (f.0, f.1, le-leb _ _ c.if-roots-root.true)
 
-pub good_word-requires : goal.good_word-requires
-good_word-requires c = let a = tests_admit _ _ _ _ _ c.first_tests-tested.ensures c.in_default.is in (a.paged, a.consts)
+pub invariant_of-good_word : goal.invariant_of-good_word
+invariant_of-good_word c = let a = tests_admit _ _ _ _ _ c.first_tests-tested.ensures c.in_default.is in record { paged = a.paged; few = a.consts }
 
 pub returns-then-not-good_word : goal.returns-then-not-good_word
 unfolding set_root

@@ -13,8 +13,8 @@ pub returns-then-roots-root : goal.returns-then-roots-root
 unfolding walk
 returns-then-roots-root c = let f = tests_pass _ _ _ _ _ c.first_tests-tested.ensures c.in_default.is in rw (f.0, f.1, le-leb _ _ c.if-roots-root.true)
 
-pub walk_pieces-requires : goal.walk_pieces-requires
-walk_pieces-requires c = let a = tests_admit _ _ _ _ _ c.first_tests-tested.ensures c.in_default.is in (a.paged, a.consts)
+pub invariant_of-walk_pieces : goal.invariant_of-walk_pieces
+invariant_of-walk_pieces c = let a = tests_admit _ _ _ _ _ c.first_tests-tested.ensures c.in_default.is in record { paged = a.paged; few = a.consts }
 
 pub returns : goal.returns
 unfolding walk
