@@ -10,11 +10,11 @@ ghost use Rattle.rules.specs.Refusals.{Paged, outcome};
 ghost use Rattle.rules.specs.Calls.{row_fits, header_for, words_fit, allocate as allocate_of};
 
 use conversions::{address_before, address_behind};
-use limits::{Tested, first_tests};
+use limits::first_tests;
 use pages::page_words;
 use placing::put_value;
 use rows::{end_of, top_of};
-use rules::{Control, Kind, Refusal, Region, Valued};
+use rules::{Control, Kind, Refusal, Refused, Region};
 use values::{Memory, good_word};
 
 // Whether region j's e and a are fit for an allocation: e is a multiple of P from P to NP, a lies from e-P+2 to e.
@@ -80,24 +80,33 @@ pub fn allocate(
     j: Region,
     kind: Kind,
     words: &[u32],
-) -> Valued
+) -> Result<(u32, Control), Refused>
     ensures { outcome result heap.new table.new roots.now consts.now ≡ allocate_of (lent heap.old table.old roots.now consts.now c) j.0 kind words.now }
 {
-    let tested = first_tests(heap.len(), table.len(), roots.len(), consts.len(), c);
-    if let Tested::Refused(why) = tested {
-        return Valued::Refused(why, c);
-    }
+    first_tests(heap.len(), table.len(), roots.len(), consts.len(), c)?;
     if c.regions as usize <= j.0 {
-        return Valued::Refused(Refusal::NoRegion, c);
+        return Err(Refused {
+            why: Refusal::NoRegion,
+            control: c,
+        });
     }
     if !row_fits(heap, table, j, c.n) {
-        return Valued::Refused(Refusal::Broken(0), c);
+        return Err(Refused {
+            why: Refusal::Broken(0),
+            control: c,
+        });
     }
     if page_words(c.n) - 3 < words.len() {
-        return Valued::Refused(Refusal::TooLong, c);
+        return Err(Refused {
+            why: Refusal::TooLong,
+            control: c,
+        });
     }
     if !words_fit(heap, consts, c, kind, words) {
-        return Valued::Refused(Refusal::NotGood, c);
+        return Err(Refused {
+            why: Refusal::NotGood,
+            control: c,
+        });
     }
     put_value(heap, table, c, j, header_for(kind, words.len()), words)
 }

@@ -2,7 +2,7 @@
 -- its end is asked again at the next step; and where the front stops the whole stops.
 use Prim.Native.Nat.{ℕ, suc}
 use mathlib.Core.Path.{◌≡◌, refl, sym, ap, ◌∙◌}
-use mathlib.Core.Bool.{Bool, true, false, not, false≢true}
+use mathlib.Core.Bool.{Bool, true, false, not}
 use mathlib.Core.List.{List, [], ◌∷◌, ◌++◌}
 use lib.Dec.{leb}
 use lib.ListN.{take-append-drop}
@@ -10,11 +10,9 @@ use Rattle.std.specs.List.{IsSplitAt}
 use Rattle.laws.specs.Choice.{◌⇒◌∣◌}
 use Rattle.laws.specs.Lists.{at}
 use Rattle.laws.proofs.Choices.{choices_agree}
-use Rattle.rules.specs.declared.Control.{Control}
 use Rattle.rules.specs.declared.Refusal.{Refusal}
-use Rattle.rules.specs.declared.Valued.{Valued}
 use Rattle.rules.specs.Words.{word_of, is_record}
-use Rattle.rules.specs.Calls.{header_in, fields_in, is_there, is_number, Walked, ends, stops, step_into, walk_from, walk_says}
+use Rattle.rules.specs.Calls.{header_in, fields_in, is_there, is_number, Walked, ends, stops, step_into, walk_from}
 use Rattle.rules.proofs.Walks.{walk_stuck}
 
 -- a walk that goes on where another ends
@@ -45,29 +43,17 @@ module _ (view : ℕ → List ℕ) where
       refuse_or (λ x. walk_from view x q) (is_number (word_of w)) _ _ _
       (into (view w) f (λ x. walk_from view x (fs ++ q)) (λ x. walk_from view x fs) (λ x. walk_from view x q) (joined fs q (at (view w) (suc f))))
 
-passed : (c : Control) {d : Control} {x : ℕ} (m : Walked) (go : ℕ → Walked) → Valued.Done x d ≡ walk_says c m → onward m go ≡ go x
-passed c {d} {x} (ends w) go e = let same : w ≡ x = cc in ap go same
-passed c (stops r) go e = absurd (false≢true cc)
-
-halted : (c : Control) {d : Control} {r : Refusal} (m : Walked) (go : ℕ → Walked) → Valued.Refused r d ≡ walk_says c m → walk_says c m ≡ walk_says c (onward m go)
-halted c (ends w) go e = absurd (false≢true cc)
-halted c (stops s) go e = refl
-
 -- the path left is a piece and what is further on; v is what the walk of the piece answered
-module _ (view : ℕ → List ℕ) (c : Control) (w : ℕ) (left piece further : List ℕ) (cut : IsSplitAt left 256 piece further) {v : Valued}
-    (s : v ≡ walk_says c (walk_from view w piece)) where
+module _ (view : ℕ → List ℕ) (w : ℕ) (left piece further : List ℕ) (cut : IsSplitAt left 256 piece further) where
   onward_is : walk_from view w left ≡ onward (walk_from view w piece) (λ x. walk_from view x further)
   onward_is =
       ap (walk_from view w) (sym (take-append-drop 256 left))
       ∙ rw (← cut.1, ← cut.2) (joined view piece further w)
 
   -- it ended: the walk of what was left goes on behind it
-  pub piece_ends : {x : ℕ} {d : Control} → v ≡ Valued.Done x d → walk_from view w left ≡ walk_from view x further
-  piece_ends q = onward_is ∙ passed c (walk_from view w piece) (λ x. walk_from view x further) (sym q ∙ s)
+  pub piece_ends : {x : ℕ} → ends x ≡ walk_from view w piece → walk_from view w left ≡ walk_from view x further
+  piece_ends e = onward_is ∙ ap (λ m. onward m (λ x. walk_from view x further)) (sym e)
 
   -- it stopped: so does the walk
-  pub piece_stops : {r : Refusal} {d : Control} → v ≡ Valued.Refused r d → v ≡ walk_says c (walk_from view w left)
-  piece_stops q =
-      s
-      ∙ halted c (walk_from view w piece) (λ x. walk_from view x further) (sym q ∙ s)
-      ∙ ap (walk_says c) (sym onward_is)
+  pub piece_stops : {r : Refusal} → stops r ≡ walk_from view w piece → stops r ≡ walk_from view w left
+  piece_stops e = sym (onward_is ∙ ap (λ m. onward m (λ x. walk_from view x further)) (sym e))
