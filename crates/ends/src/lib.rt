@@ -36,14 +36,14 @@ pub fn rule4(heap: &[u32], table: &[u32], roots: &[u32], consts: &[u32], c: Cont
     let size = page_words(n);
     let pages = page_count(heap.len(), n) as u32;
     let mut fine = true;
-    'regions: for i in 0..regions {
-        let j = region_numbered(i);
-        if !top_fits(table, j, n) {
+    'regions: for j in 0..regions {
+        let region = region_numbered(j);
+        if !top_fits(table, region, n) {
             fine = false;
             break 'regions;
         }
-        let end = end_of(table, j);
-        let mut link = first_link(table, j, n);
+        let end = end_of(table, region);
+        let mut link = first_link(table, region, n);
         'pages: for _ in 0..pages {
             if link == 0 {
                 break 'pages;

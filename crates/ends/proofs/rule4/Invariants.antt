@@ -9,7 +9,7 @@ use Rattle.ends.proofs.Turns.{region_ends}
 use Rattle.ends.proofs.rule4.Given as goal
 
 abbrev pub invariant-pages : goal.invariant-pages
-invariant-pages l = ((all (ends_at l.n l.heap l.table l.i) (chain (l.pages - l.counter) l.n l.heap l.link) && all_from (region_ends l.n l.heap l.table) (l.regions - l.i - 1) (l.i + 1)) ≡ all_from (region_ends l.n l.heap l.table) l.regions 0) × (l.fine ≡ true)
+invariant-pages l = ((all (ends_at l.n l.heap l.table l.j) (chain (l.pages - l.counter) l.n l.heap l.link) && all_from (region_ends l.n l.heap l.table) (l.regions - l.j - 1) (l.j + 1)) ≡ all_from (region_ends l.n l.heap l.table) l.regions 0) × (l.fine ≡ true)
 
 abbrev pub invariant-regions : goal.invariant-regions
-invariant-regions l = (all_from (region_ends l.n l.heap l.table) (l.regions - l.i) l.i ≡ all_from (region_ends l.n l.heap l.table) l.regions 0) × (l.fine ≡ true)
+invariant-regions l = (all_from (region_ends l.n l.heap l.table) (l.regions - l.j) l.j ≡ all_from (region_ends l.n l.heap l.table) l.regions 0) × (l.fine ≡ true)
