@@ -13,6 +13,14 @@ pub struct Memory<'a> {
 }
 
 impl Memory<'_> {
+    // Clears the four parts and the record.
+    pub fn clear(&mut self) {
+        self.heap.fill(0);
+        self.table.fill(0);
+        self.roots.fill(0);
+        self.consts.fill(0);
+    }
+
     // The hash of the lent words and the record.
     pub fn hash(&self) -> u64 {
         let c = self.control;
