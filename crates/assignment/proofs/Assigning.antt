@@ -1,5 +1,6 @@
 -- The ways of an assignment after the first tests, as the code takes them: each is what `assign_by` says, whose tests are the same in the
 -- same order. g, d and b are what the code's tests of the target, its header and the word answered.
+use Rattle.std.specs.Prelude.{Ok}
 use Prim.Native.Nat.{ℕ, ◌+◌, ◌-◌, ◌/◌, ◌≤◌, ◌<◌}
 use mathlib.Core.Path.{◌≡◌}
 use mathlib.Core.Bool.{Bool, true, false}
@@ -11,7 +12,6 @@ use lib.ListN.{length, set}
 use Rattle.laws.specs.Lists.{at}
 use Rattle.laws.proofs.Turned.{told_true}
 use Rattle.rules.specs.declared.Control.{Control}
-use Rattle.rules.specs.declared.Plain.{Plain}
 use Rattle.rules.specs.declared.Refusal.{Refusal}
 use Rattle.rules.specs.Calls.{assign_at, assign_by}
 use Rattle.rules.specs.Memory.{lent}
@@ -66,6 +66,6 @@ module _ (h t r k : List ℕ) (c : Control) (w i x : ℕ) where
             unfolding assign_by assign_at
             no_word f = rw (is, ← e, good, ← e', rec, lt-leb (at h a / 8) i field, ← e'', f)
 
-            pub assigned : (m : ℕ) → m ≡ a + i + 1 → b ≡ true → outcome (Plain.Done c) (set h m x) t r k ≡ assign_by (lent h t r k c) (word_of w) i x
+            pub assigned : (m : ℕ) → m ≡ a + i + 1 → b ≡ true → outcome (Ok c) (set h m x) t r k ≡ assign_by (lent h t r k c) (word_of w) i x
             unfolding assign_by assign_at
             assigned m at_field f = rw (at_field, is, ← e, good, ← e', rec, lt-leb (at h a / 8) i field, ← e'', f, add-one (a + i))

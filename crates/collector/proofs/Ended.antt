@@ -1,4 +1,6 @@
 -- The whole, by what its parts ensure: each part is the definition's, and what it leaves is what the next one starts with.
+use Rattle.std.specs.Prelude.{Ok}
+use Rattle.rules.specs.Refusals.{outcome, refusing}
 use Prim.Native.Nat.{ℕ, ◌*◌, ◌/◌, ◌^◌}
 use mathlib.Core.Bool.{Bool, true, false}
 use mathlib.Core.Path.{◌≡◌}
@@ -7,17 +9,15 @@ use lib.ListN.{length, set, replicate}
 use Rattle.laws.specs.Each.{after}
 use Rattle.laws.specs.Lists.{at}
 use Rattle.rules.specs.declared.Control.{Control}
-use Rattle.rules.specs.declared.Plain.{Plain}
 use Rattle.rules.specs.declared.Refusal.{Refusal}
 use Rattle.rules.specs.Memory.{lent, page_count}
-use Rattle.rules.specs.Refusals.{outcome}
 use Rattle.motion.specs.Leaves.{desk, free_first, free_last, taken, begun_notes}
 use Rattle.motion.specs.Whole.{attempt, undo, own_all, give_all, written_roots, written_table, record_by, done_as, done, lacking, ended, working_collect}
 
 pub finished : (c c' : Control) (N : ℕ) (h t rs notes rs' h₁ h₂ notes₂ t' k : List ℕ) → N ≡ length h / 2 ^ c.n → rs' ≡ written_roots h rs
     → h₁ ≡ own_all c.n N c.regions notes h → desk h₂ notes₂ ≡ give_all c.n N c.regions t (desk h₁ notes)
     → t' ≡ written_table c.regions notes₂ t → c' ≡ record_by c notes₂
-    → outcome (Plain.Done c') h₂ t' rs' k ≡ done (lent h t rs k c) (page_count c.n h) (desk h notes)
+    → outcome (Ok c') h₂ t' rs' k ≡ done (lent h t rs k c) (page_count c.n h) (desk h notes)
 unfolding done done_as
 finished c c' N h t rs notes rs' h₁ h₂ notes₂ t' k q a b d e f = rw (f, e, a, ← q, ← b, ← d)
 
@@ -30,14 +30,14 @@ begun_is first last t t' e q = rw (q, e)
 pub lacks : (c : Control) (h t rs notes h₁ notes₂ h₂ k : List ℕ) (m : ℕ) (ok : Bool) → notes ≡ begun_notes c.first c.last
     → after ok (desk h₁ notes₂) ≡ attempt c.n c.regions (2 * length h) rs (desk h notes) → ok ≡ false → length h₁ ≡ length h → m ≡ at notes₂ taken
     → h₂ ≡ undo c.n m (page_count c.n h₁) c.regions c.first t h₁
-    → outcome (Plain.Refused Refusal.NoPage c) h₂ t rs k ≡ working_collect (lent h t rs k c)
+    → outcome (refusing Refusal.NoPage c) h₂ t rs k ≡ working_collect (lent h t rs k c)
 unfolding lacking ended working_collect
 lacks c h t rs notes h₁ notes₂ h₂ k m ok a b e l d f = rw (f, l, d, ← a, ← b, e)
 
 -- the attempt has pages enough, and `finish` ends it
 pub ends : (c c' : Control) (h t rs notes h₁ notes₂ h₂ t' rs' k : List ℕ) (ok : Bool) → notes ≡ begun_notes c.first c.last
     → after ok (desk h₁ notes₂) ≡ attempt c.n c.regions (2 * length h) rs (desk h notes) → ok ≡ true → length h₁ ≡ length h
-    → outcome (Plain.Done c') h₂ t' rs' k ≡ done (lent h₁ t rs k c) (page_count c.n h₁) (desk h₁ notes₂)
-    → outcome (Plain.Done c') h₂ t' rs' k ≡ working_collect (lent h t rs k c)
+    → outcome (Ok c') h₂ t' rs' k ≡ done (lent h₁ t rs k c) (page_count c.n h₁) (desk h₁ notes₂)
+    → outcome (Ok c') h₂ t' rs' k ≡ working_collect (lent h t rs k c)
 unfolding done_as done ended working_collect
 ends c c' h t rs notes h₁ notes₂ h₂ t' rs' k ok a b e l f = rw (← a, ← b, e, ← l) f

@@ -1,5 +1,6 @@
 -- What the program answers, by the first frame: one that asks for too much is refused at line 1, whether it is malformed or not; any other
 -- leads to what reading into parts of its lengths gives.
+use Rattle.std.specs.Prelude.{Result, Ok, Err}
 use Prim.Native.Nat.{ℕ, ◌-◌, ◌*◌, ◌^◌, ◌≤◌}
 use mathlib.Core.Path.{◌≡◌, refl, sym, ap, ◌∙◌}
 use mathlib.Core.Bool.{Bool, true, false, false≢true}
@@ -12,7 +13,6 @@ use lib.Seq.{length-take-le}
 use Rattle.laws.proofs.Tests.{both}
 use Rattle.rules.specs.declared.Control.{Control}
 use Rattle.rules.specs.declared.Refusal.{Refusal}
-use Rattle.rules.specs.declared.Opened.{Opened}
 use Rattle.rules.specs.Memory.{lent}
 use Rattle.rules.specs.Refusals.{Outcome, outcome}
 use Rattle.rules.specs.Image.{head_fits, program_fits, layout, Frames, frames, malformed, read_text, store_of, same_lengths, read_store, read_image, refusal_text, program_on, collect_program}
@@ -124,37 +124,37 @@ module _ (text heap table roots consts : List ℕ) (fits : lengths_fit (head_fro
 
   -- what reading is, by what the text is
   read_frames_lem : (fs : List (List ℕ)) → read_text text ≡ frames fs
-      → read_image text heap table roots consts ≡ outcome (Opened.Done (store_of fs).ctl) (store_of fs).heap (store_of fs).table (store_of fs).roots (store_of fs).consts
+      → read_image text heap table roots consts ≡ outcome (Ok (store_of fs).ctl) (store_of fs).heap (store_of fs).table (store_of fs).roots (store_of fs).consts
   unfolding read_image read_store
   read_frames_lem fs q = rw (q, read_fits fs q)
 
-  module _ (o : Outcome Opened) (e : o ≡ read_image text heap table roots consts) where
-    answers_done : (fs : List (List ℕ)) → read_text text ≡ frames fs → o.answer ≡ Opened.Done (store_of fs).ctl
-    answers_done fs q = ap (λ (x : Outcome Opened). x.answer) (e ∙ read_frames_lem fs q)
+  module _ (o : Outcome (Result Control Refusal)) (e : o ≡ read_image text heap table roots consts) where
+    answers_done : (fs : List (List ℕ)) → read_text text ≡ frames fs → o.answer ≡ Ok (store_of fs).ctl
+    answers_done fs q = ap (λ (x : Outcome (Result Control Refusal)). x.answer) (e ∙ read_frames_lem fs q)
 
-    answers_refused : (line : ℕ) → read_text text ≡ malformed line → o.answer ≡ Opened.Refused (Refusal.Malformed line)
-    answers_refused line q = ap (λ (x : Outcome Opened). x.answer) (e ∙ sym (read_malformed text heap table roots consts line (ap judged_as q)))
+    answers_refused : (line : ℕ) → read_text text ≡ malformed line → o.answer ≡ Err (Refusal.Malformed line)
+    answers_refused line q = ap (λ (x : Outcome (Result Control Refusal)). x.answer) (e ∙ sym (read_malformed text heap table roots consts line (ap judged_as q)))
 
-    pub read_refused : (why : Refusal) → o.answer ≡ Opened.Refused why → refusal_text why ≡ program_on (read_text text)
+    pub read_refused : (why : Refusal) → o.answer ≡ Err why → refusal_text why ≡ program_on (read_text text)
     read_refused why r = go (read_text text) refl
       where
         go : (f : Frames) → read_text text ≡ f → refusal_text why ≡ program_on (read_text text)
         go (frames fs) q =
-            let d : Opened.Refused why ≡ Opened.Done (store_of fs).ctl = sym r ∙ answers_done fs q in
+            let d : Err why ≡ Ok (store_of fs).ctl = sym r ∙ answers_done fs q in
             absurd (false≢true cc)
         go (malformed line) q =
-            let d : Opened.Refused why ≡ Opened.Refused (Refusal.Malformed line) = sym r ∙ answers_refused line q in
+            let d : Err why ≡ Err (Refusal.Malformed line) = sym r ∙ answers_refused line q in
             let w : why ≡ Refusal.Malformed line = cc in
             rw (q, w)
 
-    pub read_done : (c : Control) → o.answer ≡ Opened.Done c → collected_from (lent o.heap o.table o.roots o.consts c) ≡ program_on (read_text text)
+    pub read_done : (c : Control) → o.answer ≡ Ok c → collected_from (lent o.heap o.table o.roots o.consts c) ≡ program_on (read_text text)
     read_done c r = go (read_text text) refl
       where
         go : (f : Frames) → read_text text ≡ f → collected_from (lent o.heap o.table o.roots o.consts c) ≡ program_on (read_text text)
         go (frames fs) q =
-            let d : Opened.Done c ≡ Opened.Done (store_of fs).ctl = sym r ∙ answers_done fs q in
+            let d : Ok c ≡ Ok (store_of fs).ctl = sym r ∙ answers_done fs q in
             let k : c ≡ (store_of fs).ctl = cc in
             rw (q, k, e ∙ read_frames_lem fs q)
         go (malformed line) q =
-            let d : Opened.Done c ≡ Opened.Refused (Refusal.Malformed line) = sym r ∙ answers_refused line q in
+            let d : Ok c ≡ Err (Refusal.Malformed line) = sym r ∙ answers_refused line q in
             absurd (false≢true cc)

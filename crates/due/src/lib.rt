@@ -3,12 +3,12 @@
 #![tactic(auto)]
 
 ghost use Rattle.std.specs.Prelude.{◌≡◌};
-ghost use Rattle.rules.specs.Memory.{lent};
+ghost use Rattle.rules.specs.Memory.{store};
 ghost use Rattle.rules.specs.Calls.{due_at, due as due_of};
 
-use limits::{Tested, first_tests};
+use limits::admit;
 use pages::page_count;
-use rules::{Control, Told};
+use rules::{Control, Lent, Refused};
 
 // Whether a collection is due with so many of the pages free.
 fn due_at(count: u32, pages: usize) -> bool
@@ -18,12 +18,10 @@ fn due_at(count: u32, pages: usize) -> bool
 }
 
 // Whether a collection is due.
-pub fn due(heap: &[u32], table: &[u32], roots: &[u32], consts: &[u32], c: Control) -> Told
-    ensures { result ≡ due_of (lent heap.now table.now roots.now consts.now c) }
+pub fn due(lent: Lent<'_>) -> Result<(bool, Control), Refused>
+    ensures { result ≡ due_of (store lent.entry) }
 {
-    let tested = first_tests(heap.len(), table.len(), roots.len(), consts.len(), c);
-    if let Tested::Refused(why) = tested {
-        return Told::Refused(why, c);
-    }
-    Told::Done(due_at(c.count, page_count(heap.len(), c.n)), c)
+    admit(lent)?;
+    let c = lent.control;
+    Ok((due_at(c.count, page_count(lent.heap.len(), c.n)), c))
 }

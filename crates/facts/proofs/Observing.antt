@@ -1,4 +1,6 @@
 -- What a caller sees on a heap that passes is what the view has: the tests before a walk or a fetch pass.
+use Rattle.std.specs.Prelude.{Ok}
+use Rattle.rules.specs.Refusals.{refusing}
 use Prim.Native.Nat.{ℕ, ◌<◌}
 use mathlib.Core.Path.{◌≡◌, refl, sym, ap, ◌∙◌}
 use mathlib.Core.Logic.{◌↔◌}
@@ -10,11 +12,11 @@ use native.Mathlib.Omega.{arith}
 use borrow.Author.Tests.{lt-leb, leb-false}
 use Rattle.laws.specs.Lists.{at}
 use Rattle.laws.proofs.Choices.{choices_agree, second_chosen}
-use Rattle.rules.specs.declared.Valued.{Valued}
 use Rattle.rules.specs.Memory.{Store}
 use Rattle.rules.specs.Audit.{used_by}
 use Rattle.rules.specs.Calls.{look_in, Walked, ends, stops, walk_says, walk, fetch, used_words}
 use Rattle.rules.specs.Seen.{seen, read_by, path, reading, read_at, Meet}
+use Rattle.rules.proofs.Answered.{same_value}
 use Rattle.rules.proofs.Judged.{Passes, passed}
 use Rattle.facts.proofs.Alike.{MeetIn, Same, readings}
 
@@ -27,17 +29,17 @@ module _ (s : Store) (p : Passes s) where
   unfolding fetch
   fetch_is w = rw (p.limits, p.common)
 
-  pub used_is : (j : ℕ) → j < s.ctl.regions → used_words s j ≡ Valued.Done (used_by s.ctl.n s.heap s.table j) s.ctl
+  pub used_is : (j : ℕ) → j < s.ctl.regions → used_words s j ≡ Ok (used_by s.ctl.n s.heap s.table j, s.ctl)
   unfolding used_words
-  used_is j b = passed s p (λ r. Valued.Refused r s.ctl) _ ∙ rw (lt-leb s.ctl.regions j b)
+  used_is j b = passed s p (λ r. refusing r s.ctl) _ ∙ rw (lt-leb s.ctl.regions j b)
 
   -- no region, no answer
-  pub used_known : (j u : ℕ) → used_words s j ≡ Valued.Done u s.ctl → (j < s.ctl.regions) × (used_by s.ctl.n s.heap s.table j ≡ u)
+  pub used_known : (j u : ℕ) → used_words s j ≡ Ok (u, s.ctl) → (j < s.ctl.regions) × (used_by s.ctl.n s.heap s.table j ≡ u)
   unfolding used_words
   used_known j u e =
-      let (known, is) = second_chosen (leb s.ctl.regions j) (sym e ∙ passed s p (λ r. Valued.Refused r s.ctl) _) (λ z. false≢true cc) in
+      let (known, is) = second_chosen (leb s.ctl.regions j) (sym e ∙ passed s p (λ r. refusing r s.ctl) _) (λ z. false≢true cc) in
       let b = leb-false s.ctl.regions j known in
-      (omega arith, cc)
+      (omega arith, sym (same_value is))
 
   reads_says : (x : Walked) → read_at s (walk_says s.ctl x) ≡ read_by (seen s) x
   reads_says (stops r) = refl
@@ -47,8 +49,8 @@ module _ (s : Store) (p : Passes s) where
   unfolding reading
   read_is i fs = ap (read_at s) (walk_is i fs) ∙ reads_says (path (seen s) s.roots i fs)
 
-  ends_says : (x : Walked) (w : ℕ) → walk_says s.ctl x ≡ Valued.Done w s.ctl → x ≡ ends w
-  ends_says (ends v) w e = let q : v ≡ w = cc in ap ends q
+  ends_says : (x : Walked) (w : ℕ) → walk_says s.ctl x ≡ Ok (w, s.ctl) → x ≡ ends w
+  ends_says (ends v) w e = ap ends (same_value e)
   ends_says (stops r) w e = absurd (false≢true cc)
 
   pub meet_is : (i : ℕ) (fs : List ℕ) (j : ℕ) (gs : List ℕ) → Meet s i fs j gs ↔ MeetIn (seen s) s.roots i fs j gs

@@ -1,5 +1,6 @@
 -- From facts to the audit's tests: a `Sound` heap passes, so that `Sound` is exactly what the audit's yes means. The chains are the lists
 -- that `Sound` names, since linked pages of which each stands once are at most N.
+use Rattle.std.specs.Prelude.{Ok}
 use Prim.Native.Nat.{ℕ, zero, suc, ◌+◌, ◌*◌, ◌%◌, ◌^◌, ◌≤◌, ◌<◌, zero-le}
 use native.Mathlib.Nat.{mul-mod_left}
 use native.Mathlib.Omega.{arith}
@@ -15,7 +16,6 @@ use Rattle.laws.specs.Lists.{all}
 use Rattle.laws.proofs.Facts.{and_of, all_of, at_all, below_of, behind_zeros}
 use Rattle.laws.proofs.Once.{Once, last_one, Linked, stop, goes, linked_fits, linked_ends, once_each}
 use Rattle.rules.specs.declared.Control.{Control}
-use Rattle.rules.specs.declared.Plain.{Plain}
 use Rattle.rules.specs.Memory.{Store, limits, page_count, region_origin, page_words, body_words, link, origin, end_of, top_of, status_of, chain, chain_end, first_link, region_pages, free_pages, pages_from}
 use Rattle.rules.specs.Words.{page_vals, used_of, fields_pass}
 use Rattle.rules.specs.Audit.{each_page, if_last, rule2, opens, ends_well, last_link, all_chains, rule3, ends_at, top_fits, rule4, page_filled, rule5, good_word, rule6, rule7, const_field, rule8, clean, rule9, first_failing, broken_rule}
@@ -251,5 +251,5 @@ pub meaning : (s : Store) → Passes s ↔ Sound s
 meaning s = (sound_of, passes_of)
 
 -- after a yes the heap is sound
-pub judged_sound : (s : Store) (c : Control) → Plain.Done c ≡ audit s → Sound s
+pub judged_sound : (s : Store) (c : Control) → Ok c ≡ audit s → Sound s
 judged_sound s c e = (meaning s).0 (judged_yes s e)

@@ -2,13 +2,13 @@
 
 #![tactic(auto)]
 
-ghost use Rattle.std.specs.Prelude.{◌≡◌, ◌/◌, ◌^◌, ◌≤◌};
-ghost use Rattle.rules.specs.Memory.{limits};
-ghost use Rattle.rules.specs.Refusals.{common};
-ghost use Rattle.limits.specs.First.{first_tests};
+ghost use Rattle.std.specs.Prelude.{◌≡◌, ◌/◌, ◌^◌, ◌≤◌, length, Ok, Err, MatchResult};
+ghost use Rattle.rules.specs.Memory.{limits, store};
+ghost use Rattle.rules.specs.Refusals.{Admitted, common};
+ghost use Rattle.limits.specs.First.{first_tests, tests_of};
 
 use pages::{page_count, page_words};
-use rules::{Control, Refusal};
+use rules::{Control, Lent, Refusal, Refused};
 
 // Whether n and the four lengths are within their limits.
 pub fn within_limits(n: u32, heap: usize, table: usize, roots: usize, consts: usize) -> bool
@@ -57,22 +57,50 @@ fn common_test(h: usize, c: Control) -> bool
     (c.first == 0) == (c.count == 0)
 }
 
-// What every call tests first.
-#[derive(Clone, Copy)]
-pub enum Tested {
-    Fine,
-    Refused(Refusal),
-}
-
 // The tests of every call, over the four lengths and the record.
-pub fn first_tests(heap: usize, table: usize, roots: usize, consts: usize, c: Control) -> Tested
+pub fn first_tests(
+    heap: usize,
+    table: usize,
+    roots: usize,
+    consts: usize,
+    c: Control,
+) -> Result<(), Refused>
     ensures { result ≡ first_tests heap table roots consts c }
 {
     if !within_limits(c.n, heap, table, roots, consts) {
-        return Tested::Refused(Refusal::Limits);
+        return Err(Refused {
+            why: Refusal::Limits,
+            control: c,
+        });
     }
     if !common_test(heap, c) {
-        return Tested::Refused(Refusal::Broken(0));
+        return Err(Refused {
+            why: Refusal::Broken(0),
+            control: c,
+        });
     }
-    Tested::Fine
+    Ok(())
+}
+
+// What has passed the tests of every call: whoever holds one needs no test of lengths or record of its own.
+#[derive(Clone, Copy)]
+pub struct Admitted<'a> {
+    pub lent: Lent<'a>,
+    ghost fits: { Admitted (length lent.heap.now) (length lent.table.now) (length lent.roots.now) (length lent.consts.now) lent.control },
+}
+
+// What a call is lent, once it has passed the tests of every call.
+pub fn admit<'a>(lent: Lent<'a>) -> Result<Admitted<'a>, Refused>
+    ensures { MatchResult result
+        (λ heap. (heap.lent ≡ lent.entry) × (tests_of (store lent.entry) ≡ Ok tt))
+        (λ e. tests_of (store lent.entry) ≡ Err e) }
+{
+    first_tests(
+        lent.heap.len(),
+        lent.table.len(),
+        lent.roots.len(),
+        lent.consts.len(),
+        lent.control,
+    )?;
+    Ok(Admitted { lent })
 }

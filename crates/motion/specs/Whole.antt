@@ -1,11 +1,11 @@
 -- The collection at work, whole: fresh pages, roots, the scan stack; the end of a collection that is done; and the undoing of one that lacks a page.
-use Rattle.std.specs.Prelude.{ℕ, ◌+◌, ◌-◌, ◌*◌, ◌/◌, ◌%◌, ◌^◌, Bool, true, false, List, map, length, take, set, leb, eqb}
+use Rattle.std.specs.Prelude.{ℕ, ◌+◌, ◌-◌, ◌*◌, ◌/◌, ◌%◌, ◌^◌, Bool, true, false, List, map, length, take, set, leb, eqb, Result, Ok}
+use Rattle.rules.specs.declared.Refused.{Refused}
+use Rattle.rules.specs.Refusals.{Outcome, outcome, refusing}
 use Rattle.rules.specs.declared.Control.{Control}
-use Rattle.rules.specs.declared.Plain.{Plain}
 use Rattle.rules.specs.declared.Refusal.{Refusal}
 use Rattle.rules.specs.Memory.{Store, control, page_count, page_link, link_page, region_origin, body_address, page_end, link, origin, set_link, set_origin, row, set_row, first_link}
 use Rattle.rules.specs.Words.{pointer_address}
-use Rattle.rules.specs.Refusals.{Outcome, outcome}
 use Rattle.rules.specs.Pages.{clear_page}
 use Rattle.laws.specs.Choice.{◌⇒◌∣◌}
 use Rattle.laws.specs.Lists.{at, put}
@@ -162,29 +162,29 @@ record_by c t = control c.n c.regions (at t free_first) (at t free_last) (low (c
 -- ---- The whole.
 
 -- d is what the work left, and d' what the giving back left
-unfoldable pub done_as : Store → Desk → Desk → Outcome Plain
+unfoldable pub done_as : Store → Desk → Desk → Outcome (Result Control Refused)
 done_as s d d' =
-    outcome (Plain.Done (record_by s.ctl d'.notes)) d'.heap (written_table s.ctl.regions d'.notes s.table)
+    outcome (Ok (record_by s.ctl d'.notes)) d'.heap (written_table s.ctl.regions d'.notes s.table)
     (written_roots d.heap s.roots) s.consts
 
-unfoldable pub done : Store → ℕ → Desk → Outcome Plain
+unfoldable pub done : Store → ℕ → Desk → Outcome (Result Control Refused)
 done s N d =
     done_as s d
     (give_all s.ctl.n N s.ctl.regions s.table (desk (own_all s.ctl.n N s.ctl.regions d.notes d.heap) d.notes))
 
-unfoldable pub lacking : Store → ℕ → Desk → Outcome Plain
+unfoldable pub lacking : Store → ℕ → Desk → Outcome (Result Control Refused)
 lacking s N d =
-    outcome (Plain.Refused Refusal.NoPage s.ctl)
+    outcome (refusing Refusal.NoPage s.ctl)
     (undo s.ctl.n (at d.notes taken) N s.ctl.regions s.ctl.first s.table d.heap) s.table s.roots s.consts
 
-unfoldable pub ended : Store → After Bool Desk → Outcome Plain
+unfoldable pub ended : Store → After Bool Desk → Outcome (Result Control Refused)
 ended s o =
     let good = done s (page_count s.ctl.n s.heap) o.state in
     let bad = lacking s (page_count s.ctl.n s.heap) o.state in
     o.answer ⇒ good ∣ bad
 
 -- what the code does with every store
-unfoldable pub working_collect : Store → Outcome Plain
+unfoldable pub working_collect : Store → Outcome (Result Control Refused)
 working_collect s =
     ended s
     (attempt s.ctl.n s.ctl.regions (2 * length s.heap) s.roots (desk s.heap (begun_notes s.ctl.first s.ctl.last)))

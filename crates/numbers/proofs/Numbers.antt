@@ -1,4 +1,5 @@
 -- Whole numbers and the bits of an `i32`. Below 0 the bits of -(n + 1) are 2^32 - (n + 1), so that turned over they are n.
+use Rattle.std.specs.Prelude.{Ok, Err}
 use Prim.Native.Nat.{ℕ, suc, ◌+◌, ◌-◌, ◌*◌, ◌/◌, ◌%◌, ◌^◌, ◌≤◌, ◌<◌}
 use mathlib.Core.Path.{◌≡◌, refl, ap, ◌∙◌}
 use mathlib.Core.Bool.{true, false, false≢true}
@@ -11,8 +12,6 @@ use mir.Syntax.{w32}
 use mir.Val.{Fits, SFits, to_z, of_z}
 use mir.Facts.{to_z-of_z, to_z_pos, to_z-neg}
 use Rattle.rules.specs.declared.Refusal.{Refusal}
-use Rattle.rules.specs.declared.Worded.{Worded}
-use Rattle.rules.specs.declared.Numbered.{Numbered}
 use Rattle.rules.specs.Calls.{word_of_number, number_of_word}
 
 -- the bits of z, read as a number again, and turned over and read as one
@@ -63,37 +62,37 @@ far_above z a = rw (a.read, a.is)
 
 -- ---- the word of z, which is an m equal to what the definition says, however the code writes it
 
-pub word_below : (z : ℤ) (m : ℕ) → Below z → nat_abs (as_turned z) < 1073741824 → m ≡ 4294967295 - 2 * nat_abs (as_turned z) → Worded.Done m ≡ word_of_number z
+pub word_below : (z : ℤ) (m : ℕ) → Below z → nat_abs (as_turned z) < 1073741824 → m ≡ 4294967295 - 2 * nat_abs (as_turned z) → Ok m ≡ word_of_number z
 word_below z m b l e =
     let q : 4294967295 - 2 * b.n ≡ 4294967296 - (2 * b.n + 1) = omega arith in
-    rw (e, b.turned, b.is, lt-ltb b.n 1073741824 (rw b.turned at l)) (ap Worded.Done q)
+    rw (e, b.turned, b.is, lt-ltb b.n 1073741824 (rw b.turned at l)) (ap Ok q)
 
-pub word_too_low : (z : ℤ) → Below z → 1073741824 ≤ nat_abs (as_turned z) → Worded.Refused Refusal.NoNumber ≡ word_of_number z
+pub word_too_low : (z : ℤ) → Below z → 1073741824 ≤ nat_abs (as_turned z) → Err Refusal.NoNumber ≡ word_of_number z
 word_too_low z b l = rw (b.is, le-ltb b.n 1073741824 (rw b.turned at l))
 
-pub word_above : (z : ℤ) (m : ℕ) → Above z → nat_abs (as_read z) < 1073741824 → m ≡ 2 * nat_abs (as_read z) + 1 → Worded.Done m ≡ word_of_number z
+pub word_above : (z : ℤ) (m : ℕ) → Above z → nat_abs (as_read z) < 1073741824 → m ≡ 2 * nat_abs (as_read z) + 1 → Ok m ≡ word_of_number z
 word_above z m a l e = rw (e, a.read, a.is, lt-ltb a.n 1073741824 (rw a.read at l))
 
-pub word_too_high : (z : ℤ) → Above z → 1073741824 ≤ nat_abs (as_read z) → Worded.Refused Refusal.NoNumber ≡ word_of_number z
+pub word_too_high : (z : ℤ) → Above z → 1073741824 ≤ nat_abs (as_read z) → Err Refusal.NoNumber ≡ word_of_number z
 word_too_high z a l = rw (a.is, le-ltb a.n 1073741824 (rw a.read at l))
 
 -- ---- the number of w
 
-pub number_even : (w : ℕ) → w % 2 ≡ 0 → Numbered.Refused Refusal.NoNumber ≡ number_of_word w
+pub number_even : (w : ℕ) → w % 2 ≡ 0 → Err Refusal.NoNumber ≡ number_of_word w
 unfolding number_of_word
 number_even w e = rw e
 
 module _ (w : ℕ) (odd : w % 2 ≡ 0 → ⊥) where
-  pub number_above : w < 2147483648 → Numbered.Done (to_z w32 (w / 2)) ≡ number_of_word w
+  pub number_above : w < 2147483648 → Ok (to_z w32 (w / 2)) ≡ number_of_word w
   unfolding number_of_word
   number_above l =
       let h : w / 2 < 2147483648 = omega arith in
-      rw (ne_eqb (w % 2) 0 odd, lt-ltb w 2147483648 l) (ap Numbered.Done (to_z_pos w32 h))
+      rw (ne_eqb (w % 2) 0 odd, lt-ltb w 2147483648 l) (ap Ok (to_z_pos w32 h))
 
-  pub number_below : 2147483648 ≤ w → w < 4294967296 → Numbered.Done (to_z w32 (4294967295 - (4294967295 - w) / 2)) ≡ number_of_word w
+  pub number_below : 2147483648 ≤ w → w < 4294967296 → Ok (to_z w32 (4294967295 - (4294967295 - w) / 2)) ≡ number_of_word w
   unfolding number_of_word
   number_below l f =
       let k : ℕ = (4294967295 - w) / 2 in
       let h : k < 2147483648 = omega arith in
       let q : 4294967295 - k ≡ 4294967296 - suc k = omega arith in
-      rw (ne_eqb (w % 2) 0 odd, le-ltb w 2147483648 l) (ap Numbered.Done (ap (to_z w32) q ∙ to_z-neg w32 k h))
+      rw (ne_eqb (w % 2) 0 odd, le-ltb w 2147483648 l) (ap Ok (ap (to_z w32) q ∙ to_z-neg w32 k h))

@@ -1,5 +1,8 @@
 -- A path walked piece by piece. The word that a walk of a front ends on is where the walk of the rest begins, since what is asked of that word at
 -- its end is asked again at the next step; and where the front stops the whole stops.
+use Rattle.std.specs.Prelude.{Result, Ok}
+use Rattle.rules.specs.declared.Refused.{Refused}
+use Rattle.rules.specs.Refusals.{refusing}
 use Prim.Native.Nat.{ℕ, suc, ◌+◌, ◌-◌, ◌≤◌}
 use mathlib.Core.Path.{◌≡◌, refl, sym, ap, ◌∙◌}
 use mathlib.Core.Bool.{Bool, true, false, not, false≢true}
@@ -14,7 +17,6 @@ use Rattle.laws.proofs.Choices.{choices_agree}
 use Rattle.laws.proofs.Parts.{part_rest}
 use Rattle.rules.specs.declared.Control.{Control}
 use Rattle.rules.specs.declared.Refusal.{Refusal}
-use Rattle.rules.specs.declared.Valued.{Valued}
 use Rattle.rules.specs.Words.{word_of, is_record}
 use Rattle.rules.specs.Calls.{header_in, fields_in, is_there, is_number, Walked, ends, stops, step_into, walk_from, walk_says}
 use Rattle.rules.proofs.Walks.{walk_stuck}
@@ -57,32 +59,32 @@ module _ (view : ℕ → List ℕ) where
       ∙ joined (take (e - i) (drop i path)) (drop (e - i) (drop i path)) w
       ∙ ap (λ (l : List ℕ). onward (walk_from view w (take (e - i) (drop i path))) (λ x. walk_from view x l)) rest
 
-passed : (c : Control) {d : Control} {x : ℕ} (m : Walked) (go : ℕ → Walked) → Valued.Done x d ≡ walk_says c m → onward m go ≡ go x
+passed : (c : Control) {d : Control} {x : ℕ} (m : Walked) (go : ℕ → Walked) → Ok (x, d) ≡ walk_says c m → onward m go ≡ go x
 passed c {d} {x} (ends w) go e = let same : w ≡ x = cc in ap go same
 passed c (stops r) go e = absurd (false≢true cc)
 
-halted : (c : Control) {d : Control} {r : Refusal} (m : Walked) (go : ℕ → Walked) → Valued.Refused r d ≡ walk_says c m → walk_says c m ≡ walk_says c (onward m go)
+halted : (c : Control) {d : Control} {r : Refusal} (m : Walked) (go : ℕ → Walked) → refusing r d ≡ walk_says c m → walk_says c m ≡ walk_says c (onward m go)
 halted c (ends w) go e = absurd (false≢true cc)
 halted c (stops s) go e = refl
 
 -- v is what the walk of the piece from i to e answered
-module _ (view : ℕ → List ℕ) (c : Control) (w i e : ℕ) (path : List ℕ) (h : i ≤ e) {v : Valued}
+module _ (view : ℕ → List ℕ) (c : Control) (w i e : ℕ) (path : List ℕ) (h : i ≤ e) {v : Result (ℕ × Control) Refused}
     (s : v ≡ walk_says c (walk_from view w (take (e - i) (drop i path)))) where
   -- it ended: the walk of the whole path from o, which is what is left of it from w, goes on behind it
-  pub piece_ends : (o m : ℕ) {x : ℕ} {d : Control} → m ≡ e → e ≤ length path → v ≡ Valued.Done x d → walk_from view o path ≡ walk_from view w (drop i path)
+  pub piece_ends : (o m : ℕ) {x : ℕ} {d : Control} → m ≡ e → e ≤ length path → v ≡ Ok (x, d) → walk_from view o path ≡ walk_from view w (drop i path)
       → (m ≤ length path) × (walk_from view o path ≡ walk_from view x (drop m path))
   piece_ends o m behind inside q left =
       (omega arith, rw behind (left ∙ split view w i e path h ∙ passed c (walk_from view w (take (e - i) (drop i path))) (λ x. walk_from view x (drop e path)) (sym q ∙ s)))
 
   -- it stopped: so does the walk
-  pub piece_stops : {r : Refusal} {d : Control} → v ≡ Valued.Refused r d → v ≡ walk_says c (walk_from view w (drop i path))
+  pub piece_stops : {r : Refusal} {d : Control} → v ≡ refusing r d → v ≡ walk_says c (walk_from view w (drop i path))
   piece_stops q =
       s
       ∙ halted c (walk_from view w (take (e - i) (drop i path))) (λ x. walk_from view x (drop e path)) (sym q ∙ s)
       ∙ ap (walk_says c) (sym (split view w i e path h))
 
 -- the last piece is all that is left
-pub last_piece : (view : ℕ → List ℕ) (c : Control) (w i : ℕ) (path : List ℕ) {v : Valued}
+pub last_piece : (view : ℕ → List ℕ) (c : Control) (w i : ℕ) (path : List ℕ) {v : Result (ℕ × Control) Refused}
     → v ≡ walk_says c (walk_from view w (take (length path - i) (drop i path)))
     → v ≡ walk_says c (walk_from view w (drop i path))
 last_piece view c w i path s =

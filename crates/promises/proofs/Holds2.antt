@@ -1,5 +1,8 @@
 -- Demand 2 holds: the working takes a page exactly where the one with as many pages as it wants does, until a page lacks; the sums and the
 -- readings are the definitions, step by step.
+use Rattle.std.specs.Prelude.{Result, Ok}
+use Rattle.rules.specs.declared.Control.{Control}
+use Rattle.rules.specs.declared.Refused.{Refused}
 use Prim.Native.Nat.{ℕ, suc, ◌+◌, ◌*◌}
 use mathlib.Core.Path.{◌≡◌, refl, sym, ap, ◌∙◌}
 use mathlib.Core.Bool.{false≢true}
@@ -7,8 +10,6 @@ use mathlib.Core.List.{List, [], ◌∷◌, map, sum}
 use lib.ListN.{length}
 use lib.Dec.{ltb}
 use borrow.Author.Tests.{ltb-true, lt-ltb}
-use Rattle.rules.specs.declared.Plain.{Plain}
-use Rattle.rules.specs.declared.Valued.{Valued}
 use Rattle.rules.specs.Memory.{Store, page_count, region_pages}
 use Rattle.rules.specs.Words.{Val, page_vals, used_of}
 use Rattle.rules.specs.Audit.{used_on, used_by}
@@ -45,7 +46,7 @@ pages_of_lem : (s s' : Store) (S : Sound s) → collected s ≡ leaving s' → P
 pages_of_lem s s' S e = go (collects s S)
   where
     go : Collects s S → Pages s s'
-    go (runs_dry q R) = let t = ap (λ (o : Outcome Plain). o.answer) (sym q ∙ e) in absurd (false≢true cc)
+    go (runs_dry q R) = let t = ap (λ (o : Outcome (Result Control Refused)). o.answer) (sym q ∙ e) in absurd (false≢true cc)
     go (runs_through roots r q A) =
         let t : left_store A ≡ s' = sym (left_leaving _) ∙ ap left_plain (sym (q ∙ ran_leaves A) ∙ e) ∙ left_leaving s' in
         rw t at (done_pages A)
@@ -59,7 +60,7 @@ demand2 = record {
   dues = λ s l c. (ltb (3 * s.ctl.count) (page_count s.ctl.n s.heap), unfold due in (rw (l, c)), (λ e. ltb-true _ _ e, λ b. lt-ltb _ _ b));
   uses = λ s e j b.
       used_is s ((audit_yes s).0 e) j b
-      ∙ ap (λ u. Valued.Done u s.ctl) (unfold used_by in (used_pages s (region_pages s.ctl.n s.heap s.table j)));
+      ∙ ap (λ u. Ok (u, s.ctl)) (unfold used_by in (used_pages s (region_pages s.ctl.n s.heap s.table j)));
   numbers = number_back;
   words = word_back;
   images = written_reads_back;

@@ -1,5 +1,6 @@
 -- The promises about images. Each is a theorem about the definitions of writing and reading; the contracts of the two calls say that the code
 -- computes these. They are true because writing and reading undo one another, frame by frame.
+use Rattle.std.specs.Prelude.{Ok, Err}
 use Prim.Native.Nat.{ℕ}
 use mathlib.Core.Path.{◌≡◌, sym, ap, ◌∙◌}
 use mathlib.Core.Logic.{◌↔◌}
@@ -7,8 +8,6 @@ use mathlib.Core.List.{List}
 use lib.ListN.{length, take}
 use Rattle.rules.specs.declared.Control.{Control}
 use Rattle.rules.specs.declared.Refusal.{Refusal}
-use Rattle.rules.specs.declared.Valued.{Valued}
-use Rattle.rules.specs.declared.Opened.{Opened}
 use Rattle.rules.specs.Memory.{Store, Words32}
 use Rattle.rules.specs.Refusals.{outcome}
 use Rattle.rules.specs.Image.{image_text, write_image, read_image, read_text, frames}
@@ -19,9 +18,9 @@ use Rattle.promises.proofs.ImageStores.{frames_of, image_text_lem, frames_fit, s
 use Rattle.promises.proofs.ImageCalls.{wrote, opens, fills, faults, faulted}
 
 -- What writing accepts reads back as it was: lent parts of the image's lengths, reading the written text gives the record and every word.
-pub written_reads_back : (s : Store) (bytes : List ℕ) (m : ℕ) (c : Control) → Words32 s → (write_image s bytes).answer ≡ Valued.Done m c
+pub written_reads_back : (s : Store) (bytes : List ℕ) (m : ℕ) (c : Control) → Words32 s → (write_image s bytes).answer ≡ Ok (m, c)
     → (heap table roots consts : List ℕ) → length heap ≡ length s.heap → length table ≡ length s.table → length roots ≡ length s.roots → length consts ≡ length s.consts
-    → read_image (take m (write_image s bytes).bytes) heap table roots consts ≡ outcome (Opened.Done s.ctl) s.heap s.table s.roots s.consts
+    → read_image (take m (write_image s bytes).bytes) heap table roots consts ≡ outcome (Ok s.ctl) s.heap s.table s.roots s.consts
 written_reads_back s bytes m c w h heap table roots consts eh et er ek =
     let g = wrote s bytes m c h in
     fills s heap table roots consts eh (et ∙ g.admitted.table) er ek (take m (write_image s bytes).bytes) (frames_of s)
@@ -29,8 +28,8 @@ written_reads_back s bytes m c w h heap table roots consts eh et er ek =
     (store_back s g.admitted g.cleared)
 
 -- What reading accepts and writing accepts again is the same bytes.
-pub read_writes_back : (text heap table roots consts : List ℕ) (c : Control) → (read_image text heap table roots consts).answer ≡ Opened.Done c
-    → (bytes : List ℕ) (m : ℕ) (d : Control) → (write_image (left_opened (read_image text heap table roots consts) c) bytes).answer ≡ Valued.Done m d
+pub read_writes_back : (text heap table roots consts : List ℕ) (c : Control) → (read_image text heap table roots consts).answer ≡ Ok c
+    → (bytes : List ℕ) (m : ℕ) (d : Control) → (write_image (left_opened (read_image text heap table roots consts) c) bytes).answer ≡ Ok (m, d)
     → take m (write_image (left_opened (read_image text heap table roots consts) c) bytes).bytes ≡ text
 read_writes_back text heap table roots consts c h bytes m d k =
     let o = opens text heap table roots consts c h in
@@ -46,6 +45,6 @@ pub one_reading : (fs gs : List (List ℕ)) → WellFormed fs → WellFormed gs 
 one_reading fs gs f g e = let q : frames fs ≡ frames gs = sym (text_reads fs f) ∙ ap read_text e ∙ text_reads gs g in cc
 
 -- The line that reading answers is that of the first malformed frame: every frame before it is well formed, and that one is not.
-pub line_of_fault : (text heap table roots consts : List ℕ) (l : ℕ) → ((read_image text heap table roots consts).answer ≡ Opened.Refused (Refusal.Malformed l)) ↔ Fault text l
+pub line_of_fault : (text heap table roots consts : List ℕ) (l : ℕ) → ((read_image text heap table roots consts).answer ≡ Err (Refusal.Malformed l)) ↔ Fault text l
 line_of_fault text heap table roots consts l =
     (λ h. text_fault text l (faulted text heap table roots consts l h), λ f. faults text heap table roots consts l (fault_text text l f))

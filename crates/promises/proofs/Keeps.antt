@@ -1,12 +1,12 @@
 -- Every call keeps a heap that passes passing, so any run of calls from a fresh heap passes. `Sound` is what passing means, each call keeps it,
 -- and a refused call changes nothing.
+use Rattle.std.specs.Prelude.{Ok}
 use Prim.Native.Nat.{ℕ}
 use mathlib.Core.Path.{◌≡◌, ◌∙◌}
 use mathlib.Core.Bool.{true, false≢true}
 use mathlib.Core.List.{List, [], ◌∷◌}
 use borrow.Author.Tests.{not-false}
 use Rattle.rules.specs.declared.Control.{Control}
-use Rattle.rules.specs.declared.Opened.{Opened}
 use Rattle.rules.specs.Memory.{Store, lent, control, page_count}
 use Rattle.rules.specs.Audit.{rule8}
 use Rattle.rules.specs.Refusals.{refused}
@@ -32,10 +32,10 @@ use Rattle.promises.proofs.KeepsSetUp.{set_up_sound}
 -- ---- setting up
 
 pub set_up_passes : (n : ℕ) (heap table roots consts : List ℕ) (c : Control) → rule8 (lent heap table roots consts c) ≡ true
-    → (set_up n heap table roots consts).answer ≡ Opened.Done c → Passes (fresh n heap table roots consts c)
+    → (set_up n heap table roots consts).answer ≡ Ok c → Passes (fresh n heap table roots consts c)
 unfolding set_up
 set_up_passes n heap table roots consts c t =
-    lawful_keeps (λ o. o.answer ≡ Opened.Done c → Passes (left_opened o c)) (set_up_lawful n heap table roots consts) (λ r e. absurd (false≢true cc))
+    lawful_keeps (λ o. o.answer ≡ Ok c → Passes (left_opened o c)) (set_up_lawful n heap table roots consts) (λ r e. absurd (false≢true cc))
     (λ q.
     rw q
     (λ e.
@@ -92,5 +92,5 @@ run_passes cs s p = (meaning (run cs s)).1 (run_keeps cs s ((meaning s).0 p))
 
 -- from a fresh heap whose constants keep rule 8, every run of calls passes
 pub fresh_run_passes : (n : ℕ) (heap table roots consts : List ℕ) (c : Control) → rule8 (lent heap table roots consts c) ≡ true
-    → (set_up n heap table roots consts).answer ≡ Opened.Done c → (cs : List Call) → Passes (run cs (fresh n heap table roots consts c))
+    → (set_up n heap table roots consts).answer ≡ Ok c → (cs : List Call) → Passes (run cs (fresh n heap table roots consts c))
 fresh_run_passes n heap table roots consts c t e cs = run_passes cs (fresh n heap table roots consts c) (set_up_passes n heap table roots consts c t e)

@@ -1,5 +1,6 @@
 -- A text that is judged to be well formed: its frames are the words that stand at its places, and the store that they give is what filling
 -- leaves. Then what reading an image answers, by the test of the lengths.
+use Rattle.std.specs.Prelude.{Ok, Err}
 use Prim.Native.Nat.{ℕ, zero, suc, ◌*◌, ◌/◌, ◌^◌, ◌≤◌}
 use mathlib.Core.Path.{◌≡◌, refl, sym, ap, ◌∙◌}
 use mathlib.Core.Bool.{Bool, true, false, false≢true}
@@ -13,7 +14,6 @@ use Rattle.laws.specs.Choice.{◌⇒◌∣◌}
 use Rattle.laws.proofs.Padded.{length_padded}
 use Rattle.laws.proofs.Tests.{both}
 use Rattle.rules.specs.declared.Refusal.{Refusal}
-use Rattle.rules.specs.declared.Opened.{Opened}
 use Rattle.rules.specs.Memory.{Store, lent}
 use Rattle.rules.specs.Refusals.{Paged, outcome}
 use Rattle.rules.specs.Image.{head_fits, part_fits, Expected, expected, layout, Frames, frames, malformed, with_frame, read_frames, read_text, joined, store_of, same_lengths, read_store, read_image}
@@ -152,29 +152,29 @@ module _ (text : List ℕ) (h : Head) (w : Well text h) where
     read_on_lem = rw (w.words, stored)
 
     pub read_short : lengths_fit h (length heap) (length table) (length roots) (length consts) ≡ false
-        → outcome (Opened.Refused Refusal.Limits) heap table roots consts ≡ read_image text heap table roots consts
+        → outcome (Err Refusal.Limits) heap table roots consts ≡ read_image text heap table roots consts
     unfolding read_store
     read_short e = sym (read_on_lem ∙ rw (same heap table roots consts, e))
 
     read_done : lengths_fit h (length heap) (length table) (length roots) (length consts) ≡ true
-        → read_image text heap table roots consts ≡ outcome (Opened.Done (control_of h)) store_at.heap store_at.table store_at.roots store_at.consts
+        → read_image text heap table roots consts ≡ outcome (Ok (control_of h)) store_at.heap store_at.table store_at.roots store_at.consts
     unfolding read_store
     read_done e = read_on_lem ∙ rw (same heap table roots consts, e)
 
     pub read_filled : lengths_fit h (length heap) (length table) (length roots) (length consts) ≡ true → (H T R K : List ℕ) (i₂ i₃ i₄ : ℕ)
         → T ≡ part_at (length table) text 71 → i₂ ≡ after_frame text 71 → R ≡ part_at (length roots) text i₂ → i₃ ≡ after_frame text i₂
         → K ≡ part_at (length consts) text i₃ → i₄ ≡ after_frame text i₃ → H ≡ pages_at h.pages (2 ^ h.n) text i₄
-        → outcome (Opened.Done (control_of h)) H T R K ≡ read_image text heap table roots consts
+        → outcome (Ok (control_of h)) H T R K ≡ read_image text heap table roots consts
     read_filled e H T R K i₂ i₃ i₄ qt q₂ qr q₃ qk q₄ qh =
         let f = fit h (length heap) (length table) (length roots) (length consts) e in
         rw (qh, q₄, qk, q₃, qr, q₂, qt, f.table, f.roots, f.consts) (sym (read_done e))
 
 pub read_malformed : (text heap table roots consts : List ℕ) (line : ℕ) → judged_as (read_text text) ≡ Judged.Malformed line
-    → outcome (Opened.Refused (Refusal.Malformed line)) heap table roots consts ≡ read_image text heap table roots consts
+    → outcome (Err (Refusal.Malformed line)) heap table roots consts ≡ read_image text heap table roots consts
 unfolding read_image
 read_malformed text heap table roots consts line e = go (read_text text) refl
   where
-    go : (f : Frames) → read_text text ≡ f → outcome (Opened.Refused (Refusal.Malformed line)) heap table roots consts ≡ read_image text heap table roots consts
+    go : (f : Frames) → read_text text ≡ f → outcome (Err (Refusal.Malformed line)) heap table roots consts ≡ read_image text heap table roots consts
     go (frames fs) q =
         let j : Judged.Well (head_from (get_or fs 0 [])) ≡ Judged.Malformed line = sym (ap judged_as q) ∙ e in
         absurd (false≢true cc)

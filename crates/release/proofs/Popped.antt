@@ -1,5 +1,7 @@
 -- What a pop leaves, by the audit's answer and the tests after it: on a heap that passes, what is given back along the links is what document 01
 -- gives back.
+use Rattle.std.specs.Prelude.{Ok}
+use Rattle.rules.specs.Refusals.{outcome, refused, refusing}
 use Prim.Native.Nat.{ℕ, ◌-◌}
 use mathlib.Core.Path.{◌≡◌, refl, sym, ap, ◌∙◌}
 use mathlib.Core.Bool.{Bool, true, false}
@@ -9,9 +11,7 @@ use borrow.Author.Tests.{eq-eqb, ne_eqb}
 use lib.ListN.{length}
 use Rattle.rules.specs.declared.Control.{Control}
 use Rattle.rules.specs.declared.Refusal.{Refusal}
-use Rattle.rules.specs.declared.Plain.{Plain}
 use Rattle.rules.specs.Memory.{Store, control, page_count, first_link, set_row}
-use Rattle.rules.specs.Refusals.{outcome, refused}
 use Rattle.rules.specs.Pages.{begun}
 use Rattle.rules.specs.Calls.{audit, let_go, pop_on, pop_top, pop}
 use Rattle.rules.proofs.Limits.{pages_few}
@@ -20,7 +20,7 @@ use Rattle.facts.proofs.Passing.{meaning}
 use Rattle.giving.specs.Giving.{Free, Left, give_chain}
 use Rattle.giving.proofs.Chain.{last_there, region_given}
 
-pub pop_broken : (s : Store) (why : Refusal) (c : Control) → Plain.Refused why c ≡ audit s → refused s why ≡ pop s
+pub pop_broken : (s : Store) (why : Refusal) (c : Control) → refusing why c ≡ audit s → refused s why ≡ pop s
 unfolding pop
 pop_broken s why c e = judged_refuse (refused s) _ s e
 
@@ -46,7 +46,7 @@ module _ (s : Store) (p : Passes s) where
     -- the heap and the record are left as h and c, and the table as t
     pub pop_done : (l : ℕ) (h t : List ℕ) (c : Control) → free ≡ true → l ≡ first_link s.ctl.n s.table j
         → Left (give_chain s.ctl.n (page_count s.ctl.n s.heap) l) s.heap s.ctl h c → t ≡ set_row s.table j 0 0 0 0
-        → outcome (Plain.Done (control s.ctl.n (s.ctl.regions - 1) c.first c.last c.count)) h t s.roots s.consts ≡ pop s
+        → outcome (Ok (control s.ctl.n (s.ctl.regions - 1) c.first c.last c.count)) h t s.roots s.consts ≡ pop s
     unfolding pop pop_top pop_on
     pop_done l h t c f e g q =
         let w = g.run s.table ∙ ap (λ x. give_chain s.ctl.n (page_count s.ctl.n s.heap) x (begun s)) e ∙ region_given s ((meaning s).0 p) j (omega arith) in

@@ -1,4 +1,5 @@
 -- The text of frames: lengths of what is written, its turn laws, and trimming. By recursion on the digits and on the words.
+use Rattle.std.specs.Prelude.{Ok}
 use Prim.Native.Nat.{ℕ, zero, suc, ◌+◌, ◌-◌, ◌*◌, ◌/◌, ◌%◌, ◌^◌, ◌≤◌, ◌<◌}
 use mathlib.Core.Path.{◌≡◌, refl, sym, ap, ◌∙◌}
 use mathlib.Core.Bool.{Bool, true, false}
@@ -14,7 +15,6 @@ use Rattle.laws.specs.Lists.{at, padded}
 use Rattle.laws.proofs.Writes.{sets_append, sets_next, sets_front}
 use Rattle.rules.specs.declared.Control.{Control}
 use Rattle.rules.specs.declared.Refusal.{Refusal}
-use Rattle.rules.specs.declared.Valued.{Valued}
 use Rattle.rules.specs.Memory.{Store, lent, page_count, page_words, row}
 use Rattle.rules.specs.Image.{digit_of, hex, hex_words, frame, trim, trimmed, head_words, page_frames, image_text, written, refused_text, write_text}
 
@@ -250,7 +250,7 @@ module _ (s : Store) (bytes : List ℕ) (m : ℕ) (e : m ≡ length (image_text 
   text_long b = rw (← e, lt-ltb (length bytes) m b)
 
   -- it fits, and was stored from the first byte on
-  pub text_done : (b : List ℕ) → m ≤ length bytes → b ≡ sets bytes 0 (image_text s) → write_text s bytes (image_text s) ≡ written (Valued.Done m s.ctl) b
+  pub text_done : (b : List ℕ) → m ≤ length bytes → b ≡ sets bytes 0 (image_text s) → write_text s bytes (image_text s) ≡ written (Ok (m, s.ctl)) b
   unfolding write_text
   text_done b l q =
       let f : b ≡ image_text s ++ drop m bytes = q ∙ sets_front bytes (image_text s) (omega arith) ∙ ap (λ k. image_text s ++ drop k bytes) (sym e) in

@@ -1,5 +1,8 @@
 -- What the audit's answer says of any call that asks it: a refusal is the call's, and after a yes the heap passes and the call goes on. It is
 -- true since `audited` makes the audit's own tests in the same order.
+use Rattle.std.specs.Prelude.{Result, Ok, Err}
+use Rattle.rules.specs.declared.Refused.{Refused}
+use Rattle.rules.specs.Refusals.{Admitted, refused, within_limits, common_test, admitted, unbroken, audited, refusal_of, refusing}
 use Prim.Native.Nat.{ℕ, zero, suc}
 use mathlib.Core.Path.{◌≡◌, refl, sym, ap}
 use mathlib.Core.Logic.{◌↔◌}
@@ -9,12 +12,11 @@ use lib.ListN.{length}
 use Rattle.laws.proofs.Choices.{choices_agree, second_chosen}
 use Rattle.rules.specs.declared.Control.{Control}
 use Rattle.rules.specs.declared.Refusal.{Refusal}
-use Rattle.rules.specs.declared.Plain.{Plain}
 use Rattle.rules.specs.Memory.{Store}
 use Rattle.rules.specs.Audit.{broken_rule}
-use Rattle.rules.specs.Refusals.{Admitted, refused, within_limits, common_test, admitted, unbroken, audited}
 use Rattle.rules.specs.Calls.{audit}
 use Rattle.rules.specs.Collection.{collected, collect}
+use Rattle.rules.proofs.Answered.{same_refused}
 use Rattle.rules.proofs.Limits.{admits}
 
 -- ---- any call
@@ -41,40 +43,42 @@ admissions_agree P f g s refuse rest =
 
 -- ---- by the audit's answer
 
--- a refusal is the call's
-pub judged_refuse : {O : Type 0} (refuse : Refusal → O) (rest : O) (s : Store) {why : Refusal} {c : Control} → Plain.Refused why c ≡ audit s → refuse why ≡ audited refuse s rest
+-- a refusal is the call's; g is how the call hands it on
+pub judged_refuse : {O : Type 0} (g : Refused → O) (rest : O) (s : Store) {f : Refused} → Err f ≡ audit s
+    → g f ≡ audited (λ r. g (refusal_of s.ctl r)) s rest
 unfolding audit
-judged_refuse {O} refuse rest s {why} {c} e = admissions_agree Alike (λ r. Plain.Refused r s.ctl) refuse s alike (broken (broken_rule s)) e
+judged_refuse {O} g rest s {f} e =
+    admissions_agree Alike (λ r. refusing r s.ctl) (λ r. g (refusal_of s.ctl r)) s alike (broken (broken_rule s)) e
   where
     -- the audit's answer and the call's
-    Alike : Plain → O → Type 0
-    Alike x y = Plain.Refused why c ≡ x → refuse why ≡ y
+    Alike : Result Control Refused → O → Type 0
+    Alike x y = Err f ≡ x → g f ≡ y
 
-    alike : (r : Refusal) → Alike (Plain.Refused r s.ctl) (refuse r)
-    alike r f = let z : why ≡ r = cc in ap refuse z
+    alike : (r : Refusal) → Alike (refusing r s.ctl) (g (refusal_of s.ctl r))
+    alike r p = ap g (same_refused p)
 
-    broken : (k : ℕ) → Alike (unbroken (λ r. Plain.Refused r s.ctl) k (Plain.Done s.ctl)) (unbroken refuse k rest)
-    broken zero f = absurd (false≢true cc)
-    broken (suc k) f = alike (Refusal.Broken (suc k)) f
+    broken : (k : ℕ) → Alike (unbroken (λ r. refusing r s.ctl) k (Ok s.ctl)) (unbroken (λ r. g (refusal_of s.ctl r)) k rest)
+    broken zero p = absurd (false≢true cc)
+    broken (suc k) p = alike (Refusal.Broken (suc k)) p
 
 -- after a yes the heap passes
-pub judged_yes : (s : Store) {c : Control} → Plain.Done c ≡ audit s → Passes s
+pub judged_yes : (s : Store) {c : Control} → Ok c ≡ audit s → Passes s
 unfolding audit
 judged_yes s {c} e =
     let (within, x) = second_chosen (not (within_limits s)) e (λ z. false≢true cc) in
     let (common, y) = second_chosen (not (common_test s)) x (λ z. false≢true cc) in
     record { limits = not-false _ within; common = not-false _ common; unbroken = none (broken_rule s) y }
   where
-    none : (k : ℕ) → Plain.Done c ≡ unbroken (λ r. Plain.Refused r s.ctl) k (Plain.Done s.ctl) → k ≡ 0
+    none : (k : ℕ) → Ok c ≡ unbroken (λ r. refusing r s.ctl) k (Ok s.ctl) → k ≡ 0
     none zero f = refl
     none (suc k) f = absurd (false≢true cc)
 
 -- and only then
-pub audit_yes : (s : Store) → (audit s ≡ Plain.Done s.ctl) ↔ Passes s
+pub audit_yes : (s : Store) → (audit s ≡ Ok s.ctl) ↔ Passes s
 unfolding audit
-audit_yes s = (λ e. judged_yes s (sym e), λ p. passed s p (λ r. Plain.Refused r s.ctl) (Plain.Done s.ctl))
+audit_yes s = (λ e. judged_yes s (sym e), λ p. passed s p (λ r. refusing r s.ctl) (Ok s.ctl))
 
 -- after a yes a collection is its four steps
-pub judged_collects : (s : Store) {c : Control} → Plain.Done c ≡ audit s → collect s ≡ collected s
+pub judged_collects : (s : Store) {c : Control} → Ok c ≡ audit s → collect s ≡ collected s
 unfolding collect
 judged_collects s e = passed s (judged_yes s e) (refused s) (collected s)

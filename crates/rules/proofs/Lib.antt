@@ -18,6 +18,7 @@ pub mod Fresh
 pub mod Rows
 pub mod Pointers
 pub mod Seen
+pub mod Answered
 pub mod Judged
 pub mod Order
 pub mod Left

@@ -1,5 +1,6 @@
 -- Clearing and taking pages and placing values, as the code does it: each law says what a definition comes to once the tests before it are known.
 -- With these known, the definition computes.
+use Rattle.std.specs.Prelude.{Ok}
 use Prim.Native.Nat.{ℕ, zero, suc, ◌+◌, ◌-◌, ◌*◌, ◌^◌, ◌≤◌, ◌<◌}
 use mathlib.Core.Path.{◌≡◌, refl, sym, ap, ◌∙◌}
 use mathlib.Core.Bool.{true, false}
@@ -14,10 +15,9 @@ use Rattle.laws.specs.Lists.{at, put}
 use Rattle.laws.proofs.Lists.{part_length}
 use Rattle.laws.proofs.Parts.{part_put}
 use Rattle.rules.specs.declared.Refusal.{Refusal}
-use Rattle.rules.specs.declared.Valued.{Valued}
 use Rattle.rules.specs.Memory.{Store, control, page_link, page_end, body_address, page_words, link, set_link, origin, set_origin, row, end_of, top_of, set_end, set_top}
 use Rattle.rules.specs.Words.{address_pointer}
-use Rattle.rules.specs.Refusals.{Paged, outcome, refused_value}
+use Rattle.rules.specs.Refusals.{Paged, outcome, refused}
 use Rattle.rules.proofs.Limits.{paged_size}
 use Rattle.rules.specs.Pages.{Run, begun, with_free, last_if, link_fits, take_page, clear_page, join, room, store, place}
 use Rattle.rules.specs.Calls.{allocate_on, allocate_in}
@@ -112,7 +112,7 @@ module _ (s : Store) (j : ℕ) (v : List ℕ) where
   pub value_here : top_of s.table j + length v ≤ end_of s.table j
       → allocate_in s j v
       ≡ outcome
-      (Valued.Done (address_pointer (top_of s.table j)) s.ctl)
+      (Ok (address_pointer (top_of s.table j), s.ctl))
       (put s.heap (top_of s.table j) v)
       (set_top s.table j (top_of s.table j + length v))
       s.roots
@@ -122,11 +122,11 @@ module _ (s : Store) (j : ℕ) (v : List ℕ) where
 
   -- a page is wanted
   module _ (b : end_of s.table j < top_of s.table j + length v) where
-    pub value_no_page : s.ctl.count ≡ 0 → allocate_in s j v ≡ refused_value s Refusal.NoPage
+    pub value_no_page : s.ctl.count ≡ 0 → allocate_in s j v ≡ refused s Refusal.NoPage
     unfolding allocate_in
     value_no_page z = rw (lt-leb _ _ b, eq-eqb _ _ z)
 
-    pub value_broken : (s.ctl.count ≡ 0 → ⊥) → link_fits s.ctl.n s.heap (s.ctl.first - 1) s.ctl.count ≡ false → allocate_in s j v ≡ refused_value s (Refusal.Broken 0)
+    pub value_broken : (s.ctl.count ≡ 0 → ⊥) → link_fits s.ctl.n s.heap (s.ctl.first - 1) s.ctl.count ≡ false → allocate_in s j v ≡ refused s (Refusal.Broken 0)
     unfolding allocate_in
     value_broken z f = rw (lt-leb _ _ b, ne_eqb _ _ z, f)
 
@@ -137,7 +137,7 @@ module _ (s : Store) (j : ℕ) (v : List ℕ) where
         → j < 64
         → allocate_in s j v
         ≡ outcome
-        (Valued.Done (address_pointer (body_address s.ctl.n k)) (control s.ctl.n s.ctl.regions f l m))
+        (Ok (address_pointer (body_address s.ctl.n k), (control s.ctl.n s.ctl.regions f l m)))
         (put (set h (end_of s.table j - 2 ^ s.ctl.n) (page_link k)) (body_address s.ctl.n k) v)
         (set_top (set_top (set_end s.table j (page_end s.ctl.n k)) j (body_address s.ctl.n k)) j (body_address s.ctl.n k + length v))
         s.roots

@@ -1,5 +1,9 @@
 -- The starred soundings of document 01: one table, and one theorem that all of it holds. It is true by computation: the definitions are
 -- run on each case, and what they give is compared word by word with what the paper says.
+use Rattle.std.specs.Prelude.{Result, Ok, Err}
+use Rattle.rules.specs.declared.Refused.{Refused}
+use Rattle.rules.specs.declared.Refusal.{Refusal}
+use Rattle.rules.specs.Refusals.{number_of, place_of, Outcome, common}
 use Prim.Native.Nat.{ℕ, ◌-◌, ◌^◌}
 use Prim.Native.Char.{code}
 use Prim.Native.String.{String}
@@ -12,14 +16,9 @@ use lib.Dec.{eqb}
 use Rattle.laws.specs.Lists.{put, padded, all, all_from, zeros, times, last_or, same}
 use Rattle.rules.specs.declared.Control.{Control}
 use Rattle.rules.specs.declared.Kind.{Kind}
-use Rattle.rules.specs.declared.Plain.{Plain}
-use Rattle.rules.specs.declared.Valued.{Valued}
-use Rattle.rules.specs.declared.Told.{Told}
-use Rattle.rules.specs.declared.Worded.{Worded}
 use Rattle.rules.specs.Memory.{Store, lent, control, limits, page_words, link, origin, chain, chain_end, region_pages, free_pages, pages_from}
 use Rattle.rules.specs.Words.{word_of, head_of, is_record, fit, vals, page_vals, used_of, stands_at, fields_pass, good_on, good_heap, good_const, good_in}
 use Rattle.rules.specs.Audit.{if_last, rule2, opens, ends_well, last_link, rule3, ends_at, top_fits, rule4, filled, page_filled, rule5, rule6, rule7, const_field, rule8, clean, rule9, first_failing, broken_rule}
-use Rattle.rules.specs.Refusals.{number_of, place_of, Outcome, common}
 use Rattle.rules.specs.Pages.{link_fits, take_page, clear_page, give_back, give_back_all, join, room, store, place}
 use Rattle.rules.specs.Calls.{word_of_number, row_fits, allocate_on, allocate_in, allocate, audit, due}
 use Rattle.rules.specs.Collection.{freshen, wake, move_on, move_to, region_at, evacuate_at, evacuate, evacuate_all, scan_fields, scan_value, next_from, next_scan, work, work_stack, leaves, ending, collected, collect}
@@ -60,40 +59,40 @@ same_store a b =
     same a.heap b.heap && same a.table b.table && same a.roots b.roots && same a.consts b.consts
     && same_control a.ctl b.ctl
 
-abbrev pub is_done : Plain → Bool
-is_done (Plain.Done c) = true
-is_done (Plain.Refused r c) = false
+abbrev pub is_done : Result Control Refused → Bool
+is_done (Ok c) = true
+is_done (Err e) = false
 
 -- refused with the number and place 0, the record as given, and no word changed
-abbrev pub is_refusal : ℕ → Store → Outcome Plain → Plain → Bool
-is_refusal k s o (Plain.Done c) = false
-is_refusal k s o (Plain.Refused r c) =
-    eqb (number_of r) k && eqb (place_of r) 0 && same_store s (lent o.heap o.table o.roots o.consts c)
+abbrev pub is_refusal : ℕ → Store → Outcome (Result Control Refused) → Result Control Refused → Bool
+is_refusal k s o (Ok c) = false
+is_refusal k s o (Err e) =
+    eqb (number_of e.why) k && eqb (place_of e.why) 0 && same_store s (lent o.heap o.table o.roots o.consts e.control)
 
 -- done, leaving the store s', which passes the audit
-abbrev pub leaves_passing : Store → Outcome Plain → Plain → Bool
-leaves_passing s' o (Plain.Done c) = same_store s' (lent o.heap o.table o.roots o.consts c) && is_done (audit s')
-leaves_passing s' o (Plain.Refused r c) = false
+abbrev pub leaves_passing : Store → Outcome (Result Control Refused) → Result Control Refused → Bool
+leaves_passing s' o (Ok c) = same_store s' (lent o.heap o.table o.roots o.consts c) && is_done (audit s')
+leaves_passing s' o (Err e) = false
 
-abbrev pub is_word : ℕ → Worded → Bool
-is_word w (Worded.Done v) = eqb v w
-is_word w (Worded.Refused r) = false
+abbrev pub is_word : ℕ → Result ℕ Refusal → Bool
+is_word w (Ok v) = eqb v w
+is_word w (Err r) = false
 
-abbrev pub is_no_word : ℕ → Worded → Bool
-is_no_word k (Worded.Done v) = false
-is_no_word k (Worded.Refused r) = eqb (number_of r) k
+abbrev pub is_no_word : ℕ → Result ℕ Refusal → Bool
+is_no_word k (Ok v) = false
+is_no_word k (Err r) = eqb (number_of r) k
 
-abbrev pub is_pointer : ℕ → Valued → Bool
-is_pointer w (Valued.Done v c) = eqb v w
-is_pointer w (Valued.Refused r c) = false
+abbrev pub is_pointer : ℕ → Result (ℕ × Control) Refused → Bool
+is_pointer w (Ok p) = eqb p.0 w
+is_pointer w (Err e) = false
 
-abbrev pub is_no_pointer : ℕ → Valued → Bool
-is_no_pointer k (Valued.Done v c) = false
-is_no_pointer k (Valued.Refused r c) = eqb (number_of r) k && eqb (place_of r) 0
+abbrev pub is_no_pointer : ℕ → Result (ℕ × Control) Refused → Bool
+is_no_pointer k (Ok p) = false
+is_no_pointer k (Err e) = eqb (number_of e.why) k && eqb (place_of e.why) 0
 
-abbrev pub says_due : Bool → Told → Bool
-says_due b (Told.Done d c) = beq d b
-says_due b (Told.Refused r c) = false
+abbrev pub says_due : Bool → Result (Bool × Control) Refused → Bool
+says_due b (Ok p) = beq p.0 b
+says_due b (Err e) = false
 
 abbrev pub ones : ℕ → List ℕ
 ones m = replicate m 1

@@ -1,21 +1,16 @@
 -- Document 01, "What each call does" and "Refusal numbers": for each call one definition of its whole outcome, the tests in the paper's order.
-use Rattle.std.specs.Prelude.{ℕ, zero, suc, ◌+◌, ◌-◌, ◌*◌, ◌/◌, ◌%◌, ◌^◌, Bool, true, false, ◌&&◌, not, List, [], ◌∷◌, ◌++◌, length, set, replicate, ℤ, pos, negsuc, leb, ltb, eqb}
+use Rattle.std.specs.Prelude.{ℕ, zero, suc, ◌+◌, ◌-◌, ◌*◌, ◌/◌, ◌%◌, ◌^◌, Bool, true, false, ◌&&◌, not, List, [], ◌∷◌, ◌++◌, length, set, replicate, ℤ, pos, negsuc, leb, ltb, eqb, Result, Ok, Err}
+use Rattle.rules.specs.declared.Refused.{Refused}
+use Rattle.rules.specs.Refusals.{Outcome, outcome, refused, admitted, audited, refusing}
 use Rattle.std.proofs.Math.Option.{Option, none, some}
 use Rattle.laws.specs.Choice.{◌⇒◌∣◌}
 use Rattle.laws.specs.Lists.{at, all}
 use Rattle.rules.specs.declared.Control.{Control}
 use Rattle.rules.specs.declared.Kind.{Kind}
 use Rattle.rules.specs.declared.Refusal.{Refusal}
-use Rattle.rules.specs.declared.Plain.{Plain}
-use Rattle.rules.specs.declared.Valued.{Valued}
-use Rattle.rules.specs.declared.Told.{Told}
-use Rattle.rules.specs.declared.Opened.{Opened}
-use Rattle.rules.specs.declared.Worded.{Worded}
-use Rattle.rules.specs.declared.Numbered.{Numbered}
 use Rattle.rules.specs.Memory.{Store, control, limits, page_count, address_page, region_origin, page_words, body_address, page_address, page_end, page_link, origin, end_of, top_of, set_row, region_pages}
 use Rattle.rules.specs.Words.{Word, number, in_heap, in_const, word_of, address_pointer, is_record, good_heap, good_const, look}
 use Rattle.rules.specs.Audit.{top_fits, records_pass, good_word, used_by}
-use Rattle.rules.specs.Refusals.{Outcome, outcome, refused, refused_value, admitted, audited}
 use Rattle.rules.specs.Pages.{Run, begun, record_after, link_fits, take_page, give_back_all, place}
 
 -- the value that a word points to, header and words; empty where it is no good pointer
@@ -31,15 +26,15 @@ fields_in v = length v - 1
 
 -- ---- Whole numbers to words and back: "a whole number i from -2^30 to 2^30-1, stored as 2i+1 modulo 2^32".
 
-abbrev pub word_of_number : ℤ → Worded
-word_of_number (pos i) = ltb i (2 ^ 30) ⇒ Worded.Done (2 * i + 1) ∣ Worded.Refused Refusal.NoNumber
-word_of_number (negsuc i) = ltb i (2 ^ 30) ⇒ Worded.Done (2 ^ 32 - (2 * i + 1)) ∣ Worded.Refused Refusal.NoNumber
+abbrev pub word_of_number : ℤ → Result ℕ Refusal
+word_of_number (pos i) = ltb i (2 ^ 30) ⇒ Ok (2 * i + 1) ∣ Err Refusal.NoNumber
+word_of_number (negsuc i) = ltb i (2 ^ 30) ⇒ Ok (2 ^ 32 - (2 * i + 1)) ∣ Err Refusal.NoNumber
 
-unfoldable pub number_of_word : ℕ → Numbered
+unfoldable pub number_of_word : ℕ → Result ℤ Refusal
 number_of_word w =
-    eqb (w % 2) 0 ⇒ Numbered.Refused Refusal.NoNumber ∣
-    ltb w (2 ^ 31) ⇒ Numbered.Done (pos (w / 2)) ∣
-    Numbered.Done (negsuc ((2 ^ 32 - 1 - w) / 2))
+    eqb (w % 2) 0 ⇒ Err Refusal.NoNumber ∣
+    ltb w (2 ^ 31) ⇒ Ok (pos (w / 2)) ∣
+    Ok (negsuc ((2 ^ 32 - 1 - w) / 2))
 
 -- ---- "Setting up zeroes heap and table, sets every root to 1, and lists all pages free in rising order."
 
@@ -50,11 +45,11 @@ fresh_pages n (suc zero) k = 0 ∷ replicate (2 ^ n - 1) 0
 fresh_pages n (suc (suc m)) k = page_link (suc k) ∷ replicate (2 ^ n - 1) 0 ++ fresh_pages n (suc m) (suc k)
 
 -- setting up is given n and no record; what the others leave in the record does not count
-unfoldable pub set_up : ℕ → List ℕ → List ℕ → List ℕ → List ℕ → Outcome Opened
+unfoldable pub set_up : ℕ → List ℕ → List ℕ → List ℕ → List ℕ → Outcome (Result Control Refusal)
 set_up n heap table roots consts =
-    not (limits n (length heap) (length table) (length roots) (length consts)) ⇒ outcome (Opened.Refused Refusal.Limits) heap table roots consts ∣
+    not (limits n (length heap) (length table) (length roots) (length consts)) ⇒ outcome (Err Refusal.Limits) heap table roots consts ∣
     outcome
-    (Opened.Done (control n 0 (page_link 0) (page_count n heap) (page_count n heap)))
+    (Ok (control n 0 (page_link 0) (page_count n heap) (page_count n heap)))
     (fresh_pages n (page_count n heap) 0)
     (replicate (length table) 0)
     (replicate (length roots) 1)
@@ -63,17 +58,17 @@ set_up n heap table roots consts =
 -- ---- "Push takes one page; its a is the third word."
 
 -- what a push leaves: the table words of region R, and one region more
-unfoldable pub push_on : Store → Option (ℕ × Run) → Outcome Plain
+unfoldable pub push_on : Store → Option (ℕ × Run) → Outcome (Result Control Refused)
 push_on s none = refused s Refusal.NoPage
 push_on s (some p) =
     outcome
-    (Plain.Done (record_after s (suc s.ctl.regions) p.1))
+    (Ok (record_after s (suc s.ctl.regions) p.1))
     p.1.heap
     (set_row p.1.table s.ctl.regions (page_end s.ctl.n p.0) (page_address s.ctl.n p.0) (body_address s.ctl.n p.0) 0)
     s.roots
     s.consts
 
-unfoldable pub push : Store → Outcome Plain
+unfoldable pub push : Store → Outcome (Result Control Refused)
 push s =
     admitted (refused s) s
     (leb 64 s.ctl.regions ⇒ refused s Refusal.RegionsFull ∣
@@ -98,16 +93,16 @@ let_go n heap table roots j =
     all (λ w. not (points_into n heap j w)) roots
     && records_pass (λ w. not (points_into n heap j w)) n heap table j
 
-unfoldable pub pop_on : Store → ℕ → Run → Outcome Plain
-pop_on s j r = outcome (Plain.Done (record_after s j r)) r.heap (set_row r.table j 0 0 0 0) s.roots s.consts
+unfoldable pub pop_on : Store → ℕ → Run → Outcome (Result Control Refused)
+pop_on s j r = outcome (Ok (record_after s j r)) r.heap (set_row r.table j 0 0 0 0) s.roots s.consts
 
 -- the top region is j
-unfoldable pub pop_top : Store → ℕ → Outcome Plain
+unfoldable pub pop_top : Store → ℕ → Outcome (Result Control Refused)
 pop_top s j =
     not (let_go s.ctl.n s.heap s.table s.roots j) ⇒ refused s Refusal.Held ∣
     pop_on s j (give_back_all s.ctl.n (region_pages s.ctl.n s.heap s.table j) (begun s))
 
-unfoldable pub pop : Store → Outcome Plain
+unfoldable pub pop : Store → Outcome (Result Control Refused)
 pop s =
     audited (refused s) s
     (eqb s.ctl.regions 0 ⇒ refused s Refusal.NoRegion ∣
@@ -133,31 +128,31 @@ words_fit s Kind.Record ws = all (good_word s) ws
 words_fit s Kind.Raw ws = true
 
 -- what an allocation leaves
-unfoldable pub allocate_on : Store → Option (ℕ × Run) → Outcome Valued
-allocate_on s none = refused_value s Refusal.NoPage
+unfoldable pub allocate_on : Store → Option (ℕ × Run) → Outcome (Result (ℕ × Control) Refused)
+allocate_on s none = refused s Refusal.NoPage
 allocate_on s (some p) =
     outcome
-    (Valued.Done (address_pointer p.0) (record_after s s.ctl.regions p.1))
+    (Ok (address_pointer p.0, record_after s s.ctl.regions p.1))
     p.1.heap
     p.1.table
     s.roots
     s.consts
 
 -- it fits before e, or else a page is wanted: there is one, and its link is fit
-unfoldable pub allocate_in : Store → ℕ → List ℕ → Outcome Valued
+unfoldable pub allocate_in : Store → ℕ → List ℕ → Outcome (Result (ℕ × Control) Refused)
 allocate_in s j value =
     leb (top_of s.table j + length value) (end_of s.table j) ⇒ allocate_on s (place s.ctl.n j value (begun s)) ∣
-    eqb s.ctl.count 0 ⇒ refused_value s Refusal.NoPage ∣
-    not (link_fits s.ctl.n s.heap (s.ctl.first - 1) s.ctl.count) ⇒ refused_value s (Refusal.Broken 0) ∣
+    eqb s.ctl.count 0 ⇒ refused s Refusal.NoPage ∣
+    not (link_fits s.ctl.n s.heap (s.ctl.first - 1) s.ctl.count) ⇒ refused s (Refusal.Broken 0) ∣
     allocate_on s (place s.ctl.n j value (begun s))
 
-unfoldable pub allocate : Store → ℕ → Kind → List ℕ → Outcome Valued
+unfoldable pub allocate : Store → ℕ → Kind → List ℕ → Outcome (Result (ℕ × Control) Refused)
 allocate s j kind ws =
-    admitted (refused_value s) s
-    (leb s.ctl.regions j ⇒ refused_value s Refusal.NoRegion ∣
-    not (row_fits s.ctl.n s.heap s.table j) ⇒ refused_value s (Refusal.Broken 0) ∣
-    ltb (2 ^ s.ctl.n) (length ws + 3) ⇒ refused_value s Refusal.TooLong ∣
-    not (words_fit s kind ws) ⇒ refused_value s Refusal.NotGood ∣
+    admitted (refused s) s
+    (leb s.ctl.regions j ⇒ refused s Refusal.NoRegion ∣
+    not (row_fits s.ctl.n s.heap s.table j) ⇒ refused s (Refusal.Broken 0) ∣
+    ltb (2 ^ s.ctl.n) (length ws + 3) ⇒ refused s Refusal.TooLong ∣
+    not (words_fit s kind ws) ⇒ refused s Refusal.NotGood ∣
     allocate_in s j (header_for kind (length ws) ∷ ws))
 
 -- ---- "A fetch returns the header and words as a part of the heap or of the constants, not a copy." "A refused fetch or page call
@@ -171,23 +166,23 @@ abbrev pub is_there : List ℕ → Bool
 is_there [] = false
 is_there (h ∷ ws) = true
 
-unfoldable pub fetch_refusal : Store → ℕ → Plain
+unfoldable pub fetch_refusal : Store → ℕ → Result Control Refused
 fetch_refusal s w =
-    admitted (λ r. Plain.Refused r s.ctl) s
-    (not (is_there (look_in s w)) ⇒ Plain.Refused Refusal.NotGood s.ctl ∣
-    Plain.Done s.ctl)
+    admitted (λ r. refusing r s.ctl) s
+    (not (is_there (look_in s w)) ⇒ refusing Refusal.NotGood s.ctl ∣
+    Ok s.ctl)
 
 -- ---- Assigning a field: "target 7 (a number as target is 9), 12, 9, 10, the word 7".
 
 -- the target is a good pointer to address a of the heap
-unfoldable pub assign_at : Store → ℕ → ℕ → ℕ → Outcome Plain
+unfoldable pub assign_at : Store → ℕ → ℕ → ℕ → Outcome (Result Control Refused)
 assign_at s a i x =
     not (is_record (at s.heap a)) ⇒ refused s Refusal.NoFields ∣
     leb (at s.heap a / 8) i ⇒ refused s Refusal.NoSuch ∣
     not (good_word s x) ⇒ refused s Refusal.NotGood ∣
-    outcome (Plain.Done s.ctl) (set s.heap (suc (a + i)) x) s.table s.roots s.consts
+    outcome (Ok s.ctl) (set s.heap (suc (a + i)) x) s.table s.roots s.consts
 
-unfoldable pub assign_by : Store → Word → ℕ → ℕ → Outcome Plain
+unfoldable pub assign_by : Store → Word → ℕ → ℕ → Outcome (Result Control Refused)
 assign_by s number i x = refused s Refusal.NoFields
 assign_by s (in_heap a) i x =
     not (good_heap s.ctl.n s.ctl.regions s.heap a) ⇒ refused s Refusal.NotGood ∣
@@ -196,17 +191,17 @@ assign_by s (in_const a) i x =
     not (good_const s.consts a) ⇒ refused s Refusal.NotGood ∣
     refused s Refusal.Constant
 
-unfoldable pub assign : Store → ℕ → ℕ → ℕ → Outcome Plain
+unfoldable pub assign : Store → ℕ → ℕ → ℕ → Outcome (Result Control Refused)
 assign s w i x = admitted (refused s) s (assign_by s (word_of w) i x)
 
 -- ---- Setting a root: "10, 7".
 
-unfoldable pub set_root : Store → ℕ → ℕ → Outcome Plain
+unfoldable pub set_root : Store → ℕ → ℕ → Outcome (Result Control Refused)
 set_root s i w =
     admitted (refused s) s
     (leb (length s.roots) i ⇒ refused s Refusal.NoSuch ∣
     not (good_word s w) ⇒ refused s Refusal.NotGood ∣
-    outcome (Plain.Done s.ctl) s.heap s.table (set s.roots i w) s.consts)
+    outcome (Ok s.ctl) s.heap s.table (set s.roots i w) s.consts)
 
 -- ---- "A path is a root number and field numbers, all from 0: one step is walked, and then the rest of it; the answer is the word it ends
 -- on." "Walk: root 10, then each step 7, 9, 10; the final word 7."
@@ -235,36 +230,36 @@ unfoldable pub walk_from : (ℕ → List ℕ) → ℕ → List ℕ → Walked
 walk_from view w [] = is_number (word_of w) ⇒ ends w ∣ not (is_there (view w)) ⇒ stops Refusal.NotGood ∣ ends w
 walk_from view w (f ∷ fs) = is_number (word_of w) ⇒ stops Refusal.NoFields ∣ step_into (view w) f (λ x. walk_from view x fs)
 
-abbrev pub walk_says : Control → Walked → Valued
-walk_says c (ends w) = Valued.Done w c
-walk_says c (stops r) = Valued.Refused r c
+abbrev pub walk_says : Control → Walked → Result (ℕ × Control) Refused
+walk_says c (ends w) = Ok (w, c)
+walk_says c (stops r) = refusing r c
 
-unfoldable pub walk : Store → ℕ → List ℕ → Valued
+unfoldable pub walk : Store → ℕ → List ℕ → Result (ℕ × Control) Refused
 walk s i path =
-    admitted (λ r. Valued.Refused r s.ctl) s
-    (leb (length s.roots) i ⇒ Valued.Refused Refusal.NoSuch s.ctl ∣
+    admitted (λ r. refusing r s.ctl) s
+    (leb (length s.roots) i ⇒ refusing Refusal.NoSuch s.ctl ∣
     walk_says s.ctl (walk_from (look_in s) (at s.roots i) path))
 
 -- ---- The audit as a call.
 
-unfoldable pub audit : Store → Plain
-audit s = audited (λ r. Plain.Refused r s.ctl) s (Plain.Done s.ctl)
+unfoldable pub audit : Store → Result Control Refused
+audit s = audited (λ r. refusing r s.ctl) s (Ok s.ctl)
 
 -- ---- "A collection is due exactly when 3 times the free count is below N."
 
 abbrev pub due_at : ℕ → ℕ → Bool
 due_at count pages = ltb (3 * count) pages
 
-unfoldable pub due : Store → Told
-due s = admitted (λ r. Told.Refused r s.ctl) s (Told.Done (due_at s.ctl.count (page_count s.ctl.n s.heap)) s.ctl)
+unfoldable pub due : Store → Result (Bool × Control) Refused
+due s = admitted (λ r. refusing r s.ctl) s (Ok (due_at s.ctl.count (page_count s.ctl.n s.heap), s.ctl))
 
 -- ---- Used words: "audit 2, then 5".
 
-unfoldable pub used_words : Store → ℕ → Valued
+unfoldable pub used_words : Store → ℕ → Result (ℕ × Control) Refused
 used_words s j =
-    audited (λ r. Valued.Refused r s.ctl) s
-    (leb s.ctl.regions j ⇒ Valued.Refused Refusal.NoRegion s.ctl ∣
-    Valued.Done (used_by s.ctl.n s.heap s.table j) s.ctl)
+    audited (λ r. refusing r s.ctl) s
+    (leb s.ctl.regions j ⇒ refusing Refusal.NoRegion s.ctl ∣
+    Ok (used_by s.ctl.n s.heap s.table j, s.ctl))
 
 -- ---- "Asked for a page by number, the library hands back that page's own P words in the heap."
 
@@ -274,8 +269,8 @@ page_by_number s k =
     (leb (page_count s.ctl.n s.heap) k ⇒ [] ∣
     page_words s.ctl.n s.heap k)
 
-unfoldable pub page_refusal : Store → ℕ → Plain
+unfoldable pub page_refusal : Store → ℕ → Result Control Refused
 page_refusal s k =
-    admitted (λ r. Plain.Refused r s.ctl) s
-    (leb (page_count s.ctl.n s.heap) k ⇒ Plain.Refused Refusal.NoSuch s.ctl ∣
-    Plain.Done s.ctl)
+    admitted (λ r. refusing r s.ctl) s
+    (leb (page_count s.ctl.n s.heap) k ⇒ refusing Refusal.NoSuch s.ctl ∣
+    Ok s.ctl)

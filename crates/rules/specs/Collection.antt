@@ -1,9 +1,10 @@
 -- Document 01, "The collection": its four steps, word by word (document 000, section 2.3).
-use Rattle.std.specs.Prelude.{ℕ, zero, suc, ◌+◌, ◌*◌, ◌%◌, ◌^◌, true, false, ◌||◌, List, [], ◌∷◌, length, take, drop, set, eqb}
+use Rattle.std.specs.Prelude.{ℕ, zero, suc, ◌+◌, ◌*◌, ◌%◌, ◌^◌, true, false, ◌||◌, List, [], ◌∷◌, length, take, drop, set, eqb, Result, Ok}
+use Rattle.rules.specs.declared.Control.{Control}
+use Rattle.rules.specs.declared.Refused.{Refused}
 use Rattle.std.proofs.Math.Option.{Option, none, some}
 use Rattle.laws.specs.Lists.{at}
 use Rattle.rules.specs.declared.Refusal.{Refusal}
-use Rattle.rules.specs.declared.Plain.{Plain}
 use Rattle.rules.specs.Memory.{Store, page_address, address_page, link_page, origin_region, body_address, page_end, link, origin, top_of, status_of, set_status, set_row, pages_from}
 use Rattle.rules.specs.Words.{number, in_heap, in_const, word_of, address_pointer, rec, raw, moved, wrong, head_of, words_by}
 use Rattle.rules.specs.Refusals.{Outcome, outcome, refused, audited}
@@ -126,17 +127,17 @@ module _ (n : ℕ) where
 abbrev pub from_space : Store → List ℕ
 from_space s = pages_from s.ctl.n s.heap s.table s.ctl.regions 0
 
-unfoldable pub leaves : Store → List ℕ → Run → Outcome Plain
-leaves s roots r = outcome (Plain.Done (record_after s s.ctl.regions r)) r.heap r.table roots s.consts
+unfoldable pub leaves : Store → List ℕ → Run → Outcome (Result Control Refused)
+leaves s roots r = outcome (Ok (record_after s s.ctl.regions r)) r.heap r.table roots s.consts
 
 -- "If a page is wanted and none is free: refusal 4, with every header, root, page and record as before the call."
-unfoldable pub ending : Store → List ℕ → Ended → Outcome Plain
+unfoldable pub ending : Store → List ℕ → Ended → Outcome (Result Control Refused)
 ending s roots (finished r) = leaves s roots (give_back_all s.ctl.n (from_space s) r)
 ending s roots lacks_page = refused s Refusal.NoPage
 ending s roots unfinished = refused s (Refusal.Broken 0)
 
 -- the four steps
-unfoldable pub collected : Store → Outcome Plain
+unfoldable pub collected : Store → Outcome (Result Control Refused)
 collected s = elim (freshen s.ctl.n s.ctl.regions 0 (begun s)) [
   | none ↦ refused s Refusal.NoPage
   | some r ↦ elim (evacuate_all s.ctl.n s.roots r) [
@@ -146,5 +147,5 @@ collected s = elim (freshen s.ctl.n s.ctl.regions 0 (begun s)) [
 ]
 
 -- "Collection: audit 2, then 4."
-unfoldable pub collect : Store → Outcome Plain
+unfoldable pub collect : Store → Outcome (Result Control Refused)
 collect s = audited (refused s) s (collected s)

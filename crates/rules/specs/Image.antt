@@ -1,15 +1,13 @@
 -- Document 01, "Image text": frames, writing, reading, and the program "collect" as a function from bytes to bytes.
-use Rattle.std.specs.Prelude.{ℕ, zero, suc, ◌+◌, ◌-◌, ◌*◌, ◌/◌, ◌%◌, ◌^◌, Bool, true, false, ◌&&◌, not, List, [], ◌∷◌, ◌++◌, length, take, drop, get_or, replicate, leb, ltb, eqb}
+use Rattle.std.specs.Prelude.{ℕ, zero, suc, ◌+◌, ◌-◌, ◌*◌, ◌/◌, ◌%◌, ◌^◌, Bool, true, false, ◌&&◌, not, List, [], ◌∷◌, ◌++◌, length, take, drop, get_or, replicate, leb, ltb, eqb, Result, Ok, Err}
+use Rattle.rules.specs.declared.Refused.{Refused}
+use Rattle.rules.specs.Refusals.{number_of, place_of, Outcome, outcome, admitted, refusing}
 use Rattle.std.proofs.Math.Option.{Option, none, some}
 use Rattle.laws.specs.Choice.{◌⇒◌∣◌}
 use Rattle.laws.specs.Lists.{at, padded, zeros}
 use Rattle.rules.specs.declared.Control.{Control}
 use Rattle.rules.specs.declared.Refusal.{Refusal}
-use Rattle.rules.specs.declared.Plain.{Plain}
-use Rattle.rules.specs.declared.Valued.{Valued}
-use Rattle.rules.specs.declared.Opened.{Opened}
 use Rattle.rules.specs.Memory.{Store, lent, control, page_count, page_words, row}
-use Rattle.rules.specs.Refusals.{number_of, place_of, Outcome, outcome, admitted}
 use Rattle.rules.specs.Collection.{collect}
 
 -- ---- "Lower-case hexadecimal, one frame a line, newline after each, nothing else."
@@ -61,20 +59,20 @@ image_text s =
 
 -- the answer of writing, and the lent bytes as it leaves them
 pub record Written : Type 0 where
-  pub answer : Valued
+  pub answer : Result (ℕ × Control) Refused
   pub bytes : List ℕ
 
-abbrev pub written : Valued → List ℕ → Written
+abbrev pub written : Result (ℕ × Control) Refused → List ℕ → Written
 written a bs = record { answer = a; bytes = bs }
 
 abbrev pub refused_text : Store → List ℕ → Refusal → Written
-refused_text s bytes r = written (Valued.Refused r s.ctl) bytes
+refused_text s bytes r = written (refusing r s.ctl) bytes
 
 -- "bytes past the text stay"
 unfoldable pub write_text : Store → List ℕ → List ℕ → Written
 write_text s bytes text =
     ltb (length bytes) (length text) ⇒ refused_text s bytes Refusal.Limits ∣
-    written (Valued.Done (length text) s.ctl) (text ++ drop (length text) bytes)
+    written (Ok (length text, s.ctl)) (text ++ drop (length text) bytes)
 
 -- "Writing an image: table words past 4R not 0 give 2, text longer than the lent bytes 1"
 unfoldable pub write_image : Store → List ℕ → Written
@@ -212,16 +210,16 @@ same_lengths s heap table roots consts =
     && eqb (length roots) (length s.roots)
     && eqb (length consts) (length s.consts)
 
-unfoldable pub read_store : Store → List ℕ → List ℕ → List ℕ → List ℕ → Outcome Opened
+unfoldable pub read_store : Store → List ℕ → List ℕ → List ℕ → List ℕ → Outcome (Result Control Refusal)
 read_store s heap table roots consts =
-    not (same_lengths s heap table roots consts) ⇒ outcome (Opened.Refused Refusal.Limits) heap table roots consts ∣
-    outcome (Opened.Done s.ctl) s.heap s.table s.roots s.consts
+    not (same_lengths s heap table roots consts) ⇒ outcome (Err Refusal.Limits) heap table roots consts ∣
+    outcome (Ok s.ctl) s.heap s.table s.roots s.consts
 
-abbrev pub read_on : Frames → List ℕ → List ℕ → List ℕ → List ℕ → Outcome Opened
+abbrev pub read_on : Frames → List ℕ → List ℕ → List ℕ → List ℕ → Outcome (Result Control Refusal)
 read_on (frames fs) heap table roots consts = read_store (store_of fs) heap table roots consts
-read_on (malformed line) heap table roots consts = outcome (Opened.Refused (Refusal.Malformed line)) heap table roots consts
+read_on (malformed line) heap table roots consts = outcome (Err (Refusal.Malformed line)) heap table roots consts
 
-unfoldable pub read_image : List ℕ → List ℕ → List ℕ → List ℕ → List ℕ → Outcome Opened
+unfoldable pub read_image : List ℕ → List ℕ → List ℕ → List ℕ → List ℕ → Outcome (Result Control Refusal)
 read_image text heap table roots consts = read_on (read_text text) heap table roots consts
 
 -- ---- The program "collect": it "reads an image on standard input and prints the collected one, or `ff0002`, the refusal and the place".
@@ -230,9 +228,9 @@ abbrev pub refusal_text : Refusal → List ℕ
 refusal_text r = frame 255 (number_of r ∷ place_of r ∷ [])
 
 -- what a collection leaves, as an image; or its refusal
-abbrev pub collected_text : Outcome Plain → Plain → List ℕ
-collected_text o (Plain.Done c) = image_text (lent o.heap o.table o.roots o.consts c)
-collected_text o (Plain.Refused r c) = refusal_text r
+abbrev pub collected_text : Outcome (Result Control Refused) → Result Control Refused → List ℕ
+collected_text o (Ok c) = image_text (lent o.heap o.table o.roots o.consts c)
+collected_text o (Err e) = refusal_text e.why
 
 -- "It takes at most 4,096 heap and 1,024 constant words, else 14 at line 1"
 unfoldable pub program_fits : List ℕ → Bool

@@ -2,6 +2,7 @@
 use Rattle.std.specs.Prelude.{ℕ, zero, suc, ◌+◌, ◌-◌, ◌*◌, ◌/◌, ◌%◌, ◌^◌, ◌<◌, Bool, true, false, ◌&&◌, List, [], ◌∷◌, ◌++◌, length, take, drop, set, leb, ltb, eqb}
 use Rattle.laws.specs.Lists.{at}
 use Rattle.rules.specs.declared.Control.{Control}
+use Rattle.rules.specs.declared.Lent.{Lent}
 
 -- "Lent: heap, region table, roots, constants. By value: a control record of page exponent n, regions R, free first, free last, free count."
 pub record Store : Type 0 where
@@ -13,6 +14,10 @@ pub record Store : Type 0 where
 
 abbrev pub lent : List ℕ → List ℕ → List ℕ → List ℕ → Control → Store
 lent h t r k c = record { heap = h; table = t; roots = r; consts = k; ctl = c }
+
+-- what a call is lent to read
+abbrev pub store : Lent → Store
+store l = lent l.heap.now l.table.now l.roots.now l.consts.now l.control
 
 abbrev pub control : ℕ → ℕ → ℕ → ℕ → ℕ → Control
 control n R first last count = record { n = n; regions = R; first = first; last = last; count = count }

@@ -1,21 +1,16 @@
 -- Document 01, "Refusal numbers": the tests of each call, in the paper's order, each with the refusal that it gives where it holds. A call
 -- refuses by the first that holds; their numbers are those that the paper lists.
-use Rattle.std.specs.Prelude.{ℕ, zero, suc, ◌+◌, ◌-◌, ◌/◌, ◌%◌, ◌^◌, ◌≡◌, refl, Bool, true, false, ◌&&◌, ◌||◌, not, List, [], ◌∷◌, length, drop, ℤ, pos, negsuc, leb, ltb, eqb}
+use Rattle.std.specs.Prelude.{ℕ, zero, suc, ◌+◌, ◌-◌, ◌/◌, ◌%◌, ◌^◌, ◌≡◌, refl, Bool, true, false, ◌&&◌, ◌||◌, not, List, [], ◌∷◌, length, drop, ℤ, pos, negsuc, leb, ltb, eqb, Result, Ok, Err}
+use Rattle.rules.specs.declared.Refused.{Refused}
+use Rattle.rules.specs.Refusals.{number_of, Outcome, outcome, refused, within_limits, common_test, refusing}
 use Rattle.std.proofs.Math.Option.{Option, none, some}
 use Rattle.laws.specs.Lists.{at, zeros}
 use Rattle.rules.specs.declared.Control.{Control}
 use Rattle.rules.specs.declared.Kind.{Kind}
 use Rattle.rules.specs.declared.Refusal.{Refusal}
-use Rattle.rules.specs.declared.Plain.{Plain}
-use Rattle.rules.specs.declared.Valued.{Valued}
-use Rattle.rules.specs.declared.Told.{Told}
-use Rattle.rules.specs.declared.Opened.{Opened}
-use Rattle.rules.specs.declared.Worded.{Worded}
-use Rattle.rules.specs.declared.Numbered.{Numbered}
 use Rattle.rules.specs.Memory.{Store, limits, page_count, row, end_of, top_of}
 use Rattle.rules.specs.Words.{Word, number, in_heap, in_const, word_of, pointer_address, is_record}
 use Rattle.rules.specs.Audit.{broken_rule, good_word}
-use Rattle.rules.specs.Refusals.{number_of, Outcome, outcome, refused, refused_value, within_limits, common_test}
 use Rattle.rules.specs.Pages.{begun, link_fits}
 use Rattle.rules.specs.Calls.{look_in, header_in, fields_in, let_go, row_fits, words_fit, is_there, is_number}
 use Rattle.rules.specs.Collection.{finished, lacks_page, unfinished, freshen, evacuate_all, work_stack}
@@ -47,29 +42,14 @@ numbers (t ∷ ts) = number_of t.why ∷ numbers ts
 
 -- ---- What an answer refuses with.
 
-abbrev pub why_plain : Plain → Option Refusal
-why_plain (Plain.Done c) = none
-why_plain (Plain.Refused r c) = some r
+abbrev pub why_of : {A : Type 0} → Result A Refused → Option Refusal
+why_of (Ok a) = none
+why_of (Err e) = some e.why
 
-abbrev pub why_valued : Valued → Option Refusal
-why_valued (Valued.Done w c) = none
-why_valued (Valued.Refused r c) = some r
-
-abbrev pub why_told : Told → Option Refusal
-why_told (Told.Done b c) = none
-why_told (Told.Refused r c) = some r
-
-abbrev pub why_opened : Opened → Option Refusal
-why_opened (Opened.Done c) = none
-why_opened (Opened.Refused r) = some r
-
-abbrev pub why_worded : Worded → Option Refusal
-why_worded (Worded.Done w) = none
-why_worded (Worded.Refused r) = some r
-
-abbrev pub why_numbered : Numbered → Option Refusal
-why_numbered (Numbered.Done i) = none
-why_numbered (Numbered.Refused r) = some r
+-- of a call that is given no record
+abbrev pub why_alone : {A : Type 0} → Result A Refusal → Option Refusal
+why_alone (Ok a) = none
+why_alone (Err r) = some r
 
 -- ---- How calls refuse. "A refusal changes no word and returns its number, a place, and the control record as given."
 
@@ -81,34 +61,23 @@ pub record Refusing (O : Type 0) : Type 0 where
   pub says : (r : Refusal) → why (refuse r) ≡ some r
 
 -- calls that may change the lent words
-abbrev pub on_plain : Store → Refusing (Outcome Plain)
-on_plain s = record { refuse = refused s; why = λ o. why_plain o.answer; says = λ r. refl }
+abbrev pub on_store : {A : Type 0} → Store → Refusing (Outcome (Result A Refused))
+on_store s = record { refuse = refused s; why = λ o. why_of o.answer; says = λ r. refl }
 
-abbrev pub on_valued : Store → Refusing (Outcome Valued)
-on_valued s = record { refuse = refused_value s; why = λ o. why_valued o.answer; says = λ r. refl }
-
-abbrev pub on_opened : List ℕ → List ℕ → List ℕ → List ℕ → Refusing (Outcome Opened)
-on_opened heap table roots consts =
-    record { refuse = λ r. outcome (Opened.Refused r) heap table roots consts; why = λ o. why_opened o.answer; says = λ r. refl }
+abbrev pub on_parts : List ℕ → List ℕ → List ℕ → List ℕ → Refusing (Outcome (Result Control Refusal))
+on_parts heap table roots consts =
+    record { refuse = λ r. outcome (Err r) heap table roots consts; why = λ o. why_alone o.answer; says = λ r. refl }
 
 abbrev pub on_text : Store → List ℕ → Refusing Written
-on_text s bytes = record { refuse = refused_text s bytes; why = λ w. why_valued w.answer; says = λ r. refl }
+on_text s bytes = record { refuse = refused_text s bytes; why = λ w. why_of w.answer; says = λ r. refl }
 
 -- calls that only answer
-abbrev pub to_plain : Control → Refusing Plain
-to_plain c = record { refuse = λ r. Plain.Refused r c; why = why_plain; says = λ r. refl }
+abbrev pub to_caller : {A : Type 0} → Control → Refusing (Result A Refused)
+to_caller c = record { refuse = λ r. refusing r c; why = why_of; says = λ r. refl }
 
-abbrev pub to_valued : Control → Refusing Valued
-to_valued c = record { refuse = λ r. Valued.Refused r c; why = why_valued; says = λ r. refl }
-
-abbrev pub to_told : Control → Refusing Told
-to_told c = record { refuse = λ r. Told.Refused r c; why = why_told; says = λ r. refl }
-
-abbrev pub to_worded : Refusing Worded
-to_worded = record { refuse = Worded.Refused; why = why_worded; says = λ r. refl }
-
-abbrev pub to_numbered : Refusing Numbered
-to_numbered = record { refuse = Numbered.Refused; why = why_numbered; says = λ r. refl }
+-- and those that are given no record
+abbrev pub alone : {A : Type 0} → Refusing (Result A Refusal)
+alone = record { refuse = Err; why = why_alone; says = λ r. refl }
 
 -- ---- The calls. "Except in setting up, the number conversions and reading an image, every call tests 1 first, then .. (else 2)."
 

@@ -1,16 +1,11 @@
 -- Document 01, "Refusal numbers": what each case of an answer says, what a refusal leaves, and the tests that every call makes first.
-use Rattle.std.specs.Prelude.{ℕ, zero, suc, ◌*◌, ◌/◌, ◌%◌, ◌^◌, ◌≤◌, ◌<◌, ◌≡◌, Bool, ◌&&◌, not, List, length, ℤ, leb, eqb}
+use Rattle.std.specs.Prelude.{ℕ, zero, suc, ◌*◌, ◌/◌, ◌%◌, ◌^◌, ◌≤◌, ◌<◌, ◌≡◌, Bool, ◌&&◌, not, List, length, leb, eqb, Result, Ok, Err}
+use Rattle.rules.specs.declared.Refused.{Refused}
 use Rattle.std.specs.Bool.{beq}
 use Rattle.std.proofs.Math.Option.{Option, none, some}
 use Rattle.laws.specs.Choice.{◌⇒◌∣◌}
 use Rattle.rules.specs.declared.Control.{Control}
 use Rattle.rules.specs.declared.Refusal.{Refusal}
-use Rattle.rules.specs.declared.Plain.{Plain}
-use Rattle.rules.specs.declared.Valued.{Valued}
-use Rattle.rules.specs.declared.Told.{Told}
-use Rattle.rules.specs.declared.Opened.{Opened}
-use Rattle.rules.specs.declared.Worded.{Worded}
-use Rattle.rules.specs.declared.Numbered.{Numbered}
 use Rattle.rules.specs.Memory.{Store, limits, page_count}
 use Rattle.rules.specs.Audit.{broken_rule}
 
@@ -60,29 +55,23 @@ fine v c = record { number = 0; place = 0; value = v; returned = c }
 abbrev pub refusal : {A : Type 0} → Refusal → Option Control → Said A
 refusal r c = record { number = number_of r; place = place_of r; value = none; returned = c }
 
-abbrev pub says_plain : Plain → Said (Unit {0})
-says_plain (Plain.Done c) = fine none (some c)
-says_plain (Plain.Refused r c) = refusal r (some c)
+-- an answer without a value, and one with a value; the record is the call's, or as it was given
+abbrev pub says_plain : Result Control Refused → Said (Unit {0})
+says_plain (Ok c) = fine none (some c)
+says_plain (Err e) = refusal e.why (some e.control)
 
-abbrev pub says_valued : Valued → Said ℕ
-says_valued (Valued.Done w c) = fine (some w) (some c)
-says_valued (Valued.Refused r c) = refusal r (some c)
+abbrev pub says_valued : {A : Type 0} → Result (A × Control) Refused → Said A
+says_valued (Ok p) = fine (some p.0) (some p.1)
+says_valued (Err e) = refusal e.why (some e.control)
 
-abbrev pub says_told : Told → Said Bool
-says_told (Told.Done b c) = fine (some b) (some c)
-says_told (Told.Refused r c) = refusal r (some c)
+-- the answer of a call that is given no record: a record, or a value alone
+abbrev pub says_opened : Result Control Refusal → Said (Unit {0})
+says_opened (Ok c) = fine none (some c)
+says_opened (Err r) = refusal r none
 
-abbrev pub says_opened : Opened → Said (Unit {0})
-says_opened (Opened.Done c) = fine none (some c)
-says_opened (Opened.Refused r) = refusal r none
-
-abbrev pub says_worded : Worded → Said ℕ
-says_worded (Worded.Done w) = fine (some w) none
-says_worded (Worded.Refused r) = refusal r none
-
-abbrev pub says_numbered : Numbered → Said ℤ
-says_numbered (Numbered.Done i) = fine (some i) none
-says_numbered (Numbered.Refused r) = refusal r none
+abbrev pub says_alone : {A : Type 0} → Result A Refusal → Said A
+says_alone (Ok v) = fine (some v) none
+says_alone (Err r) = refusal r none
 
 -- ---- The outcome of a call: its answer, and every lent word as it leaves them.
 
@@ -101,15 +90,18 @@ abbrev pub unchanged : {A : Type 0} → A → Store → Outcome A
 unchanged a s = outcome a s.heap s.table s.roots s.consts
 
 -- "and returns its number, a place, and the control record as given"
-abbrev pub refused : Store → Refusal → Outcome Plain
-refused s r = unchanged (Plain.Refused r s.ctl) s
+abbrev pub refusal_of : Control → Refusal → Refused
+refusal_of c r = record { why = r; control = c }
+
+abbrev pub refusing : {A : Type 0} → Refusal → Control → Result A Refused
+refusing r c = Err (refusal_of c r)
+
+abbrev pub refused : {A : Type 0} → Store → Refusal → Outcome (Result A Refused)
+refused s r = unchanged (refusing r s.ctl) s
 
 -- done, and what is left is the store s
-abbrev pub leaving : Store → Outcome Plain
-leaving s = unchanged (Plain.Done s.ctl) s
-
-abbrev pub refused_value : Store → Refusal → Outcome Valued
-refused_value s r = unchanged (Valued.Refused r s.ctl) s
+abbrev pub leaving : Store → Outcome (Result Control Refused)
+leaving s = unchanged (Ok s.ctl) s
 
 -- ---- "every call tests 1 first, then that R is at most 64, free first and count are at most N, and both are 0 or neither is (else 2,
 -- place 0)"

@@ -1,11 +1,12 @@
 -- What a caller sees of a store: what a path from a root reads, when two paths meet, which values a root reaches, and each value's home. Walks
 -- are those of the walk call and readings those of the fetch call; nothing here knows of pages but that each value has a home.
-use Rattle.std.specs.Prelude.{ℕ, suc, ◌<◌, ◌≡◌, true, false, List, [], ◌∷◌, length, drop, leb, eqb}
+use Rattle.std.specs.Prelude.{ℕ, suc, ◌<◌, ◌≡◌, true, false, List, [], ◌∷◌, length, drop, leb, eqb, Result, Ok, Err}
+use Rattle.rules.specs.declared.Control.{Control}
+use Rattle.rules.specs.declared.Refused.{Refused}
 use Rattle.std.proofs.Math.Option.{Option, none, some}
 use Rattle.laws.specs.Choice.{◌⇒◌∣◌}
 use Rattle.laws.specs.Lists.{at}
 use Rattle.rules.specs.declared.Refusal.{Refusal}
-use Rattle.rules.specs.declared.Valued.{Valued}
 use Rattle.rules.specs.Memory.{Store, address_page, origin}
 use Rattle.rules.specs.Words.{Word, number, in_heap, in_const, word_of, is_record}
 use Rattle.rules.specs.Calls.{look_in, header_in, fields_in, is_number, Walked, ends, stops, walk_from, walk, fetch}
@@ -73,15 +74,15 @@ pub data Reached (X : View) (roots : List ℕ) : ℕ → Type 0 where
 -- ---- what the calls answer
 
 -- what is read where a walk ends: a refusal, a number, or the value that a fetch gives, with its home
-abbrev pub read_at : Store → Valued → Reading
-read_at s (Valued.Done w c) = is_number (word_of w) ⇒ whole w ∣ read_value (home_in s w) (fetch s w)
-read_at s (Valued.Refused r c) = refusal r
+abbrev pub read_at : Store → Result (ℕ × Control) Refused → Reading
+read_at s (Ok p) = is_number (word_of p.0) ⇒ whole p.0 ∣ read_value (home_in s p.0) (fetch s p.0)
+read_at s (Err e) = refusal e.why
 
 -- two paths meet: both end on one pointer
 pub record Meet (s : Store) (i : ℕ) (fs : List ℕ) (j : ℕ) (gs : List ℕ) : Type 0 where
   pub word : ℕ
-  pub one : walk s i fs ≡ Valued.Done word s.ctl
-  pub other : walk s j gs ≡ Valued.Done word s.ctl
+  pub one : walk s i fs ≡ Ok (word, s.ctl)
+  pub other : walk s j gs ≡ Ok (word, s.ctl)
   pub pointer : is_number (word_of word) ≡ false
 
 -- the words of the value at w, L + 1, where it is one of region j's

@@ -16,7 +16,7 @@ pub struct Address(pub usize);
 
 // The control record: page exponent, number of regions, and the free list as links (a page's number plus 1, or 0) with its count.
 #[repr(C)]
-#[derive(Clone, Copy)]
+#[derive(Clone, Copy, PartialEq, Eq)]
 pub struct Control {
     pub n: u32,
     pub regions: u32,
@@ -50,44 +50,19 @@ pub enum Refusal {
     Malformed(u32),
 }
 
-// Done, or refused with the record as it was given.
+// Why a call was refused, and the control record as it was given.
 #[derive(Clone, Copy)]
-pub enum Plain {
-    Done(Control),
-    Refused(Refusal, Control),
+pub struct Refused {
+    pub why: Refusal,
+    pub control: Control,
 }
 
-// Done with a word or a count, or refused.
+// What a call is lent to read, and the control record that it is given.
 #[derive(Clone, Copy)]
-pub enum Valued {
-    Done(u32, Control),
-    Refused(Refusal, Control),
-}
-
-// Done with yes or no, or refused.
-#[derive(Clone, Copy)]
-pub enum Told {
-    Done(bool, Control),
-    Refused(Refusal, Control),
-}
-
-// A call that is given no record: done with a new one, or refused with none.
-#[derive(Clone, Copy)]
-pub enum Opened {
-    Done(Control),
-    Refused(Refusal),
-}
-
-// A whole number as a word.
-#[derive(Clone, Copy)]
-pub enum Worded {
-    Done(u32),
-    Refused(Refusal),
-}
-
-// A word as a whole number.
-#[derive(Clone, Copy)]
-pub enum Numbered {
-    Done(i32),
-    Refused(Refusal),
+pub struct Lent<'a> {
+    pub heap: &'a [u32],
+    pub table: &'a [u32],
+    pub roots: &'a [u32],
+    pub consts: &'a [u32],
+    pub control: Control,
 }

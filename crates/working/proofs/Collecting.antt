@@ -1,6 +1,7 @@
 -- Demand 3, about the definition of the collection: on a heap that passes it is refused for want of a page, or leaves a heap that passes, on
 -- which every path reads and meets as before, and each region's used words are those of its values that a root reached. It follows from what it
 -- leaves being a copy of what the roots reach.
+use Rattle.std.specs.Prelude.{Ok}
 use Prim.Native.Nat.{ℕ, ◌*◌, ◌≤◌, ◌<◌}
 use native.Mathlib.Omega.{arith}
 use native.Mathlib.Decide.{ℕ_discrete}
@@ -9,7 +10,6 @@ use mathlib.Core.Logic.{◌≢◌, ◌↔◌}
 use mathlib.Core.List.{List, [], ◌∷◌, Memᴰ}
 use Rattle.laws.specs.Sums.{sum_over}
 use Rattle.laws.proofs.Once.{Once, once_none, once_more}
-use Rattle.rules.specs.declared.Valued.{Valued}
 use Rattle.rules.specs.Memory.{Store}
 use Rattle.rules.specs.Audit.{used_by}
 use Rattle.rules.specs.Pages.{Run}
@@ -76,8 +76,8 @@ module _ {s : Store} {S : Sound s} {roots : List ℕ} {r : Run} (A : Ran s S roo
     λ t. olds_in (reached_moved (seen s) (seen s') (Kept s) (pointers log) s.roots roots (left_copied A) t.0 t.1).1,
   )
 
-  pub left_counts : (j : ℕ) → j < R → used_words s' j ≡ Valued.Done (sum_over (words_at (seen s) j) live) s'.ctl
-  left_counts j j_r = used_is s' passes' j j_r ∙ ap (λ u. Valued.Done u s'.ctl) (used' j j_r)
+  pub left_counts : (j : ℕ) → j < R → used_words s' j ≡ Ok (sum_over (words_at (seen s) j) live, s'.ctl)
+  left_counts j j_r = used_is s' passes' j j_r ∙ ap (λ u. Ok (u, s'.ctl)) (used' j j_r)
 
   -- a live value is one of a region's pages, or counts nothing for the region
   where_live : (j : ℕ) → j < R → (w : ℕ) → Memᴰ w live → Counts s S j w
@@ -96,7 +96,7 @@ module _ {s : Store} {S : Sound s} {roots : List ℕ} {r : Run} (A : Ran s S roo
   pub never_raised : (j : ℕ) → j < R → used_by n s'.heap s'.table j ≤ used_by n s.heap s.table j
   never_raised j j_r = let a = used_bound s S j j_r live live_once (where_live j j_r) in let b = used' j j_r in omega arith
 
-  pub never_more : (j u u' : ℕ) → used_words s j ≡ Valued.Done u s.ctl → used_words s' j ≡ Valued.Done u' s'.ctl → u' ≤ u
+  pub never_more : (j u u' : ℕ) → used_words s j ≡ Ok (u, s.ctl) → used_words s' j ≡ Ok (u', s'.ctl) → u' ≤ u
   never_more j u u' e e' =
       let a = used_known s passes j u e in
       let b = used_known s' passes' j u' e' in

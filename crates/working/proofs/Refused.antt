@@ -1,5 +1,8 @@
 -- A collection is refused for want of a page exactly when its working wants more pages than are free: with enough of them the working goes on,
 -- and takes one behind the heap. What a collection that is done took are the pages that its regions then have.
+use Rattle.std.specs.Prelude.{Result}
+use Rattle.rules.specs.declared.Control.{Control}
+use Rattle.rules.specs.declared.Refused.{Refused}
 use Prim.Native.Nat.{ℕ, zero, suc, ◌+◌, ◌*◌, ◌/◌, ◌^◌, ◌≤◌, ◌<◌}
 use native.Mathlib.Nat.{le-div_iff_mul-le}
 use native.Mathlib.Omega.{arith}
@@ -9,7 +12,6 @@ use mathlib.Core.List.{List}
 use mathlib.Core.Bool.{false≢true}
 use lib.ListN.{length, length-append}
 use Rattle.rules.specs.declared.Refusal.{Refusal}
-use Rattle.rules.specs.declared.Plain.{Plain}
 use Rattle.rules.specs.Memory.{Store, page_count, region_pages, pages_from}
 use Rattle.rules.specs.Pages.{Run}
 use Rattle.rules.specs.Collection.{leaves, ending, collected, from_space}
@@ -82,7 +84,7 @@ module _ (s : Store) (S : Sound s) where
     where
       there : collected s ≡ refused s Refusal.NoPage → Collects s S → s.ctl.count < wanted s
       there e (runs_dry q y) = more y
-      there e (runs_through roots r q A) = let t = ap (λ (o : Outcome Plain). o.answer) (sym e ∙ q) in absurd (false≢true cc)
+      there e (runs_through roots r q A) = let t = ap (λ (o : Outcome (Result Control Refused)). o.answer) (sym e ∙ q) in absurd (false≢true cc)
 
       back : s.ctl.count < wanted s → Collects s S → collected s ≡ refused s Refusal.NoPage
       back b (runs_dry q y) = q

@@ -1,6 +1,7 @@
 -- `access::fetch_refusal` meets its contract: a value that is there has at least its header, so the part is empty only where there is none.
+use Rattle.rules.specs.declared.Refused.{Refused}
+use Rattle.rules.specs.Refusals.{refusing}
 use native.Mathlib.Omega.{arith}
-use Rattle.rules.specs.declared.Plain.{Plain}
 use Rattle.rules.specs.Calls.{fetch_refusal}
 use Rattle.rules.proofs.Looks.{there_none, there_some}
 use Rattle.limits.proofs.First.{tests_refuse, tests_pass, tests_admit}
@@ -8,7 +9,7 @@ use Rattle.access.proofs.fetch_refusal.Goals as goal
 
 pub returns-in-Refused : goal.returns-in-Refused
 unfolding fetch_refusal
-returns-in-Refused c = tests_refuse _ _ _ _ _ c.first_tests-tested.ensures (λ r. Plain.Refused r c.args.c) _ c.in-Refused.is
+returns-in-Refused c = tests_refuse _ _ _ _ _ c.first_tests-tested.ensures (λ r. refusing r c.args.c) _ c.in-Refused.is
 
 pub look-value-requires : goal.look-value-requires
 look-value-requires c = let a = tests_admit _ _ _ _ _ c.first_tests-tested.ensures c.in_default.is in (a.paged, a.consts)

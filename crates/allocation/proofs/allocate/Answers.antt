@@ -5,7 +5,7 @@ use borrow.Author.Tests.{le-leb, lt-leb, lt-ltb, le-ltb}
 use lib.ListN.{length}
 use Rattle.laws.proofs.Turned.{told_true}
 use Rattle.rules.specs.Memory.{lent}
-use Rattle.rules.specs.Refusals.{Paged, Admitted, refused_value}
+use Rattle.rules.specs.Refusals.{Paged, Admitted, refused}
 use Rattle.rules.specs.Calls.{allocate}
 use Rattle.rules.proofs.Limits.{paged_size}
 use Rattle.limits.proofs.First.{tests_refuse, tests_pass, tests_admit}
@@ -15,7 +15,7 @@ use Rattle.allocation.proofs.allocate.Goals.{Else-c-j, Else-page_words-words, In
 
 pub returns-in-Refused : goal.returns-in-Refused
 unfolding allocate
-returns-in-Refused c = tests_refuse _ _ _ _ _ c.first_tests-tested.ensures (refused_value (lent _ _ _ _ _)) _ c.in-Refused.is
+returns-in-Refused c = tests_refuse _ _ _ _ _ c.first_tests-tested.ensures (refused (lent _ _ _ _ _)) _ c.in-Refused.is
 
 pub returns-then-c-j : goal.returns-then-c-j
 unfolding allocate

@@ -1,14 +1,15 @@
 -- `audit::audit` meets its contract: the first tests, and then the first broken rule, if there is one.
+use Rattle.rules.specs.declared.Refused.{Refused}
+use Rattle.rules.specs.Refusals.{refusing}
 use native.Mathlib.Omega.{arith}
 use Rattle.rules.specs.Calls.{audit as auditOf}
-use Rattle.rules.specs.declared.Plain.{Plain}
 use Rattle.limits.proofs.First.{tests_refuse, tests_pass, tests_admit}
 use Rattle.audit.proofs.Order.{audit_broken, audit_passes}
 use Rattle.audit.proofs.audit.Goals as goal
 
 pub returns-in-Refused : goal.returns-in-Refused
 unfolding auditOf
-returns-in-Refused c = tests_refuse _ _ _ _ _ c.first_tests-tested.ensures (λ r. Plain.Refused r c.args.c) _ c.in-Refused.is
+returns-in-Refused c = tests_refuse _ _ _ _ _ c.first_tests-tested.ensures (λ r. refusing r c.args.c) _ c.in-Refused.is
 
 pub broken_rule-rule-requires : goal.broken_rule-rule-requires
 broken_rule-rule-requires c = tests_admit _ _ _ _ _ c.first_tests-tested.ensures c.in_default.is

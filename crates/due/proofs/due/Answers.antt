@@ -1,16 +1,17 @@
 -- `due::due` meets its contract: the first tests, and then the one comparison.
-use Rattle.rules.specs.declared.Told.{Told}
+use Rattle.std.specs.Prelude.{Err}
+use Rattle.std.proofs.lemmas.Result.{err_from_is_err_and}
+use Rattle.rules.specs.Memory.{store}
 use Rattle.rules.specs.Calls.{due}
-use Rattle.limits.proofs.First.{tests_refuse, tests_pass, tests_admit}
+use Rattle.limits.proofs.First.{refused_first, admitted_first}
 use Rattle.due.proofs.due.Goals as goal
 
-pub returns-in-Refused : goal.returns-in-Refused
+pub returns-in_err-admit : goal.returns-in_err-admit
 unfolding due
-returns-in-Refused c = tests_refuse _ _ _ _ _ c.first_tests-tested.ensures (λ r. Told.Refused r c.args.c) _ c.in-Refused.is
-
-pub page_count-requires : goal.page_count-requires
-page_count-requires c = (tests_admit _ _ _ _ _ c.first_tests-tested.ensures c.in_default.is).paged.high
+returns-in_err-admit c =
+    let p = err_from_is_err_and c.from_residual.result c.from_residual.ensures.1 in
+    rw (p.1, p.2) (refused_first (store c.args.lent) Err _ c.in_err-admit.ensures)
 
 pub returns : goal.returns
 unfolding due
-returns c = let f = tests_pass _ _ _ _ _ c.first_tests-tested.ensures c.in_default.is in rw (f.0, f.1, c.due_at.ensures, c.page_count.ensures)
+returns c = rw (admitted_first (store c.args.lent) _ _ c.in_ok-admit.ensures.1, c.due_at.ensures, c.page_count.ensures)

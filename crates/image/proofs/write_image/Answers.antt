@@ -1,10 +1,11 @@
 -- `image::write_image` meets its contract: the first tests, the table past 4R, the length, and then the text.
+use Rattle.rules.specs.declared.Refused.{Refused}
+use Rattle.rules.specs.Refusals.{refusing}
 use Prim.Native.Nat.{◌*◌}
 use mathlib.Core.Path.{sym, ◌∙◌}
 use native.Mathlib.Omega.{arith}
 use Rattle.laws.proofs.Parts.{zeros_rest}
 use Rattle.laws.proofs.Turned.{told_true, told_false}
-use Rattle.rules.specs.declared.Valued.{Valued}
 use Rattle.rules.specs.Memory.{lent}
 use Rattle.rules.specs.Image.{written, write_image}
 use Rattle.rules.proofs.Frames.{text_long, text_done}
@@ -14,7 +15,7 @@ use Rattle.image.proofs.write_image.Goals as goal
 pub returns-in-Refused : goal.returns-in-Refused
 unfolding write_image
 returns-in-Refused c =
-    tests_refuse _ _ _ _ _ c.first_tests-tested.ensures (λ r. written (Valued.Refused r c.args.c) c.args.bytes.now) _ c.in-Refused.is
+    tests_refuse _ _ _ _ _ c.first_tests-tested.ensures (λ r. written (refusing r c.args.c) c.args.bytes.now) _ c.in-Refused.is
 
 pub slice_bounds-all_zero-count : goal.slice_bounds-all_zero-count
 slice_bounds-all_zero-count c = let a = tests_admit _ _ _ _ _ c.first_tests-tested.ensures c.in_default.is in omega arith

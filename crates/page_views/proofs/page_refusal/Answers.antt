@@ -1,15 +1,16 @@
 -- `page_views::page_refusal` meets its contract: the first tests, and then the one test of its own.
+use Rattle.rules.specs.declared.Refused.{Refused}
+use Rattle.rules.specs.Refusals.{refusing}
 use Prim.Native.Nat.{◌≤◌, ◌<◌}
 use borrow.Author.Tests.{le-leb, lt-leb}
 use Rattle.rules.specs.Calls.{page_refusal}
 use Rattle.limits.proofs.First.{tests_refuse, tests_pass, tests_admit}
-use Rattle.rules.specs.declared.Plain.{Plain}
 use Rattle.laws.proofs.Turned.{turned}
 use Rattle.page_views.proofs.page_refusal.Goals as goal
 
 pub returns-in-Refused : goal.returns-in-Refused
 unfolding page_refusal
-returns-in-Refused c = tests_refuse _ _ _ _ _ c.first_tests-tested.ensures (λ r. Plain.Refused r c.args.c) _ c.in-Refused.is
+returns-in-Refused c = tests_refuse _ _ _ _ _ c.first_tests-tested.ensures (λ r. refusing r c.args.c) _ c.in-Refused.is
 
 pub page_count-requires : goal.page_count-requires
 page_count-requires c = (tests_admit _ _ _ _ _ c.first_tests-tested.ensures c.in_default.is).paged.high

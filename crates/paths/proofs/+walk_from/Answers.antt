@@ -1,18 +1,19 @@
 -- `paths::walk_from` meets its contract. The path handed on is the path without its first field, so the rest of the walk is the walk of
 -- the rest.
+use Rattle.std.specs.Prelude.{Result}
+use Rattle.rules.specs.declared.Refused.{Refused}
 use Prim.Native.Nat.{ℕ, ◌+◌}
 use mathlib.Core.Path.{◌≡◌, sym, ap, ◌∙◌}
 use mathlib.Core.List.{List}
 use native.Mathlib.Omega.{arith}
 use Rattle.laws.specs.Lists.{at}
 use Rattle.rules.specs.declared.Control.{Control}
-use Rattle.rules.specs.declared.Valued.{Valued}
 use Rattle.rules.specs.Calls.{Walked, walk_from, walk_says}
 use Rattle.rules.proofs.Walks.{walk_number_end, walk_number, walk_not_good, walk_end, walk_raw, walk_past, walk_go}
 use Rattle.paths.proofs.+walk_from.Goals as goal
 
 -- the rest of a walk goes on from word m of the value v, which is the field f behind the header
-stepped : (view : ℕ → List ℕ) (k : Control) (v fs : List ℕ) (f m : ℕ) {x : Valued} {y : Walked} → x ≡ walk_says k (walk_from view (at v m) fs) → m ≡ f + 1 → y ≡ walk_from view (at v (f + 1)) fs → x ≡ walk_says k y
+stepped : (view : ℕ → List ℕ) (k : Control) (v fs : List ℕ) (f m : ℕ) {x : Result (ℕ × Control) Refused} {y : Walked} → x ≡ walk_says k (walk_from view (at v m) fs) → m ≡ f + 1 → y ≡ walk_from view (at v (f + 1)) fs → x ≡ walk_says k y
 stepped view k v fs f m said field step = rw (step, ← field) said
 
 pub returns-then-path-eq0 : goal.returns-then-path-eq0

@@ -1,13 +1,14 @@
 -- `paths::walk` meets its contract: the first tests, the root's number, and then the walk from that root's word.
+use Rattle.rules.specs.declared.Refused.{Refused}
+use Rattle.rules.specs.Refusals.{refusing}
 use borrow.Author.Tests.{le-leb, lt-leb}
-use Rattle.rules.specs.declared.Valued.{Valued}
 use Rattle.rules.specs.Calls.{walk}
 use Rattle.limits.proofs.First.{tests_refuse, tests_pass, tests_admit}
 use Rattle.paths.proofs.walk.Goals as goal
 
 pub returns-in-Refused : goal.returns-in-Refused
 unfolding walk
-returns-in-Refused c = tests_refuse _ _ _ _ _ c.first_tests-tested.ensures (λ r. Valued.Refused r c.args.c) _ c.in-Refused.is
+returns-in-Refused c = tests_refuse _ _ _ _ _ c.first_tests-tested.ensures (λ r. refusing r c.args.c) _ c.in-Refused.is
 
 pub returns-then-roots-root : goal.returns-then-roots-root
 unfolding walk
