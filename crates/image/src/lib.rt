@@ -9,7 +9,7 @@ ghost use Rattle.rules.specs.Image.{written, write_image, read_image};
 
 use limits::{Tested, first_tests};
 use pages::all_zero;
-use reading::{Judged, fill_pages, fill_part, judge, lengths_fit};
+use reading::{fill_pages, fill_part, judge, lengths_fit};
 use rules::{Control, Opened, Refusal, Valued};
 use writing::{text_length, write_text};
 
@@ -54,8 +54,8 @@ pub fn read_image(
         ≡ read_image text.now heap.old table.old roots.old consts.old }
 {
     match judge(text) {
-        Judged::Malformed(line) => Opened::Refused(Refusal::Malformed(line)),
-        Judged::Well(h) => {
+        Err(why) => Opened::Refused(why),
+        Ok(h) => {
             if !lengths_fit(h, heap.len(), table.len(), roots.len(), consts.len()) {
                 return Opened::Refused(Refusal::Limits);
             }
@@ -63,13 +63,7 @@ pub fn read_image(
             let after_roots = fill_part(text, after_table, roots);
             let after_consts = fill_part(text, after_roots, consts);
             fill_pages(text, after_consts, heap, h.n, h.pages as usize);
-            Opened::Done(Control {
-                n: h.n,
-                regions: h.regions,
-                first: h.first,
-                last: h.last,
-                count: h.count,
-            })
+            Opened::Done(Control::from(h))
         }
     }
 }

@@ -7,7 +7,7 @@ use native.Mathlib.Nat.{add-zero, zero-mul, suc-mul, add-mul, one-mul}
 use native.Mathlib.Numerals.{add-one}
 use native.Mathlib.Omega.{arith}
 use lib.ListN.{length, take, drop, set, length-append, drop_of_length-le, get_or-eq_default}
-use lib.Seq.{sets, length-sets, drop-cons}
+use lib.Seq.{sets, drop-cons}
 use Rattle.laws.specs.Lists.{at, padded}
 use Rattle.laws.proofs.Writes.{sets_append, sets_next, sets_whole, put_sets}
 use Rattle.laws.proofs.Padded.{length_padded, at_padded}
@@ -60,9 +60,6 @@ module _ (n k : ℕ) (heap text : List ℕ) (i m : ℕ) where
         let y : ys ≡ part_at (2 ^ n) text i = e ∙ ap (λ x. part_at x text i) (page_lent n heap k a p qa qp b) in
         let l : length ys ≡ 2 ^ n = ap length y ∙ length_padded (2 ^ n) (words_of text i) in
         page_left n heap k a p qa qp b ys l ∙ put_sets heap (k * 2 ^ n) ys (omega arith) ∙ ap (sets heap (k * 2 ^ n)) y
-
-    pub page_filled_length : length (take a heap ++ (ys ++ drop (a + p - a) (drop a heap))) ≡ length heap
-    page_filled_length = ap length page_filled_lem ∙ length-sets heap (k * 2 ^ n) (part_at (2 ^ n) text i)
 
     pub pages_fill_turn : 0 < m → j ≡ after_frame text i
         → sets heap (k * 2 ^ n) (pages_at m (2 ^ n) text i) ≡ sets (take a heap ++ (ys ++ drop (a + p - a) (drop a heap))) ((k + 1) * 2 ^ n) (pages_at (m - 1) (2 ^ n) text j)

@@ -6,12 +6,12 @@ use mathlib.Core.List.{List}
 use native.Mathlib.Omega.{arith}
 use borrow.Author.Tests.{ne_eqb}
 use lib.ListN.{drop}
+use Rattle.std.specs.Prelude.{Result, Ok, Err}
 use Rattle.laws.proofs.Tests.{both}
+use Rattle.rules.specs.declared.Refusal.{Refusal}
 use Rattle.rules.specs.Image.{head_fits, layout, Frames, frames, malformed, with_frame, read_frames, read_text}
 use Rattle.rules.proofs.FirstFrame.{limited}
-use Rattle.reading.specs.declared.Rest.{Rest}
 use Rattle.reading.specs.declared.Head.{Head}
-use Rattle.reading.specs.declared.Judged.{Judged}
 use Rattle.scanning.specs.Places.{words_at, count_at, words_of, after_frame, frame_shape, frame_fits}
 use Rattle.reading.specs.Parts.{rest_of, head_list, head_from, judged_as}
 use Rattle.scanning.proofs.Frames.{read_frame_lem, length_words_at}
@@ -46,11 +46,11 @@ module _ (text : List ℕ) (h : Head) (e : h ≡ head_from (words_at 8 text 6)) 
 
 -- ---- the judgement of a text
 
-abbrev pub on_rest : Head → Rest → Judged
-on_rest h Rest.Well = Judged.Well h
-on_rest h (Rest.Malformed line) = Judged.Malformed line
+abbrev pub on_rest : Head → Result (Unit {0}) Refusal → Result Head Refusal
+on_rest h (Ok u) = Ok h
+on_rest h (Err e) = Err e
 
-pub judged_stop : (text : List ℕ) → frame_fits 1 head_fits text 0 ≡ false → judged_as (read_text text) ≡ Judged.Malformed 1
+pub judged_stop : (text : List ℕ) → frame_fits 1 head_fits text 0 ≡ false → judged_as (read_text text) ≡ Err (Refusal.Malformed 1)
 unfolding read_text
 judged_stop text f = rw (read_text, read_frame_lem 1 head_fits text 0, f)
 

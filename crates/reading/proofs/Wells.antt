@@ -1,6 +1,5 @@
 -- A text that is judged to be well formed: its frames are the words that stand at its places, and the store that they give is what filling
 -- leaves. Then what reading an image answers, by the test of the lengths.
-use Rattle.std.specs.Prelude.{Ok, Err}
 use Prim.Native.Nat.{ℕ, zero, suc, ◌*◌, ◌/◌, ◌^◌, ◌≤◌}
 use mathlib.Core.Path.{◌≡◌, refl, sym, ap, ◌∙◌}
 use mathlib.Core.Bool.{Bool, true, false, false≢true}
@@ -10,6 +9,7 @@ use native.Mathlib.Omega.{arith}
 use borrow.Author.Tests.{eqb-true}
 use lib.Pow.{pow_pos}
 use lib.ListN.{length, drop, get_or, replicate}
+use Rattle.std.specs.Prelude.{Result, Ok, Err}
 use Rattle.laws.specs.Choice.{◌⇒◌∣◌}
 use Rattle.laws.proofs.Padded.{length_padded}
 use Rattle.laws.proofs.Tests.{both}
@@ -18,26 +18,24 @@ use Rattle.rules.specs.Memory.{Store, lent}
 use Rattle.rules.specs.Refusals.{Paged, outcome}
 use Rattle.rules.specs.Image.{head_fits, part_fits, Expected, expected, layout, Frames, frames, malformed, with_frame, read_frames, read_text, joined, store_of, same_lengths, read_store, read_image}
 use Rattle.rules.proofs.FirstFrame.{Limited, limited}
-use Rattle.reading.specs.declared.Rest.{Rest}
 use Rattle.reading.specs.declared.Head.{Head}
-use Rattle.reading.specs.declared.Judged.{Judged}
 use Rattle.scanning.specs.Places.{words_at, words_of, after_frame, frame_fits}
 use Rattle.reading.specs.Parts.{frames_at, rest_of, head_list, head_from, judged_as, part_at, pages_at, control_of, lengths_fit}
 use Rattle.reading.proofs.Lines.{rest_with, line_read}
 use Rattle.reading.proofs.Heads.{head_fits_lem, on_rest, judged_stop, text_on, judged_on}
 use Rattle.reading.proofs.Fills.{pages_at_length}
 
-not_well : {A : Type 0} (line : ℕ) → Rest.Malformed line ≡ Rest.Well → A
-not_well line e = absurd (false≢true cc)
+not_well : {A T : Type 0} (e : Refusal) (t : T) → Err e ≡ Ok t → A
+not_well e t q = absurd (false≢true cc)
 
-pub frames_at_lem : (es : List Expected) (line : ℕ) (text : List ℕ) (i : ℕ) → rest_of (read_frames line es (drop i text)) ≡ Rest.Well
+pub frames_at_lem : (es : List Expected) (line : ℕ) (text : List ℕ) (i : ℕ) → rest_of (read_frames line es (drop i text)) ≡ Ok tt
     → read_frames line es (drop i text) ≡ frames (frames_at es text i)
 unfolding read_frames frames_at
 frames_at_lem [] line text i w = go (drop i text) w
   where
-    go : (bs : List ℕ) → rest_of (read_frames line [] bs) ≡ Rest.Well → read_frames line [] bs ≡ frames []
+    go : (bs : List ℕ) → rest_of (read_frames line [] bs) ≡ Ok tt → read_frames line [] bs ≡ frames []
     go [] v = refl
-    go (b ∷ bs) v = not_well line v
+    go (b ∷ bs) v = not_well (Refusal.Malformed line) tt v
 frames_at_lem (e ∷ es) line text i w = go (frame_fits e.kind (part_fits e.most) text i) refl (frames_at_lem es (suc line) text (after_frame text i))
   where
     here : (b : Bool) → frame_fits e.kind (part_fits e.most) text i ≡ b
@@ -45,13 +43,13 @@ frames_at_lem (e ∷ es) line text i w = go (frame_fits e.kind (part_fits e.most
     here b f = line_read e.kind e.most es line text i ∙ ap (λ t. t ⇒ with_frame (words_of text i) (read_frames (suc line) es (drop (after_frame text i) text)) ∣ malformed line) f
 
     go : (b : Bool) → frame_fits e.kind (part_fits e.most) text i ≡ b
-        → (rest_of (read_frames (suc line) es (drop (after_frame text i) text)) ≡ Rest.Well → read_frames (suc line) es (drop (after_frame text i) text) ≡ frames (frames_at es text (after_frame text i)))
+        → (rest_of (read_frames (suc line) es (drop (after_frame text i) text)) ≡ Ok tt → read_frames (suc line) es (drop (after_frame text i) text) ≡ frames (frames_at es text (after_frame text i)))
         → read_frames line (e ∷ es) (drop i text) ≡ frames (words_of text i ∷ frames_at es text (after_frame text i))
     go true f r =
-        let v : rest_of (read_frames (suc line) es (drop (after_frame text i) text)) ≡ Rest.Well =
+        let v : rest_of (read_frames (suc line) es (drop (after_frame text i) text)) ≡ Ok tt =
         sym (ap rest_of (here true f) ∙ rest_with (words_of text i) (read_frames (suc line) es (drop (after_frame text i) text))) ∙ w in
         here true f ∙ ap (with_frame (words_of text i)) (r v)
-    go false f r = not_well line (sym (ap rest_of (here false f)) ∙ w)
+    go false f r = not_well (Refusal.Malformed line) tt (sym (ap rest_of (here false f)) ∙ w)
 
 -- ---- a text that is judged well formed
 
@@ -60,18 +58,15 @@ pub record Well (text : List ℕ) (h : Head) : Type 0 where
   pub limits : Limited (head_list h)
   pub first : h ≡ head_from (words_at 8 text 6)
 
-pub judged_well : (text : List ℕ) (h : Head) → judged_as (read_text text) ≡ Judged.Well h → Well text h
+pub judged_well : (text : List ℕ) (h : Head) → judged_as (read_text text) ≡ Ok h → Well text h
 judged_well text h e = go (frame_fits 1 head_fits text 0) refl
   where
     first : Head
     first = head_from (words_at 8 text 6)
 
-    not_judged : {A : Type 0} (line : ℕ) → Judged.Malformed line ≡ Judged.Well h → A
-    not_judged line q = absurd (false≢true cc)
-
-    rest : frame_fits 1 head_fits text 0 ≡ true → (r : Rest) → rest_of (read_frames 2 (layout (head_list first)) (drop 71 text)) ≡ r → Well text h
-    rest f Rest.Well q =
-        let j : Judged.Well first ≡ Judged.Well h = sym (judged_on text first refl f ∙ ap (on_rest first) q) ∙ e in
+    rest : frame_fits 1 head_fits text 0 ≡ true → (r : Result (Unit {0}) Refusal) → rest_of (read_frames 2 (layout (head_list first)) (drop 71 text)) ≡ r → Well text h
+    rest f (Ok u) q =
+        let j : Ok first ≡ Ok h = sym (judged_on text first refl f ∙ ap (on_rest first) q) ∙ e in
         let s : first ≡ h = cc in
         rw (← s)
         (record {
@@ -79,11 +74,11 @@ judged_well text h e = go (frame_fits 1 head_fits text 0) refl
           limits = limited (head_list first) (head_fits_lem text first refl f);
           first = refl;
         })
-    rest f (Rest.Malformed line) q = not_judged line (sym (judged_on text first refl f ∙ ap (on_rest first) q) ∙ e)
+    rest f (Err r) q = not_well r h (sym (judged_on text first refl f ∙ ap (on_rest first) q) ∙ e)
 
     go : (b : Bool) → frame_fits 1 head_fits text 0 ≡ b → Well text h
     go true f = rest f (rest_of (read_frames 2 (layout (head_list first)) (drop 71 text))) refl
-    go false f = not_judged 1 (sym (judged_stop text f) ∙ e)
+    go false f = not_well (Refusal.Malformed 1) h (sym (judged_stop text f) ∙ e)
 
 -- ---- the lengths as facts
 
@@ -169,16 +164,14 @@ module _ (text : List ℕ) (h : Head) (w : Well text h) where
         let f = fit h (length heap) (length table) (length roots) (length consts) e in
         rw (qh, q₄, qk, q₃, qr, q₂, qt, f.table, f.roots, f.consts) (sym (read_done e))
 
-pub read_malformed : (text heap table roots consts : List ℕ) (line : ℕ) → judged_as (read_text text) ≡ Judged.Malformed line
-    → outcome (Err (Refusal.Malformed line)) heap table roots consts ≡ read_image text heap table roots consts
+pub read_malformed : (text heap table roots consts : List ℕ) (e : Refusal) → judged_as (read_text text) ≡ Err e
+    → outcome (Err e) heap table roots consts ≡ read_image text heap table roots consts
 unfolding read_image
-read_malformed text heap table roots consts line e = go (read_text text) refl
+read_malformed text heap table roots consts e j = go (read_text text) refl
   where
-    go : (f : Frames) → read_text text ≡ f → outcome (Err (Refusal.Malformed line)) heap table roots consts ≡ read_image text heap table roots consts
-    go (frames fs) q =
-        let j : Judged.Well (head_from (get_or fs 0 [])) ≡ Judged.Malformed line = sym (ap judged_as q) ∙ e in
-        absurd (false≢true cc)
+    go : (f : Frames) → read_text text ≡ f → outcome (Err e) heap table roots consts ≡ read_image text heap table roots consts
+    go (frames fs) q = not_well e (head_from (get_or fs 0 [])) (sym j ∙ ap judged_as q)
     go (malformed l) q =
-        let j : Judged.Malformed l ≡ Judged.Malformed line = sym (ap judged_as q) ∙ e in
-        let s : l ≡ line = cc in
+        let k : Err (Refusal.Malformed l) ≡ Err e = sym (ap judged_as q) ∙ j in
+        let s : Refusal.Malformed l ≡ e = cc in
         rw (q, s)

@@ -1,13 +1,12 @@
 -- The frames of a whole text by places: what is judged, and the parts that they fill.
-use Rattle.std.specs.Prelude.{ℕ, zero, suc, ◌*◌, ◌^◌, Bool, ◌&&◌, List, [], ◌∷◌, ◌++◌, get_or, eqb}
+use Rattle.std.specs.Prelude.{ℕ, zero, suc, ◌*◌, ◌^◌, Bool, ◌&&◌, List, [], ◌∷◌, ◌++◌, get_or, eqb, Result, Ok, Err}
 use Rattle.laws.specs.Lists.{at, padded}
 use Rattle.rules.specs.declared.Control.{Control}
+use Rattle.rules.specs.declared.Refusal.{Refusal}
 use Rattle.rules.specs.Memory.{control}
 use Rattle.rules.specs.Image.{Expected, Frames, frames, malformed}
 use Rattle.scanning.specs.Places.{words_of, after_frame}
-use Rattle.reading.specs.declared.Rest.{Rest}
 use Rattle.reading.specs.declared.Head.{Head}
-use Rattle.reading.specs.declared.Judged.{Judged}
 
 -- ---- all frames
 
@@ -16,9 +15,9 @@ unfoldable pub frames_at : List Expected → List ℕ → ℕ → List (List ℕ
 frames_at [] text i = []
 frames_at (e ∷ es) text i = words_of text i ∷ frames_at es text (after_frame text i)
 
-abbrev pub rest_of : Frames → Rest
-rest_of (frames fs) = Rest.Well
-rest_of (malformed line) = Rest.Malformed line
+abbrev pub rest_of : Frames → Result (Unit {0}) Refusal
+rest_of (frames fs) = Ok tt
+rest_of (malformed line) = Err (Refusal.Malformed line)
 
 -- the first frame's words
 abbrev pub head_list : Head → List ℕ
@@ -37,9 +36,9 @@ head_from ws =
       consts = at ws 7;
     }
 
-abbrev pub judged_as : Frames → Judged
-judged_as (frames fs) = Judged.Well (head_from (get_or fs 0 []))
-judged_as (malformed line) = Judged.Malformed line
+abbrev pub judged_as : Frames → Result Head Refusal
+judged_as (frames fs) = Ok (head_from (get_or fs 0 []))
+judged_as (malformed line) = Err (Refusal.Malformed line)
 
 -- ---- the parts that the frames fill
 

@@ -7,18 +7,12 @@ ghost use Rattle.laws.specs.Lists.{at};
 ghost use Rattle.rules.specs.Refusals.{Paged};
 ghost use Rattle.rules.specs.Image.{head_fits, expected, layout, read_frames, read_text};
 ghost use Rattle.scanning.specs.Places.{words_at, after_frame, frame_fits};
-ghost use Rattle.reading.specs.Parts.{rest_of, head_list, head_from, judged_as, part_at, pages_at, lengths_fit};
+ghost use Rattle.reading.specs.Parts.{rest_of, head_list, head_from, judged_as, control_of, part_at, pages_at, lengths_fit};
 
-use conversions::{next_page, page_address, page_numbered};
+use conversions::{page_address, page_numbered};
 use pages::page_words;
-use scanning::{Cursor, Step, frame_shape, number, part_frame};
-
-// What the frames from a cursor to the end are.
-#[derive(Drop)]
-pub enum Rest {
-    Well,
-    Malformed(u32),
-}
+use rules::{Control, Refusal};
+use scanning::{Cursor, frame_shape, number, part_frame};
 
 // The first frame's words.
 #[derive(Clone, Copy)]
@@ -33,35 +27,34 @@ pub struct Head {
     pub consts: u32,
 }
 
-// What a text is: an image with this first frame, or malformed at a line.
-#[derive(Drop)]
-pub enum Judged {
-    Well(Head),
-    Malformed(u32),
+// The control record that the first frame gives.
+impl From<Head> for Control {
+    ghost from_gives = { λ h r. r ≡ control_of h };
+
+    fn from(h: Head) -> Control {
+        Control {
+            n: h.n,
+            regions: h.regions,
+            first: h.first,
+            last: h.last,
+            count: h.count,
+        }
+    }
 }
 
 // The frames of the pages, and nothing behind them.
-fn judge_pages(text: &[u8], c: Cursor, pages: usize, most: usize) -> Rest
+fn judge_pages(text: &[u8], c: Cursor, pages: usize, most: usize) -> Result<(), Refusal>
     requires { (c.at ≤ 2 ^ 32) × (c.line ≤ 5) × (pages ≤ 65536) }
     ensures { result ≡ rest_of (read_frames c.line (replicate pages (expected 5 most)) (drop c.at text.now)) }
 {
     let mut here = c;
-    let mut left = pages;
-    while 0 < left {
-        match part_frame(text, here, 5, most) {
-            Step::Malformed(line) => {
-                return Rest::Malformed(line);
-            }
-            Step::Next(next) => {
-                here = next;
-                left -= 1;
-            }
-        }
+    for _ in 0..pages {
+        here = part_frame(text, here, 5, most)?;
     }
     if here.at < text.len() {
-        return Rest::Malformed(here.line);
+        return Err(Refusal::Malformed(here.line));
     }
-    Rest::Well
+    Ok(())
 }
 
 // The words of the first frame.
@@ -89,86 +82,62 @@ pub fn heap_words(pages: u32, n: u32) -> usize
 }
 
 // Whether n, N, R, roots and constants are within their limits.
+#[tactic(auto, using(laws::proofs::Tests::tests), unfolding(rules::specs::Image::head_fits))]
 fn head_fits(h: Head) -> bool
     ensures { result ≡ head_fits (head_list h) }
 {
-    if h.n < 4 {
-        return false;
-    }
-    if 8 < h.n {
-        return false;
-    }
-    if h.pages < 2 {
-        return false;
-    }
-    if 65536 < heap_words(h.pages, h.n) {
-        return false;
-    }
-    if 64 < h.regions {
-        return false;
-    }
-    if 1024 < h.roots {
-        return false;
-    }
-    h.consts <= 65535
+    4 <= h.n
+        && h.n <= 8
+        && 2 <= h.pages
+        && heap_words(h.pages, h.n) <= 65536
+        && h.regions <= 64
+        && h.roots <= 1024
+        && h.consts <= 65535
 }
 
 // Whether the text begins with a well formed first frame.
+#[tactic(auto, using(laws::proofs::Tests::tests, crate::proofs::Heads::head_other, crate::proofs::Heads::head_eight), unfolding(scanning::specs::Places::frame_fits))]
 fn head_frame(text: &[u8]) -> bool
     ensures { result ≡ frame_fits 1 head_fits text.now 0 }
 {
-    if !frame_shape(text, 0, 1) {
-        return false;
-    }
-    if number(text, 2, 4) != 8 {
-        return false;
-    }
-    head_fits(read_head(text))
+    frame_shape(text, 0, 1) && number(text, 2, 4) == 8 && head_fits(read_head(text))
 }
 
 // The frames behind a first frame.
-fn judge_parts(text: &[u8], h: Head) -> Rest
+fn judge_parts(text: &[u8], h: Head) -> Result<(), Refusal>
     requires { head_fits (head_list h) ≡ true }
     ensures { result ≡ rest_of (read_frames 2 (layout (head_list h)) (drop 71 text.now)) }
 {
-    let pages = h.pages as usize;
-    let most = page_words(h.n);
     let table = Cursor { at: 71, line: 2 };
-    match part_frame(text, table, 2, 4 * h.regions as usize) {
-        Step::Malformed(line) => Rest::Malformed(line),
-        Step::Next(roots) => match part_frame(text, roots, 3, h.roots as usize) {
-            Step::Malformed(line) => Rest::Malformed(line),
-            Step::Next(consts) => match part_frame(text, consts, 4, h.consts as usize) {
-                Step::Malformed(line) => Rest::Malformed(line),
-                Step::Next(first) => judge_pages(text, first, pages, most),
-            },
-        },
-    }
+    let roots = part_frame(text, table, 2, 4 * h.regions as usize)?;
+    let consts = part_frame(text, roots, 3, h.roots as usize)?;
+    let first = part_frame(text, consts, 4, h.consts as usize)?;
+    judge_pages(text, first, h.pages as usize, page_words(h.n))
 }
 
 // The first pass: the first frame's words, or the line of the first malformed frame.
-pub fn judge(text: &[u8]) -> Judged
+pub fn judge(text: &[u8]) -> Result<Head, Refusal>
     ensures { result ≡ judged_as (read_text text.now) }
 {
     if !head_frame(text) {
-        return Judged::Malformed(1);
+        return Err(Refusal::Malformed(1));
     }
     let h = read_head(text);
-    match judge_parts(text, h) {
-        Rest::Malformed(line) => Judged::Malformed(line),
-        Rest::Well => Judged::Well(h),
-    }
+    judge_parts(text, h)?;
+    Ok(h)
 }
 
 // Word i of the count words from a place on, 0 behind them.
+#[tactic(auto, using(crate::proofs::Fills::words_outside, crate::proofs::Fills::words_inside))]
 fn word_at(text: &[u8], from: usize, count: usize, i: usize) -> u32
     requires { (from ≤ 2 ^ 41) × (i ≤ 65536) }
     ensures { result ≡ at (words_at count text.now from) i }
 {
-    if count <= i {
-        return 0;
+    if i < count {
+        number(text, from + 8 * i, 8)
+    } else {
+        0
     }
-    number(text, from + 8 * i, 8)
 }
 
 // Fills a part from the frame that begins at a place. The answer is the place behind the frame.
@@ -179,10 +148,8 @@ pub fn fill_part(text: &[u8], from: usize, part: &mut [u32]) -> usize
         × (result ≤ from + 524287) }
 {
     let count = number(text, from + 2, 4) as usize;
-    let mut i = 0;
-    while i < part.len() {
-        part[i] = word_at(text, from + 6, count, i);
-        i += 1;
+    for (i, word) in part.iter_mut().enumerate() {
+        *word = word_at(text, from + 6, count, i);
     }
     from + 7 + 8 * count
 }
@@ -194,31 +161,22 @@ pub fn fill_pages(text: &[u8], from: usize, heap: &mut [u32], n: u32, pages: usi
 {
     let p = page_words(n);
     let mut i = from;
-    let mut k = page_numbered(0);
-    let mut left = pages;
-    while 0 < left {
-        let start = page_address(k, n);
+    for k in 0..pages {
+        let start = page_address(page_numbered(k), n);
         let low = start.0;
         let high = low + p;
         i = fill_part(text, i, &mut heap[low..high]);
-        k = next_page(k);
-        left -= 1;
     }
 }
 
 // Whether the lent parts have exactly the lengths that the first frame says, and the table 256.
+#[tactic(auto, using(laws::proofs::Tests::tests), unfolding(crate::specs::Parts::lengths_fit))]
 pub fn lengths_fit(h: Head, heap: usize, table: usize, roots: usize, consts: usize) -> bool
     requires { h.n ≤ 8 }
     ensures { result ≡ lengths_fit h heap table roots consts }
 {
-    if heap != heap_words(h.pages, h.n) {
-        return false;
-    }
-    if table != 256 {
-        return false;
-    }
-    if roots != h.roots as usize {
-        return false;
-    }
-    consts == h.consts as usize
+    heap == heap_words(h.pages, h.n)
+        && table == 256
+        && roots == h.roots as usize
+        && consts == h.consts as usize
 }

@@ -1,37 +1,36 @@
 -- Digits and numbers by places: whether a byte is a digit, and one turn of reading a number. A number of m digits is below 16 ^ m,
 -- since each digit is below 16.
 use Prim.Native.Nat.{ℕ, zero, suc, ◌+◌, ◌-◌, ◌*◌, ◌^◌, ◌≤◌, ◌<◌}
-use mathlib.Core.Path.{◌≡◌, refl, sym, ap, ◌∙◌}
+use mathlib.Core.Path.{◌≡◌, refl, ap}
 use mathlib.Core.Bool.{Bool, true, false}
 use mathlib.Core.Option.{Option, none, some}
 use mathlib.Core.List.{List}
 use native.Mathlib.Nat.{pow-succ', mul-le-mul_right, mul-le-mul_left, mul_assoc, mul-one, one-le-pow}
 use native.Mathlib.Numerals.{sub-one}
 use native.Mathlib.Omega.{arith}
-use borrow.Author.Tests.{ltb-true, ltb-false}
-use lib.Dec.{ltb}
+use Rattle.std.specs.Prelude.{IsTrue, ◌↔◌}
+use Rattle.laws.proofs.Facts.{same_test, from_of}
+use Rattle.laws.proofs.Tests.{from_in}
 use Rattle.laws.specs.Lists.{at}
 use Rattle.rules.specs.Image.{value_of}
-use Rattle.rules.proofs.Digits.{a_letter, above_digits, digit_value_lem}
-use Rattle.scanning.specs.Places.{is_digit, digit_value, number_at}
+use Rattle.rules.proofs.Digits.{digit_value_lem}
+use Rattle.scanning.specs.Places.{digit, is_digit, digit_value, all_digits, number_at}
 
 -- ---- a byte
 
 module _ (b : ℕ) where
   pub no_digit : value_of b ≡ none → (is_digit b ≡ false) × (digit_value b ≡ 0)
-  unfolding is_digit digit_value
-  no_digit e = (rw (is_digit, e), rw (digit_value, e))
+  unfolding digit
+  no_digit e = rw (digit, e) (refl, refl)
 
   pub has_value : (d : ℕ) → value_of b ≡ some d → (is_digit b ≡ true) × (digit_value b ≡ d)
-  unfolding is_digit digit_value
-  has_value d e = (rw (is_digit, e), rw (digit_value, e))
+  unfolding digit
+  has_value d e = rw (digit, e) (refl, refl)
 
-  pub last_digits : 97 ≤ b → is_digit b ≡ ltb b 103
-  last_digits l = go (ltb b 103) refl
-    where
-      go : (t : Bool) → ltb b 103 ≡ t → is_digit b ≡ ltb b 103
-      go true q = (has_value (b - 87) (a_letter b l (ltb-true b 103 q))).0 ∙ sym q
-      go false q = (no_digit (above_digits b (ltb-false b 103 q))).0 ∙ sym q
+-- digits from a place on, as what each place holds
+pub all_told : (m from : ℕ) (text : List ℕ) (r : Bool) → (IsTrue r ↔ ((k : ℕ) → from ≤ k → k < from + m → is_digit (at text k) ≡ true))
+    → r ≡ all_digits m text from
+all_told m from text r h = same_test r (all_digits m text from) (λ t. from_of _ m from (h.0 t)) (λ t. h.1 (from_in _ m from t))
 
 -- ---- a number
 

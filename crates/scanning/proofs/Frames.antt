@@ -1,15 +1,15 @@
 -- The frames of document 01, by places: reading digits, words or a frame from the bytes at a place gives what stands at that place, or
 -- nothing. By recursion on the number of digits and of words.
 use Prim.Native.Nat.{ℕ, zero, suc, ◌+◌, ◌-◌, ◌*◌, ◌≤◌, ◌<◌}
-use mathlib.Core.Path.{◌≡◌, refl, sym, ap, ◌∙◌}
+use mathlib.Core.Path.{◌≡◌, refl, ap, ◌∙◌}
 use mathlib.Core.Bool.{Bool, true, false, ◌&&◌, not}
 use mathlib.Core.Option.{Option, none, some}
 use mathlib.Core.List.{List}
 use native.Mathlib.Nat.{add-zero}
 use native.Mathlib.Numerals.{add-one}
 use native.Mathlib.Omega.{arith}
-use native.Mathlib.Decide.{ℕ_discrete, dec_lt}
-use borrow.Author.Tests.{le-leb, lt-leb, eq-eqb, ne_eqb}
+use native.Mathlib.Decide.{dec_lt}
+use borrow.Author.Tests.{le-leb, lt-leb}
 use lib.Dec.{eqb}
 use lib.ListN.{length, drop, drop_of_length-le, get_or-eq_default}
 use lib.Seq.{drop-cons}
@@ -17,8 +17,7 @@ use Rattle.laws.specs.Choice.{◌⇒◌∣◌}
 use Rattle.laws.specs.Lists.{at, all_from}
 use Rattle.laws.proofs.Tests.{from_add, from_end}
 use Rattle.rules.specs.Image.{value_of, digits, words, end_frame, read_words, read_frame, trimmed, part_fits}
-use Rattle.scanning.specs.declared.Step.{Step}
-use Rattle.scanning.specs.Places.{is_digit, all_digits, number_at, words_at, count_at, words_of, after_frame, frame_shape, frame_fits, cursor}
+use Rattle.scanning.specs.Places.{is_digit, all_digits, number_at, words_at, count_at, words_of, after_frame, frame_shape, frame_fits}
 use Rattle.rules.proofs.Digits.{below_digits}
 use Rattle.scanning.proofs.Digits.{no_digit, has_value}
 
@@ -135,22 +134,3 @@ module _ (most m : ℕ) (text : List ℕ) (i : ℕ) where
   fits_last b z =
       let q : m ≡ suc (m - 1) = omega arith in
       rw (length_words_at m text i, le-leb m most b) (ap (λ k. trimmed (words_at k text i)) q ∙ trimmed_at (m - 1) text i)
-
--- ---- answers, however the code makes the test
-
--- yes where x is y, and no where it is not
-pub same_by : (x y : ℕ) (r : Bool) → (x ≡ y → r ≡ true) → ((x ≡ y → ⊥) → (y ≡ x → ⊥) → r ≡ false) → r ≡ eqb x y
-same_by x y r t f = go (ℕ_discrete x y)
-  where
-    go : Dec (x ≡ y) → r ≡ eqb x y
-    go (yes q) = rw (eq-eqb x y q) (t q)
-    go (no n) = rw (ne_eqb x y n) (f n (λ q. n (sym q)))
-
--- no where x is 0, and yes where it is not
-pub some_by : (x : ℕ) (r : Bool) → (x ≡ 0 → r ≡ false) → (0 < x → (x ≡ 0 → ⊥) → (0 ≡ x → ⊥) → r ≡ true) → r ≡ not (eqb x 0)
-some_by zero r z s = z refl
-some_by (suc k) r z s = rw (ne_eqb (suc k) 0 (λ q. omega arith)) (s (omega arith) (λ q. omega arith) (λ q. omega arith))
-
--- the cursor behind a frame
-pub next_same : {i j l m : ℕ} → i ≡ j → l ≡ m → Step.Next (cursor i l) ≡ Step.Next (cursor j m)
-next_same p q = rw (p, q)

@@ -1,21 +1,25 @@
 -- The text by places: what code that goes through the text finds at a place. A byte outside the text is 0, which is no digit and no
 -- newline, so that each of these is total; the laws in proofs/ say that they are document 01's frames.
-use Rattle.std.specs.Prelude.{ℕ, zero, suc, ◌+◌, ◌*◌, Bool, true, false, ◌&&◌, List, [], ◌∷◌, eqb}
+use Rattle.std.specs.Prelude.{ℕ, zero, suc, ◌+◌, ◌*◌, Bool, ◌&&◌, List, [], ◌∷◌, eqb, Option, Some, None, is_some, unwrap_or, Result, Ok, Err}
 use Rattle.std.proofs.Math.Option.{none, some}
 use Rattle.laws.specs.Choice.{◌⇒◌∣◌}
 use Rattle.laws.specs.Lists.{at, all_from}
+use Rattle.rules.specs.declared.Refusal.{Refusal}
 use Rattle.rules.specs.Image.{value_of, newline, part_fits}
 use Rattle.scanning.specs.declared.Cursor.{Cursor}
-use Rattle.scanning.specs.declared.Step.{Step}
 
 -- ---- digits, numbers, words
 
-unfoldable pub is_digit : ℕ → Bool
-is_digit b = elim (value_of b) [ none ↦ false | some d ↦ true ]
+-- what a byte stands for, as code answers it
+unfoldable pub digit : ℕ → Option ℕ
+digit b = elim (value_of b) [ none ↦ None | some d ↦ Some d ]
+
+abbrev pub is_digit : ℕ → Bool
+is_digit b = is_some (digit b)
 
 -- 0 where the byte is no digit
-unfoldable pub digit_value : ℕ → ℕ
-digit_value b = elim (value_of b) [ none ↦ 0 | some d ↦ d ]
+abbrev pub digit_value : ℕ → ℕ
+digit_value b = unwrap_or (digit b) 0
 
 -- m digits stand from place i on
 abbrev pub all_digits : ℕ → List ℕ → ℕ → Bool
@@ -58,7 +62,7 @@ abbrev pub cursor : ℕ → ℕ → Cursor
 cursor i line = record { at = i; line = line }
 
 -- the frame of a part with at most `most` words, at a cursor
-unfoldable pub frame_step : List ℕ → Cursor → ℕ → ℕ → Step
+unfoldable pub frame_step : List ℕ → Cursor → ℕ → ℕ → Result Cursor Refusal
 frame_step text c kind most =
-    frame_fits kind (part_fits most) text c.at ⇒ Step.Next (cursor (after_frame text c.at) (c.line + 1)) ∣
-    Step.Malformed c.line
+    frame_fits kind (part_fits most) text c.at ⇒ Ok (cursor (after_frame text c.at) (c.line + 1)) ∣
+    Err (Refusal.Malformed c.line)

@@ -3,13 +3,13 @@
 
 #![tactic(auto)]
 
-ghost use Rattle.std.specs.Prelude.{◌≡◌, ◌+◌, ◌-◌, ◌*◌, ◌/◌, ◌^◌, ◌≤◌, ◌<◌, length};
+ghost use Rattle.std.specs.Prelude.{◌≡◌, ◌+◌, ◌-◌, ◌*◌, ◌/◌, ◌^◌, ◌≤◌, ◌<◌, ◌≢◌, ℕ, length, slice_index, EachIndex, MatchOption};
 ghost use Rattle.std.proofs.lemmas.List.Edits.{sets};
 ghost use Rattle.rules.specs.Memory.{lent};
 ghost use Rattle.rules.specs.Refusals.{Paged, Admitted};
 ghost use Rattle.rules.specs.Image.{digit_of, hex, hex_words, frame, trim, page_frames, image_text};
 
-use conversions::{next_page, page_numbered};
+use conversions::page_numbered;
 use pages::{page_count, page_part};
 use rules::Control;
 
@@ -19,9 +19,9 @@ fn digit(d: u32) -> u8
     ensures { result ≡ digit_of d }
 {
     if d < 10 {
-        return 48 + d as u8;
+        return b'0' + d as u8;
     }
-    87 + d as u8
+    b'a' + (d as u8 - 10)
 }
 
 // The last m digits of w.
@@ -30,10 +30,8 @@ fn write_digits(bytes: &mut [u8], at: usize, w: u32, m: u32)
     ensures { bytes.new ≡ sets bytes.old at (hex m w) }
 {
     let mut i = at;
-    let mut left = m;
-    while 0 < left {
-        left -= 1;
-        bytes[i] = digit((w >> (4 * left)) % 16);
+    for behind in (0..m).rev() {
+        bytes[i] = digit((w >> (4 * behind)) % 16);
         i += 1;
     }
 }
@@ -44,11 +42,9 @@ fn write_words(bytes: &mut [u8], at: usize, words: &[u32])
     ensures { bytes.new ≡ sets bytes.old at (hex_words words.now) }
 {
     let mut i = at;
-    let mut j = 0;
-    while j < words.len() {
-        write_digits(bytes, i, words[j], 8);
+    for w in words {
+        write_digits(bytes, i, *w, 8);
         i += 8;
-        j += 1;
     }
 }
 
@@ -62,21 +58,28 @@ pub fn write_frame(bytes: &mut [u8], at: usize, kind: u32, words: &[u32])
     write_digits(bytes, at + 2, count as u32, 4);
     write_words(bytes, at + 6, words);
     let end = at + 6 + 8 * count;
-    bytes[end] = 10;
+    bytes[end] = b'\n';
+}
+
+// The place of the last word that is not 0.
+fn last_word(words: &[u32]) -> Option<usize>
+    ensures { MatchOption result
+        (EachIndex words.now (λ k. slice_index words.now k ≡ 0))
+        (λ i. (i < length words.now)
+        × (slice_index words.now i ≢ 0)
+        × ((k : ℕ) → i < k → k < length words.now → slice_index words.now k ≡ 0)) }
+{
+    words.iter().rposition(|w| *w != 0)
 }
 
 // How many words stay when the trailing zeros are dropped.
 fn kept(words: &[u32]) -> usize
     ensures { result ≡ length (trim words.now) }
 {
-    let mut m = words.len();
-    while 0 < m {
-        if words[m - 1] != 0 {
-            return m;
-        }
-        m -= 1;
+    match last_word(words) {
+        Some(last) => last + 1,
+        None => 0,
     }
-    m
 }
 
 // The frame of a part, its trailing zeros dropped. The answer is where the frame ends.
@@ -98,12 +101,8 @@ fn write_pages(bytes: &mut [u8], at: usize, heap: &[u32], n: u32, pages: usize)
     ensures { bytes.new ≡ sets bytes.old at (page_frames n heap.now pages 0) }
 {
     let mut i = at;
-    let mut k = page_numbered(0);
-    let mut left = pages;
-    while 0 < left {
-        i = write_part(bytes, i, 5, page_part(heap, n, k));
-        k = next_page(k);
-        left -= 1;
+    for k in 0..pages {
+        i = write_part(bytes, i, 5, page_part(heap, n, page_numbered(k)));
     }
 }
 
@@ -156,12 +155,8 @@ fn pages_length(heap: &[u32], n: u32, pages: usize) -> usize
     ensures { (result ≡ length (page_frames n heap.now pages 0)) × (result ≤ 2055 * pages) }
 {
     let mut total = 0;
-    let mut k = page_numbered(0);
-    let mut left = pages;
-    while 0 < left {
-        total += part_length(page_part(heap, n, k));
-        k = next_page(k);
-        left -= 1;
+    for k in 0..pages {
+        total += part_length(page_part(heap, n, page_numbered(k)));
     }
     total
 }

@@ -1,5 +1,5 @@
 -- `reading::fill_part` meets its contract: a turn stores the next word, and storing the words that are left makes the whole.
-use Prim.Native.Nat.{◌+◌, ◌-◌, ◌≤◌}
+use Prim.Native.Nat.{◌+◌}
 use mathlib.Core.Path.{◌≡◌}
 use lib.ListN.{length, drop}
 use lib.Seq.{sets}
@@ -9,9 +9,5 @@ use Rattle.reading.proofs.fill_part.Given as goal
 
 abbrev pub invariant-loop-i : goal.invariant-loop-i
 invariant-loop-i l =
-    (sets l.part l.i (drop l.i (padded (length l.initial.part) (words_at l.count l.text (l.from + 6))))
-    ≡ sets l.initial.part 0 (padded (length l.initial.part) (words_at l.count l.text (l.from + 6))))
-    × (length l.part ≡ length l.initial.part) × (l.i ≤ length l.initial.part)
-
-abbrev pub decreases-loop-i : goal.decreases-loop-i
-decreases-loop-i l = length l.part - l.i
+    sets l.part l.i (drop l.i (padded (length l.initial.part) (words_at l.count l.text (l.from + 6))))
+    ≡ sets l.initial.part 0 (padded (length l.initial.part) (words_at l.count l.text (l.from + 6)))

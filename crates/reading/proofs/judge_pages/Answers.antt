@@ -1,19 +1,27 @@
 -- `reading::judge_pages` meets its contract: a turn passes one page's frame, and the frames that are left decide as the whole does.
-use mathlib.Core.Path.{sym, ◌∙◌}
+use Prim.Native.Nat.{◌+◌, ◌-◌, ◌<◌}
+use mathlib.Core.Path.{◌≡◌, sym, ◌∙◌}
 use native.Mathlib.Omega.{arith}
+use Rattle.std.proofs.lemmas.Result.{err_from_is_err_and}
 use Rattle.reading.proofs.Lines.{step_far, page_next, page_stop, pages_more, pages_over}
 use Rattle.reading.proofs.judge_pages.Goals as goal
 
-pub returns-in-Malformed : goal.returns-in-Malformed
-returns-in-Malformed c = sym (page_stop _ _ _ _ c.loop-left-test.true _ c.part_frame.ensures _ c.in-Malformed.is) ∙ c.loop-left.invariant.0
+pub returns-in_err-here : goal.returns-in_err-here
+returns-in_err-here c =
+    let l : 0 < c.args.pages - c.loop.counter = omega arith in
+    let p = err_from_is_err_and c.from_residual.result c.from_residual.ensures.1 in
+    rw (p.1, p.2) (sym (page_stop _ _ _ _ l _ c.part_frame.ensures _ c.in_err-here.was) ∙ c.loop.invariant.0)
 
-pub loop-left-preserved : goal.loop-left-preserved
-loop-left-preserved c =
-    let f = step_far _ _ _ _ _ _ c.in-Next.is c.part_frame.ensures in
-    (sym (page_next _ _ _ _ c.loop-left-test.true _ c.part_frame.ensures _ c.in-Next.is) ∙ c.loop-left.invariant.0, omega arith, omega arith)
+pub loop-preserved : goal.loop-preserved
+loop-preserved c =
+    let l : 0 < c.args.pages - c.loop.counter = omega arith in
+    let q : c.args.pages - (c.loop.counter + 1) ≡ c.args.pages - c.loop.counter - 1 = omega arith in
+    let f = step_far _ _ _ _ _ _ c.in_ok-here.was c.part_frame.ensures in
+    (rw q (sym (page_next _ _ _ _ l _ c.part_frame.ensures _ c.in_ok-here.was) ∙ c.loop.invariant.0), omega arith, omega arith)
 
 pub returns-then-here-text : goal.returns-then-here-text
-returns-then-here-text c = sym (pages_more c.args.text.now c.loop-left.here _ _ c.loop-left-test.false (omega arith)) ∙ c.loop-left.invariant.0
+returns-then-here-text c =
+    sym (pages_more c.args.text.now c.loop.here _ (c.args.pages - c.loop.counter) (omega arith) (omega arith)) ∙ c.loop.invariant.0
 
 pub returns : goal.returns
-returns c = sym (pages_over c.args.text.now c.loop-left.here _ _ c.loop-left-test.false (omega arith)) ∙ c.loop-left.invariant.0
+returns c = sym (pages_over c.args.text.now c.loop.here _ (c.args.pages - c.loop.counter) (omega arith) (omega arith)) ∙ c.loop.invariant.0
