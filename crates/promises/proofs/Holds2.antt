@@ -1,6 +1,6 @@
 -- Demand 2 holds: the working takes a page exactly where the one with as many pages as it wants does, until a page lacks; the sums and the
 -- readings are the definitions, step by step.
-use Rattle.std.specs.Prelude.{Result, Ok}
+use Rattle.std.specs.Prelude.{Result}
 use Rattle.rules.specs.declared.Control.{Control}
 use Rattle.rules.specs.declared.Refused.{Refused}
 use Prim.Native.Nat.{ℕ, suc, ◌+◌, ◌*◌}
@@ -17,6 +17,7 @@ use Rattle.rules.specs.Refusals.{Outcome, leaving}
 use Rattle.rules.specs.Calls.{due}
 use Rattle.rules.specs.Collection.{collected}
 use Rattle.rules.specs.Left.{left_plain}
+use Rattle.rules.proofs.Answered.{answering}
 use Rattle.rules.proofs.Left.{left_leaving}
 use Rattle.facts.proofs.Sound.{Sound}
 use Rattle.rules.proofs.Judged.{audit_yes, judged_collects}
@@ -60,7 +61,7 @@ demand2 = record {
   dues = λ s l c. (ltb (3 * s.ctl.count) (page_count s.ctl.n s.heap), unfold due in (rw (l, c)), (λ e. ltb-true _ _ e, λ b. lt-ltb _ _ b));
   uses = λ s e j b.
       used_is s ((audit_yes s).0 e) j b
-      ∙ ap (λ u. Ok (u, s.ctl)) (unfold used_by in (used_pages s (region_pages s.ctl.n s.heap s.table j)));
+      ∙ ap (λ u. answering u s.ctl) (unfold used_by in (used_pages s (region_pages s.ctl.n s.heap s.table j)));
   numbers = number_back;
   words = word_back;
   images = written_reads_back;

@@ -16,6 +16,7 @@ use Rattle.rules.specs.Memory.{Store, row}
 use Rattle.rules.specs.Refusals.{Outcome, outcome, Admitted}
 use Rattle.rules.specs.Image.{Written, image_text, write_text, write_image, Frames, frames, malformed, read_text, store_of, same_lengths, read_store, read_on, read_image}
 use Rattle.rules.specs.Left.{left_opened}
+use Rattle.rules.proofs.Answered.{same_value}
 use Rattle.rules.proofs.Limits.{admits}
 use Rattle.promises.proofs.Ordered.{lawful_keeps}
 use Rattle.promises.proofs.Outcomes.{write_lawful}
@@ -35,7 +36,7 @@ wrote s bytes m c =
     (λ p q r f.
     rw (p, q, r, f)
     (λ d.
-    let n : length (image_text s) ≡ m = cc in
+    let n : length (image_text s) ≡ m = same_value d in
     record {
       admitted = admits (length s.heap) (length s.table) (length s.roots) (length s.consts) s.ctl (not-false _ p) (not-false _ q);
       cleared = not-false _ r;

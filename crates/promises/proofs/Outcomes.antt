@@ -26,6 +26,7 @@ use Rattle.rules.specs.Calls.{look_in, word_of_number, number_of_word, set_up, p
 use Rattle.rules.specs.Collection.{Ended, finished, lacks_page, unfinished, freshen, evacuate_all, work_stack, leaves, ending, collected, collect}
 use Rattle.rules.specs.Image.{write_text, write_image, Frames, frames, malformed, read_text, store_of, same_lengths, read_store, read_on, read_image}
 use Rattle.rules.specs.Order.{Test, test, on_store, on_parts, on_text, to_caller, alone, set_up_tests, push_tests, pop_tests, allocate_tests, fetch_tests, assign_tests, set_root_tests, step_tests, walk_tests, audit_tests, due_tests, used_tests, page_tests, lacks, collect_tests, write_tests, is_malformed, fault_line, words_of, read_tests, word_tests, number_tests}
+use Rattle.rules.proofs.Answered.{same_refused}
 use Rattle.rules.proofs.Judged.{admissions_agree}
 use Rattle.rules.proofs.Limits.{admits}
 use Rattle.rules.proofs.Pages.{place_here, place_grown, takes}
@@ -203,7 +204,9 @@ collected_lawful s S = fresh (freshen s.ctl.n s.ctl.regions 0 (begun s)) refl
     none_left e q = rw (e, q) stopped
 
     never : Collects s S → collected s ≡ refused s (Refusal.Broken 0) → Decided
-    never (runs_dry f x) e = let q = ap (λ (o : Outcome (Result Control Refused)). o.answer) (sym f ∙ e) in absurd (false≢true cc)
+    never (runs_dry f x) e =
+        let q = ap (λ (x : Refused). x.why) (same_refused (ap (λ (o : Outcome (Result Control Refused)). o.answer) (sym f ∙ e))) in
+        absurd (false≢true cc)
     never (runs_through roots r f x) e = let q = ap (λ (o : Outcome (Result Control Refused)). o.answer) (sym (f ∙ ran_leaves x) ∙ e) in absurd (false≢true cc)
 
     worked : (r : Run) → freshen s.ctl.n s.ctl.regions 0 (begun s) ≡ some r → (p : List ℕ × Run) → evacuate_all s.ctl.n s.roots r ≡ some p

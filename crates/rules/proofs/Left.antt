@@ -13,8 +13,8 @@ left_leaving s = refl
 pub left_refused : (s : Store) (r : Refusal) → left_plain (refused s r) ≡ s
 left_refused s r = refl
 
-pub left_refused_value : (A : Type 0) (s : Store) (r : Refusal) → left_valued {A = A} (refused s r) ≡ s
-left_refused_value A s r = refl
+pub left_refused_value : (s : Store) (r : Refusal) → left_valued (refused s r) ≡ s
+left_refused_value s r = refl
 
 pub left_opened_lem : (s : Store) → left_opened (unchanged (Ok s.ctl) s) s.ctl ≡ s
 left_opened_lem s = refl

@@ -1,5 +1,5 @@
 -- What a call leaves: every lent word, and the control record that it returns.
-use Rattle.std.specs.Prelude.{Result, Ok, Err}
+use Rattle.std.specs.Prelude.{ℕ, Result, Ok, Err}
 use Rattle.rules.specs.declared.Refused.{Refused}
 use Rattle.rules.specs.declared.Refusal.{Refusal}
 use Rattle.rules.specs.Refusals.{Outcome}
@@ -10,7 +10,7 @@ abbrev pub record_plain : Result Control Refused → Control
 record_plain (Ok c) = c
 record_plain (Err e) = e.control
 
-abbrev pub record_valued : {A : Type 0} → Result (A × Control) Refused → Control
+abbrev pub record_valued : Result (ℕ × Control) Refused → Control
 record_valued (Ok p) = p.1
 record_valued (Err e) = e.control
 
@@ -23,7 +23,7 @@ record_opened d (Err r) = d
 abbrev pub left_plain : Outcome (Result Control Refused) → Store
 left_plain o = lent o.heap o.table o.roots o.consts (record_plain o.answer)
 
-abbrev pub left_valued : {A : Type 0} → Outcome (Result (A × Control) Refused) → Store
+abbrev pub left_valued : Outcome (Result (ℕ × Control) Refused) → Store
 left_valued o = lent o.heap o.table o.roots o.consts (record_valued o.answer)
 
 -- the store after setting up or reading an image, calls that are given no record, where they returned the record c
