@@ -3,43 +3,38 @@
 #![tactic(auto)]
 
 ghost use Rattle.std.specs.Prelude.{◌≡◌};
-ghost use Rattle.rules.specs.Memory.{lent};
+ghost use Rattle.rules.specs.Memory.{store};
 ghost use Rattle.rules.specs.Refusals.{outcome};
 ghost use Rattle.rules.specs.Image.{written, write_image, read_image};
 
-use limits::{Tested, first_tests};
+use limits::admit;
 use pages::all_zero;
 use reading::{fill_pages, fill_part, judge, lengths_fit};
-use rules::{Control, Opened, Refusal, Valued};
+use rules::{Control, Lent, Refusal, Refused};
 use writing::{text_length, write_text};
 
 // Writes the image's text and answers its length. The length is counted first, so that a refusal leaves every byte.
-pub fn write_image(
-    heap: &[u32],
-    table: &[u32],
-    roots: &[u32],
-    consts: &[u32],
-    c: Control,
-    bytes: &mut [u8],
-) -> Valued
-    ensures { written result bytes.new
-        ≡ write_image (lent heap.now table.now roots.now consts.now c) bytes.old }
+pub fn write_image(lent: Lent<'_>, bytes: &mut [u8]) -> Result<(u32, Control), Refused>
+    ensures { written result bytes.new ≡ write_image (store lent.entry) bytes.old }
 {
-    let tested = first_tests(heap.len(), table.len(), roots.len(), consts.len(), c);
-    if let Tested::Refused(why) = tested {
-        return Valued::Refused(why, c);
-    }
+    let heap = admit(lent)?;
+    let c = lent.control;
     let rows = 4 * c.regions as usize;
-    if !all_zero(&table[rows..]) {
-        return Valued::Refused(Refusal::Broken(0), c);
+    if !all_zero(&lent.table[rows..]) {
+        return Err(Refused {
+            why: Refusal::Broken(0),
+            control: c,
+        });
     }
-    let length = text_length(heap, table, roots, consts, c);
+    let length = text_length(heap);
     if bytes.len() < length {
-        return Valued::Refused(Refusal::Limits, c);
+        return Err(Refused {
+            why: Refusal::Limits,
+            control: c,
+        });
     }
-    write_text(bytes, heap, table, roots, consts, c);
-    let answer = length as u32;
-    Valued::Done(answer, c)
+    write_text(bytes, heap);
+    Ok((length as u32, c))
 }
 
 // Reads an image's text into the lent parts and answers its record. The whole text is judged before any word is written.
@@ -49,21 +44,17 @@ pub fn read_image(
     table: &mut [u32],
     roots: &mut [u32],
     consts: &mut [u32],
-) -> Opened
+) -> Result<Control, Refusal>
     ensures { outcome result heap.new table.new roots.new consts.new
         ≡ read_image text.now heap.old table.old roots.old consts.old }
 {
-    match judge(text) {
-        Err(why) => Opened::Refused(why),
-        Ok(h) => {
-            if !lengths_fit(h, heap.len(), table.len(), roots.len(), consts.len()) {
-                return Opened::Refused(Refusal::Limits);
-            }
-            let after_table = fill_part(text, 71, table);
-            let after_roots = fill_part(text, after_table, roots);
-            let after_consts = fill_part(text, after_roots, consts);
-            fill_pages(text, after_consts, heap, h.n, h.pages as usize);
-            Opened::Done(Control::from(h))
-        }
+    let h = judge(text)?;
+    if !lengths_fit(h, heap.len(), table.len(), roots.len(), consts.len()) {
+        return Err(Refusal::Limits);
     }
+    let after_table = fill_part(text, 71, table);
+    let after_roots = fill_part(text, after_table, roots);
+    let after_consts = fill_part(text, after_roots, consts);
+    fill_pages(text, after_consts, heap, h.n, h.pages as usize);
+    Ok(Control::from(h))
 }

@@ -5,13 +5,13 @@
 
 ghost use Rattle.std.specs.Prelude.{◌≡◌, ◌+◌, ◌-◌, ◌*◌, ◌/◌, ◌^◌, ◌≤◌, ◌<◌, ◌≢◌, ℕ, length, slice_index, EachIndex, MatchOption};
 ghost use Rattle.std.proofs.lemmas.List.Edits.{sets};
-ghost use Rattle.rules.specs.Memory.{lent};
-ghost use Rattle.rules.specs.Refusals.{Paged, Admitted};
+ghost use Rattle.rules.specs.Memory.{store};
+ghost use Rattle.rules.specs.Refusals.{Paged};
 ghost use Rattle.rules.specs.Image.{digit_of, hex, hex_words, frame, trim, page_frames, image_text};
 
 use conversions::page_numbered;
+use limits::Admitted;
 use pages::{page_count, page_part};
-use rules::Control;
 
 // The digit of a number below 16.
 fn digit(d: u32) -> u8
@@ -107,38 +107,29 @@ fn write_pages(bytes: &mut [u8], at: usize, heap: &[u32], n: u32, pages: usize)
 }
 
 // The whole text.
-pub fn write_text(
-    bytes: &mut [u8],
-    heap: &[u32],
-    table: &[u32],
-    roots: &[u32],
-    consts: &[u32],
-    c: Control,
-)
-    requires { Admitted (length heap.now) (length table.now) (length roots.now) (length consts.now) c
-        × (length (image_text (lent heap.now table.now roots.now consts.now c)) ≤ length bytes.old) }
-    ensures { bytes.new
-        ≡ sets bytes.old 0
-        (image_text (lent heap.now table.now roots.now consts.now c)) }
+pub fn write_text(bytes: &mut [u8], heap: Admitted<'_>)
+    requires { length (image_text (store heap.lent)) ≤ length bytes.old }
+    ensures { bytes.new ≡ sets bytes.old 0 (image_text (store heap.entry.lent)) }
 {
-    let n = c.n;
-    let pages = page_count(heap.len(), n);
+    let lent = heap.lent;
+    let c = lent.control;
+    let pages = page_count(lent.heap.len(), c.n);
     let head = [
-        n,
+        c.n,
         pages as u32,
         c.regions,
         c.first,
         c.last,
         c.count,
-        roots.len() as u32,
-        consts.len() as u32,
+        lent.roots.len() as u32,
+        lent.consts.len() as u32,
     ];
     let rows = 4 * c.regions as usize;
     write_frame(bytes, 0, 1, &head);
-    let after_table = write_part(bytes, 71, 2, &table[0..rows]);
-    let after_roots = write_part(bytes, after_table, 3, roots);
-    let after_consts = write_part(bytes, after_roots, 4, consts);
-    write_pages(bytes, after_consts, heap, n, pages);
+    let after_table = write_part(bytes, 71, 2, &lent.table[0..rows]);
+    let after_roots = write_part(bytes, after_table, 3, lent.roots);
+    let after_consts = write_part(bytes, after_roots, 4, lent.consts);
+    write_pages(bytes, after_consts, lent.heap, c.n, pages);
 }
 
 // How long a part's frame is.
@@ -162,16 +153,15 @@ fn pages_length(heap: &[u32], n: u32, pages: usize) -> usize
 }
 
 // How long the whole text is.
-pub fn text_length(heap: &[u32], table: &[u32], roots: &[u32], consts: &[u32], c: Control) -> usize
-    requires { Admitted (length heap.now) (length table.now) (length roots.now) (length consts.now) c }
-    ensures { (result ≡ length (image_text (lent heap.now table.now roots.now consts.now c)))
-        × (result < 2 ^ 32) }
+pub fn text_length(heap: Admitted<'_>) -> usize
+    ensures { (result ≡ length (image_text (store heap.entry.lent))) × (result < 2 ^ 32) }
 {
-    let n = c.n;
-    let pages = page_count(heap.len(), n);
+    let lent = heap.lent;
+    let c = lent.control;
+    let pages = page_count(lent.heap.len(), c.n);
     let rows = 4 * c.regions as usize;
-    71 + part_length(&table[0..rows])
-        + part_length(roots)
-        + part_length(consts)
-        + pages_length(heap, n, pages)
+    71 + part_length(&lent.table[0..rows])
+        + part_length(lent.roots)
+        + part_length(lent.consts)
+        + pages_length(lent.heap, c.n, pages)
 }

@@ -8,7 +8,7 @@ use Rattle.writing.proofs.text_length.Goals as goal
 
 pub returns : goal.returns
 returns c =
-    let a = c.args in
-    let w = text_length a.heap.now a.table.now a.roots.now a.consts.now a.c _ c.page_count-pages.ensures in
-    let d = div-le_self (length a.heap.now) (2 ^ a.c.n) in
+    let l = c.args.heap.lent in
+    let w = text_length l.heap.now l.table.now l.roots.now l.consts.now l.control _ c.page_count-pages.ensures in
+    let d = div-le_self (length l.heap.now) (2 ^ l.control.n) in
     (omega arith, omega arith)
