@@ -1,20 +1,18 @@
--- `undoing::undo_headers` meets its contract: the loop runs `steps`, and a turn is what `undo_chain` does.
-use Prim.Native.Nat.{ℕ}
-use mathlib.Core.Path.{sym, ◌∙◌}
+-- `undoing::undo_headers` meets its contract: the regions below i are done, and what is left of the walk along region i's chain leaves what the whole leaves.
+use mathlib.Core.Path.{refl}
 use native.Mathlib.Omega.{arith}
-use Rattle.laws.proofs.Each.{steps_end}
-use Rattle.motion.specs.Whole.{undo_chain}
-use Rattle.motion.proofs.Chains.{region_turn}
+use Rattle.leaves.proofs.Walks.{sets_out, goes_on, arrives, region_done, regions_done}
 use Rattle.undoing.proofs.undo_headers.Goals as goal
 
-pub loop-left-preserved : goal.loop-left-preserved
-loop-left-preserved c =
-    let walk = λ (i : ℕ). undo_chain c.args.n c.args.pages in
-    let opens = region_turn c.args.n c.loop-left.left c.loop-left.j.0 _ _ c.args.table.now walk _ _ c.loop-left-test.true in
-    record {
-      runs = rw c.next_region-j.ensures (sym (opens c.first_of-fp.ensures.0 c.address_page.ensures c.undo_chain.ensures) ∙ c.loop-left.invariant.runs);
-      counts = omega (arith, c.next_region-j.ensures);
-    }
+pub loop-k-init : goal.loop-k-init
+loop-k-init c = sets_out _ _ _ _ _ _ _ (rw c.region_numbered.ensures at c.of_region-chain.ensures)
+
+pub loop-k-preserved : goal.loop-k-preserved
+loop-k-preserved c = goes_on _ _ _ _ _ _ _ _ _ _ _ _ c.loop-k.invariant c.in-Some.ensures refl c.undo_page.ensures
+
+pub loop-i-preserved : goal.loop-i-preserved
+loop-i-preserved c =
+    region_done _ _ _ _ _ c.loop-i.invariant (arrives _ _ _ _ _ _ _ _ c.loop-k.invariant c.in_default.ensures.1)
 
 pub returns : goal.returns
-returns c = sym (steps_end _ _ _ _ c.loop-left-test.false) ∙ c.loop-left.invariant.runs
+returns c = regions_done _ _ _ _ _ c.loop-i.invariant (omega arith)
