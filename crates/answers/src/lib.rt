@@ -2,10 +2,10 @@
 
 #![tactic(auto)]
 
-use numbers::magnitude;
+pub mod memory;
+
+use memory::Memory;
 use rules::{Control, Numbered, Opened, Page, Plain, Refusal, Told, Valued, Worded};
-use script::hash;
-use script::output::{flush, put, put_bytes, put_decimal, put_hex, put_word, put_words};
 use std::io;
 use std::io::Write;
 
@@ -91,190 +91,61 @@ pub fn numbered(i: Numbered, control: Control) -> Outcome {
     }
 }
 
-// The hash of the lent words and the record.
-fn hash_of(heap: &[u32], table: &[u32], roots: &[u32], consts: &[u32], c: Control) -> u64 {
-    let a = hash::words(hash::empty(), heap);
-    let b = hash::words(a, table);
-    let d = hash::words(b, roots);
-    let e = hash::words(d, consts);
-    let n = hash::word(e, c.n);
-    let regions = hash::word(n, c.regions);
-    let first = hash::word(regions, c.first);
-    let last = hash::word(first, c.last);
-    hash::word(last, c.count)
+fn write_refusal(to: &mut impl Write, why: Refusal) -> io::Result<()> {
+    let number = conversions::refusal_number(why);
+    let place = conversions::refusal_place(why);
+    write!(to, "no {number} {place}")
 }
 
-fn put_refusal(to: &mut impl Write, out: &mut [u8], at: usize, why: Refusal) -> io::Result<usize> {
-    let a = put_bytes(to, out, at, b"no ")?;
-    let b = put_decimal(to, out, a, conversions::refusal_number(why) as u64)?;
-    let c = put(to, out, b, b' ')?;
-    put_decimal(to, out, c, conversions::refusal_place(why) as u64)
-}
-
-fn put_number(to: &mut impl Write, out: &mut [u8], at: usize, i: i32) -> io::Result<usize> {
-    if i < 0 {
-        let a = put_bytes(to, out, at, b"ok -")?;
-        return put_decimal(to, out, a, magnitude(i) as u64);
+// The words of a part, each after a space.
+fn write_part(to: &mut impl Write, part: &[u32]) -> io::Result<()> {
+    write!(to, "ok")?;
+    for w in part {
+        write!(to, " {w:x}")?;
     }
-    let a = put_bytes(to, out, at, b"ok ")?;
-    put_decimal(to, out, a, magnitude(i) as u64)
+    Ok(())
 }
 
-fn put_told(to: &mut impl Write, out: &mut [u8], at: usize, yes: bool) -> io::Result<usize> {
-    if yes {
-        return put_bytes(to, out, at, b"ok 1");
-    }
-    put_bytes(to, out, at, b"ok 0")
+fn write_value(to: &mut impl Write, w: u32, m: &Memory<'_>) -> io::Result<()> {
+    write_part(to, access::fetch(m.heap, m.table, m.roots, m.consts, m.control, w))
 }
 
-fn put_image(
-    to: &mut impl Write,
-    out: &mut [u8],
-    at: usize,
-    length: u32,
-    sum: u64,
-) -> io::Result<usize> {
-    let a = put_bytes(to, out, at, b"ok ")?;
-    let b = put_decimal(to, out, a, length as u64)?;
-    let c = put(to, out, b, b' ')?;
-    put_hex(to, out, c, sum, 16)
-}
-
-fn put_one(to: &mut impl Write, out: &mut [u8], at: usize, w: u32) -> io::Result<usize> {
-    let a = put_bytes(to, out, at, b"ok")?;
-    put_word(to, out, a, w)
-}
-
-fn put_count(to: &mut impl Write, out: &mut [u8], at: usize, k: u32) -> io::Result<usize> {
-    let a = put_bytes(to, out, at, b"ok ")?;
-    put_decimal(to, out, a, k as u64)
-}
-
-fn put_part(to: &mut impl Write, out: &mut [u8], at: usize, part: &[u32]) -> io::Result<usize> {
-    let a = put_bytes(to, out, at, b"ok")?;
-    put_words(to, out, a, part)
-}
-
-fn put_value<'a>(
-    to: &mut impl Write,
-    out: &mut [u8],
-    at: usize,
-    w: u32,
-    heap: &'a [u32],
-    table: &'a [u32],
-    roots: &'a [u32],
-    consts: &'a [u32],
-    c: Control,
-) -> io::Result<usize> {
-    put_part(to, out, at, access::fetch(heap, table, roots, consts, c, w))
-}
-
-fn put_page<'a>(
-    to: &mut impl Write,
-    out: &mut [u8],
-    at: usize,
-    k: Page,
-    heap: &'a [u32],
-    table: &'a [u32],
-    roots: &'a [u32],
-    consts: &'a [u32],
-    c: Control,
-) -> io::Result<usize> {
-    put_part(
+fn write_page(to: &mut impl Write, k: Page, m: &Memory<'_>) -> io::Result<()> {
+    write_part(
         to,
-        out,
-        at,
-        page_views::page_by_number(heap, table, roots, consts, c, k),
+        page_views::page_by_number(m.heap, m.table, m.roots, m.consts, m.control, k),
     )
 }
 
-// The end of a call's answer: the hash, and the line's end.
-fn put_hash(
-    to: &mut impl Write,
-    out: &mut [u8],
-    at: usize,
-    heap: &[u32],
-    table: &[u32],
-    roots: &[u32],
-    consts: &[u32],
-    c: Control,
-) -> io::Result<usize> {
-    let a = put_bytes(to, out, at, b" #")?;
-    let b = put_hex(to, out, a, hash_of(heap, table, roots, consts, c), 16)?;
-    put(to, out, b, b'\n')
-}
-
 // What a call answers, before the hash.
-fn put_result<'a>(
-    to: &mut impl Write,
-    out: &mut [u8],
-    at: usize,
-    answer: Answer,
-    heap: &'a [u32],
-    table: &'a [u32],
-    roots: &'a [u32],
-    consts: &'a [u32],
-    c: Control,
-) -> io::Result<usize> {
+fn write_answer(to: &mut impl Write, answer: Answer, m: &Memory<'_>) -> io::Result<()> {
     match answer {
-        Answer::Word(w) => put_one(to, out, at, w),
-        Answer::Count(k) => put_count(to, out, at, k),
-        Answer::Told(yes) => put_told(to, out, at, yes),
-        Answer::Number(i) => put_number(to, out, at, i),
-        Answer::Value(w) => put_value(to, out, at, w, heap, table, roots, consts, c),
-        Answer::Page(k) => put_page(to, out, at, k, heap, table, roots, consts, c),
-        Answer::Image(length, sum) => put_image(to, out, at, length, sum),
-        Answer::Refused(why) => put_refusal(to, out, at, why),
-        Answer::Done => put_bytes(to, out, at, b"ok"),
-        Answer::Quiet => Ok(at),
-        Answer::Unknown => Ok(at),
+        Answer::Word(w) => write!(to, "ok {w:x}"),
+        Answer::Count(k) => write!(to, "ok {k}"),
+        Answer::Told(yes) => write!(to, "ok {}", u8::from(yes)),
+        Answer::Number(i) => write!(to, "ok {i}"),
+        Answer::Value(w) => write_value(to, w, m),
+        Answer::Page(k) => write_page(to, k, m),
+        Answer::Image(length, sum) => write!(to, "ok {length} {sum:016x}"),
+        Answer::Refused(why) => write_refusal(to, why),
+        Answer::Done => write!(to, "ok"),
+        Answer::Quiet | Answer::Unknown => Ok(()),
     }
 }
 
-// The line of a call's answer.
-fn put_line<'a>(
-    to: &mut impl Write,
-    out: &mut [u8],
-    answer: Answer,
-    heap: &'a [u32],
-    table: &'a [u32],
-    roots: &'a [u32],
-    consts: &'a [u32],
-    c: Control,
-) -> io::Result<usize> {
-    let at = put_result(to, out, 0, answer, heap, table, roots, consts, c)?;
-    put_hash(to, out, at, heap, table, roots, consts, c)
-}
-
-// Writes the line of a call's answer, gathered in a buffer of its own.
-fn tell_call<'a>(
-    to: &mut impl Write,
-    answer: Answer,
-    heap: &'a [u32],
-    table: &'a [u32],
-    roots: &'a [u32],
-    consts: &'a [u32],
-    c: Control,
-) -> io::Result<()> {
-    let mut out = [0u8; 4096];
-    let at = put_line(to, &mut out, answer, heap, table, roots, consts, c)?;
-    flush(to, &out, at)
+// Writes the line of a call's answer, which ends with the hash.
+fn tell_call(to: &mut impl Write, answer: Answer, m: &Memory<'_>) -> io::Result<()> {
+    let sum = m.hash();
+    write_answer(to, answer, m)?;
+    writeln!(to, " #{sum:016x}")
 }
 
 // Writes an answer's line.
-pub fn tell<'a>(
-    to: &mut impl Write,
-    o: Outcome,
-    heap: &'a [u32],
-    table: &'a [u32],
-    roots: &'a [u32],
-    consts: &'a [u32],
-) -> io::Result<()> {
-    let answer = o.answer;
-    let c = o.control;
+pub fn tell(to: &mut impl Write, answer: Answer, m: &Memory<'_>) -> io::Result<()> {
     match answer {
-        Answer::Quiet => flush(to, b".\n", 2),
-        Answer::Unknown => flush(to, b"?\n", 2),
-        _ => tell_call(to, answer, heap, table, roots, consts, c),
+        Answer::Quiet => writeln!(to, ".")?,
+        Answer::Unknown => writeln!(to, "?")?,
+        _ => tell_call(to, answer, m)?,
     }
+    to.flush()
 }

@@ -2,165 +2,94 @@
 
 #![tactic(auto)]
 
+use answers::memory::Memory;
 use answers::{Answer, Outcome, opened, plain, saying, unknown, word};
 use requests::{Changing, Making, Part};
-use rules::{Control, Kind, Plain, Region};
-use script::lists::{Count, read_text, read_words};
-use script::parts::{first_bytes, first_words};
-use script::tokens::Cursor;
+use rules::{Kind, Region};
+use script::lists::{read_list, read_text};
+use script::numbers;
+use script::tokens::Tokens;
 
-// An image is read from its text.
-fn open_image(
-    heap: &mut [u32],
-    table: &mut [u32],
-    roots: &mut [u32],
-    consts: &mut [u32],
-    text: &[u8],
-    c: Control,
-) -> Outcome {
-    opened(image::read_image(text, heap, table, roots, consts), c)
+// An image is read from the text that a token spells.
+fn read(m: &mut Memory<'_>, token: &[u8]) -> Outcome {
+    let mut bytes = [0u8; 262144];
+    let Some(text) = read_text(token, &mut bytes) else {
+        return unknown(m.control);
+    };
+    let done = image::read_image(text, m.heap, m.table, m.roots, m.consts);
+    opened(done, m.control)
 }
 
-// The text that stands on the line from an index is the image's.
-fn read(
-    heap: &mut [u32],
-    table: &mut [u32],
-    roots: &mut [u32],
-    consts: &mut [u32],
-    line: &[u8],
-    c: Control,
-    from: usize,
-) -> Outcome {
-    let mut bytes = [0u8; 262144];
-    let Count::Is(k) = read_text(line, Cursor { at: from }, &mut bytes) else {
-        return unknown(c);
-    };
-    open_image(heap, table, roots, consts, first_bytes(&bytes, k), c)
+fn set_up(m: &mut Memory<'_>, n: u32) -> Outcome {
+    let c = m.control;
+    let heap = &mut *m.heap;
+    let table = &mut *m.table;
+    let roots = &mut *m.roots;
+    let consts = &mut *m.consts;
+    opened(setting_up::set_up(heap, table, roots, consts, n), c)
 }
 
 // Sets one word of a part, where it has such a word.
-fn set_word(part: &mut [u32], i: usize, w: u32, c: Control) -> Outcome {
-    if i < part.len() {
-        part[i] = w;
-        return saying(Answer::Quiet, c);
+fn set_word(part: &mut [u32], i: usize, w: u32) -> Answer {
+    if part.len() <= i {
+        return Answer::Unknown;
     }
-    unknown(c)
+    part[i] = w;
+    Answer::Quiet
 }
 
 // Sets one word of one of the parts.
-fn poke(
-    part: Part,
-    i: usize,
-    w: u32,
-    heap: &mut [u32],
-    table: &mut [u32],
-    roots: &mut [u32],
-    consts: &mut [u32],
-    c: Control,
-) -> Outcome {
-    match part {
-        Part::Heap => set_word(heap, i, w, c),
-        Part::Table => set_word(table, i, w, c),
-        Part::Roots => set_word(roots, i, w, c),
-        Part::Consts => set_word(consts, i, w, c),
-        Part::Nothing => unknown(c),
-    }
+fn poke(m: &mut Memory<'_>, part: Part, i: usize, w: u32) -> Outcome {
+    let answer = match part {
+        Part::Heap => set_word(m.heap, i, w),
+        Part::Table => set_word(m.table, i, w),
+        Part::Roots => set_word(m.roots, i, w),
+        Part::Consts => set_word(m.consts, i, w),
+    };
+    saying(answer, m.control)
 }
 
 // An operation that makes lent words or the record anew.
-pub fn make(
-    asked: Making,
-    line: &[u8],
-    heap: &mut [u32],
-    table: &mut [u32],
-    roots: &mut [u32],
-    consts: &mut [u32],
-    c: Control,
-) -> Outcome {
+pub fn make(asked: Making<'_>, m: &mut Memory<'_>) -> Outcome {
     match asked {
-        Making::Setup(n) => opened(setting_up::set_up(heap, table, roots, consts, n), c),
-        Making::Read(from) => read(heap, table, roots, consts, line, c, from),
-        Making::Poke(part, i, w) => poke(part, i, w, heap, table, roots, consts, c),
+        Making::Setup(n) => set_up(m, n),
+        Making::Read(token) => read(m, token),
+        Making::Poke(part, i, w) => poke(m, part, i, w),
         Making::Ctl(new) => saying(Answer::Quiet, new),
     }
 }
 
-// A value of these words.
-fn store(
-    heap: &mut [u32],
-    table: &mut [u32],
-    roots: &[u32],
-    consts: &[u32],
-    c: Control,
-    j: Region,
-    kind: Kind,
-    words: &[u32],
-) -> Outcome {
-    word(allocation::allocate(heap, table, roots, consts, c, j, kind, words))
-}
-
-// The words that the line lists from an index are the value's.
-fn allocate(
-    heap: &mut [u32],
-    table: &mut [u32],
-    roots: &[u32],
-    consts: &[u32],
-    line: &[u8],
-    c: Control,
-    j: Region,
-    kind: Kind,
-    from: usize,
-) -> Outcome {
-    let mut words = [0u32; 65536];
-    let Count::Is(l) = read_words(line, Cursor { at: from }, &mut words) else {
+// The words that are left of the line are the value's.
+fn allocate(m: &mut Memory<'_>, j: Region, kind: Kind, tokens: Tokens<'_>) -> Outcome {
+    let c = m.control;
+    let mut buffer = [0u32; 65536];
+    let Some(words) = read_list(tokens, &mut buffer, numbers::word) else {
         return unknown(c);
     };
-    store(
-        heap,
-        table,
-        roots,
-        consts,
-        c,
-        j,
-        kind,
-        first_words(&words, l),
-    )
-}
-
-// A push, a pop or a collection: a call that is asked for by its name alone.
-fn change_regions(
-    asked: Changing,
-    heap: &mut [u32],
-    table: &mut [u32],
-    roots: &mut [u32],
-    consts: &[u32],
-    c: Control,
-) -> Plain {
-    match asked {
-        Changing::Push => regions::push(heap, table, roots, consts, c),
-        Changing::Pop => release::pop(heap, table, roots, consts, c),
-        _ => collection::collect(heap, table, roots, consts, c),
-    }
+    let heap = &mut *m.heap;
+    let table = &mut *m.table;
+    let roots = &mut *m.roots;
+    let consts = &mut *m.consts;
+    word(allocation::allocate(
+        heap, table, roots, consts, c, j, kind, words,
+    ))
 }
 
 // A call that changes lent words or the record.
-pub fn change(
-    asked: Changing,
-    line: &[u8],
-    heap: &mut [u32],
-    table: &mut [u32],
-    roots: &mut [u32],
-    consts: &[u32],
-    c: Control,
-) -> Outcome {
+pub fn change(asked: Changing<'_>, m: &mut Memory<'_>) -> Outcome {
+    let c = m.control;
+    let heap = &mut *m.heap;
+    let table = &mut *m.table;
+    let roots = &mut *m.roots;
+    let consts = &mut *m.consts;
     match asked {
-        Changing::Alloc(j, kind, from) => allocate(
-            heap, table, roots, consts, line, c, j, kind, from,
-        ),
+        Changing::Push => plain(regions::push(heap, table, roots, consts, c)),
+        Changing::Pop => plain(release::pop(heap, table, roots, consts, c)),
+        Changing::Alloc(j, kind, words) => allocate(m, j, kind, words),
         Changing::Assign(w, field, x) => plain(assignment::assign(
             heap, table, roots, consts, c, w, field, x,
         )),
         Changing::Root(i, w) => plain(access::set_root(heap, table, roots, consts, c, i, w)),
-        _ => plain(change_regions(asked, heap, table, roots, consts, c)),
+        Changing::Collect => plain(collection::collect(heap, table, roots, consts, c)),
     }
 }

@@ -3,40 +3,58 @@
 
 #![tactic(auto)]
 
-mod state;
+mod lending;
 
-use script::lines::{beginning, left, next_line};
-use script::parts::first_bytes;
-use state::{nothing_lent, run_line};
+use answers::memory::Memory;
+use lending::run;
+use requests::Lengths;
+use rules::Control;
+use script::lines::Lines;
+use script::output::Gathered;
 use std::io;
 use std::io::{Read, Write};
 
-// Replays the script in lent memory. Nothing says that the input ends, so the lines are counted down, from a number that no input meets.
-fn replay(
-    source: &mut impl Read,
+// Replays the script in memory that can be lent. Nothing says that the input ends, so its lines are counted, up to a number that no input meets.
+fn replay<R: Read>(
+    lines: &mut Lines<'_, R>,
     to: &mut impl Write,
+    buffer: &mut [u8],
     heap: &mut [u32],
     table: &mut [u32],
     roots: &mut [u32],
     consts: &mut [u32],
-    line: &mut [u8],
-    chunk: &mut [u8],
 ) -> io::Result<()> {
-    let mut input = beginning();
-    let mut state = nothing_lent();
-    let mut lines = u64::MAX;
-    while 0 < lines {
-        input = next_line(source, chunk, line, input)?;
-        state = run_line(
-            to,
-            first_bytes(line, input.line),
-            heap,
-            table,
-            roots,
-            consts,
-            state,
-        )?;
-        lines = left(lines, input.is_over);
+    let room = Lengths {
+        heap: heap.len(),
+        table: table.len(),
+        roots: roots.len(),
+        consts: consts.len(),
+    };
+    let mut lent = Lengths {
+        heap: 0,
+        table: 0,
+        roots: 0,
+        consts: 0,
+    };
+    for _ in 0..u64::MAX {
+        let mut memory = Memory {
+            heap: &mut heap[..lent.heap],
+            table: &mut table[..lent.table],
+            roots: &mut roots[..lent.roots],
+            consts: &mut consts[..lent.consts],
+            control: Control {
+                n: 0,
+                regions: 0,
+                first: 0,
+                last: 0,
+                count: 0,
+            },
+        };
+        memory.clear();
+        let Some(asked) = run(lines, to, buffer, &mut memory, room)? else {
+            return Ok(());
+        };
+        lent = asked;
     }
     Ok(())
 }
@@ -48,14 +66,16 @@ fn main(rt: HostRuntime) -> io::Result<()> {
     let mut consts = [0u32; 70000];
     let mut line = [0u8; 131073];
     let mut chunk = [0u8; 65536];
+    let mut gathered = [0u8; 4096];
+    let mut source = rt.stdin();
+    let mut to = rt.stdout();
     replay(
-        &mut rt.stdin(),
-        &mut rt.stdout(),
+        &mut Lines::new(&mut source, &mut chunk),
+        &mut Gathered::new(&mut to, &mut gathered),
+        &mut line,
         &mut heap,
         &mut table,
         &mut roots,
         &mut consts,
-        &mut line,
-        &mut chunk,
     )
 }

@@ -1,5 +1,5 @@
-// Lines of text taken apart into tokens and numbers, a hash, and output gathered in a lent buffer: what a program that replays a script needs
-// besides the calls that it replays. No public function but `lines::left` has a `requires`, so most callers need no facts of their own.
+// Lines of a reader taken apart into tokens, what tokens spell, a hash, and output gathered in a lent buffer: what a program that replays a script
+// needs besides the calls that it replays.
 
 #![tactic(auto)]
 

@@ -1,71 +1,60 @@
 // A line's tokens, separated by single spaces.
+ghost use Rattle.std.specs.Prelude.{◌≡◌, ◌+◌, ◌↔◌, Some, None, IsTrue, length};
+ghost use Rattle.std.specs.Iterator.{at_most};
+ghost use Rattle.std.specs.Option.{option_map_or};
+ghost use Rattle.script.specs.Tokens.{line_left, first_space, TakesToken};
 
-// Where a line has been read to: the index just past a token, where a space or the line's end has to stand.
+// The tokens that are still to come: what is left of the line from the next token on, and nothing past the last token.
 #[derive(Clone, Copy)]
-pub struct Cursor {
-    pub at: usize,
+pub struct Tokens<'a> {
+    rest: Option<&'a [u8]>,
 }
 
-// Where the next token starts.
-#[derive(Drop)]
-pub enum Start {
-    At(usize),
-    Nothing,
+impl<'a> Tokens<'a> {
+    pub fn of(line: &'a [u8]) -> Tokens<'a>
+        ensures { line_left result ≡ Some line.now }
+    {
+        Tokens { rest: Some(line) }
+    }
+
+    // All the tokens that are still to come.
+    pub fn rest(&mut self) -> Tokens<'a>
+        ensures all { line_left result ≡ line_left self.old }
+        ensures none_left { line_left self.new ≡ None }
+    {
+        let rest = self.rest.take();
+        Tokens { rest }
+    }
+
+    // Whether the line's last token has been read.
+    pub fn is_done(&self) -> bool
+        ensures { IsTrue result ↔ (line_left self.now ≡ None) }
+    {
+        self.rest.is_none()
+    }
 }
 
-// Whether a token that begins before index i ends there.
-pub fn ends(line: &[u8], i: usize) -> bool {
-    if i < line.len() {
-        return line[i] == b' ';
-    }
-    true
+// Where the first space of a line stands.
+fn first_space(line: &[u8]) -> Option<usize>
+    ensures { result ≡ first_space line.now }
+{
+    line.iter().position(|b| *b == b' ')
 }
 
-// Whether the whole line has been read.
-pub fn is_done(line: &[u8], c: Cursor) -> bool {
-    line.len() <= c.at
-}
+impl<'a> Iterator for Tokens<'a> {
+    type Item = &'a [u8];
 
-// The start of the token after the cursor, one space further.
-pub fn next_start(line: &[u8], c: Cursor) -> Start {
-    let at = c.at;
-    if at < line.len() {
-        if line[at] == b' ' {
-            return Start::At(at + 1);
-        }
-    }
-    Start::Nothing
-}
+    ghost next_gives = { TakesToken };
 
-// Whether the token that starts at an index is the given one.
-pub fn spells(line: &[u8], from: usize, name: &[u8]) -> bool {
-    if line.len() < from {
-        return false;
-    }
-    if line.len() - from < name.len() {
-        return false;
-    }
-    if !ends(line, from + name.len()) {
-        return false;
-    }
-    let mut left = name.len();
-    while 0 < left {
-        left -= 1;
-        if line[from + left] != name[left] {
-            return false;
-        }
-    }
-    true
-}
+    ghost remaining = { λ s. at_most (option_map_or (λ r. 1 + length r.now) s.rest 0) };
 
-// The cursor past the token that starts at an index.
-pub fn past(line: &[u8], from: usize) -> Cursor {
-    let mut at = from;
-    while at < line.len() {
-        if line[at] == b' ' {
-            return Cursor { at };
-        }
-        at += 1;
+    fn next(&mut self) -> Option<&'a [u8]> {
+        let line = self.rest?;
+        let Some(end) = first_space(line) else {
+            self.rest = None;
+            return Some(line);
+        };
+        self.rest = Some(&line[end + 1..]);
+        Some(&line[..end])
     }
-    Cursor { at }
 }
