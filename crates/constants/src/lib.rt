@@ -65,14 +65,12 @@ fn const_fields(consts: &[u32]) -> bool
             at = next;
             continue 'values;
         }
-        let mut field = address_behind(at, 1);
-        while field.0 < next.0 {
-            let i = field.0;
-            if !const_field(consts, consts[i]) {
+        let first = address_behind(at, 1);
+        for w in &consts[first.0..next.0] {
+            if !const_field(consts, *w) {
                 fine = false;
                 break 'values;
             }
-            field = address_behind(field, 1);
         }
         at = next;
     }

@@ -9,7 +9,7 @@ ghost use Rattle.rules.specs.Memory.{lent, status_of};
 ghost use Rattle.rules.specs.Refusals.{Admitted};
 ghost use Rattle.rules.specs.Audit.{rule2 as rule2_of};
 
-use conversions::{next_region, region_numbered};
+use conversions::region_numbered;
 use pages::all_zero;
 use rows::status_of;
 use rules::{Address, Control};
@@ -32,16 +32,7 @@ fn idle(table: &[u32], regions: usize) -> bool
     requires { (length table.now ≡ 256) × (regions ≤ 64) }
     ensures { result ≡ all_below (λ j. eqb (status_of table.now j) 0) regions }
 {
-    let mut j = region_numbered(0);
-    let mut left = regions;
-    while 0 < left {
-        if status_of(table, j) != 0 {
-            return false;
-        }
-        j = next_region(j);
-        left -= 1;
-    }
-    true
+    (0..regions).all(|j| status_of(table, region_numbered(j)) == 0)
 }
 
 // Rule 2: R at most 64, table words past 4R are 0, each b is 0.

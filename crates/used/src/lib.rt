@@ -44,8 +44,7 @@ fn region_used(heap: &[u32], table: &[u32], n: u32, j: Region) -> u32
     let pages = page_count(heap.len(), n) as u32;
     let mut used: u32 = 0;
     let mut link = first_link(table, j, n);
-    let mut left = pages;
-    'pages: while 0 < left {
+    'pages: for _ in 0..pages {
         if link == 0 {
             break 'pages;
         }
@@ -58,7 +57,6 @@ fn region_used(heap: &[u32], table: &[u32], n: u32, j: Region) -> u32
         let base = page_address(page, n);
         let i = base.0;
         link = heap[i];
-        left -= 1;
     }
     used
 }
