@@ -1,128 +1,101 @@
 // The report: what was met, and how it came out.
-ghost use Rattle.std.specs.Prelude.{◌≤◌, IfOk};
-
-use leaves::word;
+use samples::census::Census;
 use std::io;
 use std::io::Write;
-use trials::counts;
+use trials::counts::Sums;
 
-// The number at a place, and the end of its line.
-fn number(out: &mut impl Write, sums: &[u32], k: usize) -> io::Result<()> {
-    let n = word(sums, k);
-    writeln!(out, " {n}")
-}
-
-// A byte of a name, or at its end the number at place k; the place that comes next. A dash leaves a place out. The only error is that of a write
-// that fails; it leaves nothing but what was printed.
-fn byte(out: &mut impl Write, b: u8, sums: &[u32], k: usize) -> io::Result<usize>
-    requires { k ≤ 64 }
-    ensures { IfOk result (λ next. next ≤ 64) }
-{
-    if b == b'-' {
-        return Ok((k + 1) % 64);
-    }
-    if b == b'\n' {
-        number(out, sums, k)?;
-        return Ok((k + 1) % 64);
-    }
-    out.write_all(&[b])?;
-    Ok(k)
-}
-
-// A line for each name, with the number at its place: the first at `from`, each next one at the next.
-fn lines(out: &mut impl Write, names: &[u8], sums: &[u32], from: usize) -> io::Result<()>
-    requires { from ≤ 64 }
-{
-    let mut i: usize = 0;
-    let mut k = from;
-    while i < names.len() {
-        k = byte(out, names[i], sums, k)?;
-        i += 1;
-    }
-    Ok(())
-}
-
-fn shapes(out: &mut impl Write, sums: &[u32]) -> io::Result<()> {
-    lines(
+fn shapes(out: &mut impl Write, sums: &Sums) -> io::Result<()> {
+    let [.., n4, n5, n6, n7, n8] = sums.of_exponent;
+    writeln!(out, "heaps {}", sums.heaps)?;
+    writeln!(out, "  of pages of 16 words {n4}")?;
+    writeln!(out, "  of pages of 32 words {n5}")?;
+    writeln!(out, "  of pages of 64 words {n6}")?;
+    writeln!(out, "  of pages of 128 words {n7}")?;
+    writeln!(out, "  of pages of 256 words {n8}")?;
+    writeln!(out, "  of no region {}", sums.of_no_region)?;
+    writeln!(out, "  of 64 regions {}", sums.of_all_regions)?;
+    writeln!(out, "  of 65,536 words {}", sums.of_all_words)?;
+    writeln!(out, "  of 1,024 roots {}", sums.of_all_roots)?;
+    writeln!(
         out,
-        b"heaps
-  of pages of 16 words
-  of pages of 32 words
-  of pages of 64 words
-  of pages of 128 words
-  of pages of 256 words
-  of no region
-  of 64 regions
-  of 65,536 words
-  of 1,024 roots
-  with fewer free pages than regions
-roots that point to values
-",
-        sums,
-        counts::HEAPS,
+        "  with fewer free pages than regions {}",
+        sums.few_free
+    )?;
+    writeln!(out, "roots that point to values {}", sums.roots_to_values)
+}
+
+fn pages(out: &mut impl Write, c: &Census) -> io::Result<()> {
+    writeln!(out, "  pages of regions {}", c.pages)?;
+    writeln!(out, "  full pages {}", c.full_pages)
+}
+
+fn values(out: &mut impl Write, c: &Census) -> io::Result<()> {
+    writeln!(out, "  records {}", c.records)?;
+    writeln!(out, "  raw values {}", c.raw_values)?;
+    writeln!(out, "  values of no words {}", c.bare_values)
+}
+
+fn fields(out: &mut impl Write, c: &Census) -> io::Result<()> {
+    writeln!(out, "  fields that are numbers {}", c.numbers)?;
+    writeln!(out, "  fields that point to constants {}", c.to_constants)?;
+    writeln!(out, "  fields that point to values {}", c.to_values)?;
+    writeln!(
+        out,
+        "  fields that point to their own value {}",
+        c.to_itself
+    )?;
+    writeln!(
+        out,
+        "  fields that point to a value that points back {}",
+        c.there_and_back
     )
 }
 
 // A census, under a title.
-fn kinds(out: &mut impl Write, title: &[u8], sums: &[u32], from: usize) -> io::Result<()>
-    requires { from ≤ 64 }
-{
-    out.write_all(title)?;
-    lines(
-        out,
-        b"  pages of regions
-  full pages
-  records
-  raw values
-  values of no words
-  fields that are numbers
-  fields that point to constants
-  fields that point to values
-  fields that point to their own value
-  fields that point to a value that points back
-",
-        sums,
-        from,
-    )
+fn kinds(out: &mut impl Write, title: &str, c: &Census) -> io::Result<()> {
+    writeln!(out, "{title}")?;
+    pages(out, c)?;
+    values(out, c)?;
+    fields(out, c)
 }
 
-fn endings(out: &mut impl Write, sums: &[u32]) -> io::Result<()> {
-    lines(
+fn endings(out: &mut impl Write, sums: &Sums) -> io::Result<()> {
+    writeln!(out, "finished {}", sums.finished)?;
+    writeln!(out, "  that gained pages {}", sums.gained)?;
+    writeln!(out, "  pages gained {}", sums.pages_gained)?;
+    writeln!(out, "  that lost pages {}", sums.lost)?;
+    writeln!(out, "  pages lost {}", sums.pages_lost)?;
+    writeln!(
         out,
-        b"finished
-  that gained pages
-  pages gained
-  that lost pages
-  pages lost
-  that fail the audit afterwards
-refused for want of a page
-  after each region had its fresh page
-refused else
-differences
-",
-        sums,
-        counts::FINISHED,
-    )
+        "  that fail the audit afterwards {}",
+        sums.broken_after
+    )?;
+    writeln!(out, "refused for want of a page {}", sums.no_page)?;
+    writeln!(
+        out,
+        "  after each region had its fresh page {}",
+        sums.no_page_later
+    )?;
+    writeln!(out, "refused else {}", sums.refused_else)?;
+    writeln!(out, "differences {}", sums.differences)
 }
 
-pub fn samples(out: &mut impl Write, sums: &[u32]) -> io::Result<()> {
+pub fn samples(out: &mut impl Write, sums: &Sums) -> io::Result<()> {
     shapes(out, sums)?;
-    kinds(out, b"before the collections\n", sums, counts::BEFORE)?;
-    kinds(out, b"after those that finished\n", sums, counts::LIVING)?;
+    kinds(out, "before the collections", &sums.before)?;
+    kinds(out, "after those that finished", &sums.living)?;
     endings(out, sums)
 }
 
-pub fn images(out: &mut impl Write, sums: &[u32]) -> io::Result<()> {
-    lines(out, b"images\n", sums, counts::HEAPS)?;
-    lines(
+pub fn images(out: &mut impl Write, sums: &Sums) -> io::Result<()> {
+    writeln!(out, "images {}", sums.heaps)?;
+    writeln!(out, "  finished {}", sums.finished)?;
+    writeln!(out, "  refused for want of a page {}", sums.no_page)?;
+    writeln!(out, "  refused else {}", sums.refused_else)?;
+    writeln!(out, "  collectors that differ {}", sums.differences)?;
+    writeln!(
         out,
-        b"  finished
------  refused for want of a page
--  refused else
-  collectors that differ
-  texts that differ from their answers
-",
-        sums,
-        counts::FINISHED,
+        "  texts that differ from their answers {}",
+        sums.texts_differ
     )
 }

@@ -1,5 +1,5 @@
 // The calls that make a sample. A refused one changes nothing, so they can be asked at random.
-ghost use Rattle.std.specs.Prelude.{◌<◌};
+ghost use Rattle.std.specs.Prelude.{◌<◌, ◌≤◌};
 
 use crate::chance::{below, next};
 use crate::shape::Shape;
@@ -12,11 +12,18 @@ use regions::push;
 use rules::{Control, Kind, Opened, Plain, Region, Valued};
 use setting_up::set_up;
 
-// Where the making stands: the generator and the record.
+// A sample that is being made: the lent parts and the record; where the generator stands; of four fields, how many are pointers to values; and
+// the bag: a pool of 64 words, and room for the longest value.
 #[derive(Drop)]
-pub struct Stand {
-    pub x: u32,
-    pub c: Control,
+struct Making<'h, 't, 'r, 'c> {
+    heap: &'h mut [u32],
+    table: &'t mut [u32],
+    roots: &'r mut [u32],
+    consts: &'c [u32],
+    c: Control,
+    x: u32,
+    pointers: u32,
+    bag: [u32; 317],
 }
 
 pub fn record_of(p: Plain) -> Control {
@@ -39,317 +46,200 @@ fn opened(o: Opened) -> Control {
     }
 }
 
-// So many regions, as far as there are pages.
-fn push_all(
-    heap: &mut [u32],
-    table: &mut [u32],
-    roots: &[u32],
-    consts: &[u32],
-    c: Control,
-    regions: u32,
-) -> Control {
-    let mut now = c;
-    let mut left = regions;
-    while 0 < left {
-        now = record_of(push(heap, table, roots, consts, now));
-        left -= 1;
-    }
-    now
-}
-
-// One of the pool.
-fn pooled(bag: &[u32], x: u32) -> u32 {
-    narrow(word(bag, below(x, 64) as usize))
-}
-
-// A word for a field: a number, a pointer to a constant, or one of the pool.
-fn word_for(bag: &[u32], x: u32, pointers: u32) -> u32 {
-    let y = next(x);
-    if below(x, 4) < pointers {
-        return pooled(bag, y);
-    }
-    if below(y, 3) == 0 {
-        return constant(next(y));
-    }
-    2 * below(y, 1000000) + 1
-}
-
-fn wide(w: u32) -> usize
-    ensures { result < 4294967296 }
-{
-    w as usize
-}
-
-fn narrow(w: usize) -> u32
-    requires { w < 4294967296 }
-{
-    w as u32
-}
-
 // A pointer to one of the constants.
 fn constant(x: u32) -> u32 {
-    let k = below(x, 4);
-    if k == 0 {
-        return 2;
+    match below(x, 4) {
+        0 => 2,
+        1 => 10,
+        2 => 22,
+        _ => 34,
     }
-    if k == 1 {
-        return 10;
-    }
-    if k == 2 {
-        return 22;
-    }
-    34
-}
-
-// A word for a field, or any word: it may look like a pointer.
-fn value_word(bag: &[u32], x: u32, pointers: u32, any: bool) -> u32 {
-    if any {
-        return x / 16;
-    }
-    word_for(bag, x, pointers)
-}
-
-// The first m words behind the pool become words for a value.
-fn fill_words(bag: &mut [u32], x: u32, pointers: u32, any: bool, m: usize) -> u32
-    requires { m < 4294967296 }
-{
-    let mut y = x;
-    let mut i: usize = 0;
-    while i < m {
-        y = next(y);
-        let w = wide(value_word(bag, y, pointers, any));
-        write(bag, 64 + i, w);
-        i += 1;
-    }
-    y
 }
 
 // The most words of a value in a page.
 fn longest(n: u32) -> usize
     ensures { result < 4294967296 }
 {
-    if n == 4 {
-        return 13;
+    match n {
+        4 => 13,
+        5 => 29,
+        6 => 61,
+        7 => 125,
+        _ => 253,
     }
-    if n == 5 {
-        return 29;
-    }
-    if n == 6 {
-        return 61;
-    }
-    if n == 7 {
-        return 125;
-    }
-    253
 }
 
-// What is left of region j's last page, as the length of a value that fills it.
-fn rest_of(table: &[u32], j: Region) -> usize
-    requires { j.0 < 4294967296 }
-    ensures { result < 4294967296 }
-{
-    let e = end_of(table, j);
-    let a = top_of(table, j);
-    if e.0 <= a.0 {
-        return 0;
+impl Making<'_, '_, '_, '_> {
+    // The generator's next number.
+    fn draw(&mut self) -> u32 {
+        self.x = next(self.x);
+        self.x
     }
-    e.0 - a.0 - 1
-}
 
-// A length: mostly short; now and then the longest, or the one that fills region j's page to its end.
-fn length_for(table: &[u32], x: u32, j: Region, n: u32) -> usize
-    requires { j.0 < 4294967296 }
-    ensures { result < 4294967296 }
-{
-    let class = below(x, 16);
-    if class == 0 {
-        return longest(n);
+    // One of the pool.
+    fn pooled(&self, x: u32) -> u32 {
+        self.bag[below(x, 64) as usize]
     }
-    if class < 3 {
-        return rest_of(table, j);
-    }
-    below(next(x), 9) as usize
-}
 
-// The record after an allocation; the pointer to a new value goes into the pool.
-fn stored(bag: &mut [u32], x: u32, v: Valued) -> Control {
-    match v {
-        Valued::Done(w, c) => {
-            write(bag, below(x, 64) as usize, wide(w));
-            c
+    // A word for a field: a number, a pointer to a constant, or one of the pool.
+    fn word_for(&self, x: u32, pointers: u32) -> u32 {
+        let y = next(x);
+        if below(x, 4) < pointers {
+            return self.pooled(y);
         }
-        Valued::Refused(_, c) => c,
-    }
-}
-
-// A value more in region j: of the first m words behind the pool.
-fn store(
-    heap: &mut [u32],
-    table: &mut [u32],
-    roots: &[u32],
-    consts: &[u32],
-    bag: &mut [u32],
-    s: Stand,
-    j: Region,
-    kind: Kind,
-    m: usize,
-) -> Control
-    requires { m < 4294967296 }
-{
-    let end = 64 + m;
-    if bag.len() < end {
-        return s.c;
-    }
-    let v = allocate(heap, table, roots, consts, s.c, j, kind, &bag[64..end]);
-    stored(bag, s.x, v)
-}
-
-fn kind_for(any: bool) -> Kind {
-    if any { Kind::Raw } else { Kind::Record }
-}
-
-fn one_value(
-    heap: &mut [u32],
-    table: &mut [u32],
-    roots: &[u32],
-    consts: &[u32],
-    bag: &mut [u32],
-    s: Stand,
-    pointers: u32,
-) -> Stand {
-    let c = s.c;
-    let x = next(s.x);
-    let j = region_numbered(wide(below(x, c.regions)));
-    let y = next(x);
-    let m = length_for(table, y, j, c.n);
-    let any = below(next(y), 4) == 0;
-    let z = fill_words(bag, y, pointers, any, m);
-    let at = Stand { x: z, c: c };
-    let d = store(heap, table, roots, consts, bag, at, j, kind_for(any), m);
-    Stand { x: z, c: d }
-}
-
-// A field of one of the pool becomes a word: often the pointer to its own value.
-fn one_assign(
-    heap: &mut [u32],
-    table: &[u32],
-    roots: &[u32],
-    consts: &[u32],
-    bag: &[u32],
-    s: Stand,
-    pointers: u32,
-) -> Stand {
-    let x = next(s.x);
-    let target = pooled(bag, x);
-    let y = next(x);
-    let field = below(y, 9) as usize;
-    let z = next(y);
-    let w = if below(z, 4) == 0 {
-        target
-    } else {
-        word_for(bag, z, pointers)
-    };
-    let c = record_of(assign(heap, table, roots, consts, s.c, target, field, w));
-    Stand { x: z, c: c }
-}
-
-// Two of the pool become each other's first field.
-fn one_pair(
-    heap: &mut [u32],
-    table: &[u32],
-    roots: &[u32],
-    consts: &[u32],
-    bag: &[u32],
-    s: Stand,
-) -> Stand {
-    let x = next(s.x);
-    let a = pooled(bag, x);
-    let y = next(x);
-    let b = pooled(bag, y);
-    let c = record_of(assign(heap, table, roots, consts, s.c, a, 0, b));
-    let d = record_of(assign(heap, table, roots, consts, c, b, 0, a));
-    Stand { x: y, c: d }
-}
-
-// A step: a value more, a field, two fields.
-fn one_step(
-    heap: &mut [u32],
-    table: &mut [u32],
-    roots: &[u32],
-    consts: &[u32],
-    bag: &mut [u32],
-    s: Stand,
-    pointers: u32,
-) -> Stand {
-    let x = next(s.x);
-    let c = s.c;
-    let at = Stand { x: x, c: c };
-    let class = below(x, 8);
-    if class < 6 {
-        return one_value(heap, table, roots, consts, bag, at, pointers);
-    }
-    if class == 6 {
-        return one_assign(heap, table, roots, consts, bag, at, pointers);
-    }
-    one_pair(heap, table, roots, consts, bag, at)
-}
-
-// Steps until no more pages are free than shall stay, and a few in any case.
-fn steps(
-    heap: &mut [u32],
-    table: &mut [u32],
-    roots: &[u32],
-    consts: &[u32],
-    bag: &mut [u32],
-    s: Stand,
-    shape: Shape,
-) -> Stand {
-    let mut now = s;
-    let mut left: u32 = 40000;
-    while 0 < left {
-        if left < 39988 && now.c.count <= shape.keep {
-            return now;
+        if below(y, 3) == 0 {
+            return constant(next(y));
         }
-        now = one_step(heap, table, roots, consts, bag, now, shape.pointers);
-        left -= 1;
+        2 * below(y, 1000000) + 1
     }
-    now
-}
 
-// Each root becomes a word.
-fn name_roots(
-    heap: &[u32],
-    table: &[u32],
-    roots: &mut [u32],
-    consts: &[u32],
-    bag: &[u32],
-    s: Stand,
-) -> Control {
-    let mut now = s;
-    let mut i: usize = 0;
-    while i < roots.len() {
-        let x = next(now.x);
-        let w = word_for(bag, x, 3);
-        let c = record_of(set_root(heap, table, roots, consts, now.c, i, w));
-        now = Stand { x: x, c: c };
-        i += 1;
+    // The first m words behind the pool become words for a value. Raw words may look like pointers.
+    fn fill_words(&mut self, kind: Kind, m: usize)
+        requires { m < 4294967296 }
+    {
+        let pointers = self.pointers;
+        for i in 0..m {
+            let x = self.draw();
+            let w = match kind {
+                Kind::Raw => x / 16,
+                Kind::Record => self.word_for(x, pointers),
+            };
+            write(&mut self.bag, 64 + i, w as usize);
+        }
     }
-    now.c
+
+    // What is left of region j's last page, as the length of a value that fills it.
+    fn rest_of(&self, j: Region) -> usize
+        requires { j.0 < 4294967296 }
+        ensures { result < 4294967296 }
+    {
+        let e = end_of(self.table, j);
+        let a = top_of(self.table, j);
+        if e.0 <= a.0 {
+            return 0;
+        }
+        e.0 - a.0 - 1
+    }
+
+    // A length: mostly short; now and then the longest, or the one that fills region j's page to its end.
+    fn length_for(&self, x: u32, j: Region) -> usize
+        requires { j.0 < 4294967296 }
+        ensures { result < 4294967296 }
+    {
+        match below(x, 16) {
+            0 => longest(self.c.n),
+            1 | 2 => self.rest_of(j),
+            _ => below(next(x), 9) as usize,
+        }
+    }
+
+    // A value more in region j, of the first m words behind the pool, if there is room for them; the pointer to it goes into the pool.
+    fn store(&mut self, j: Region, kind: Kind, m: usize)
+        requires { m < 4294967296 }
+    {
+        let (consts, c) = (self.consts, self.c);
+        let roots = &mut *self.roots;
+        let Some(words) = self.bag.get_mut(64..64 + m) else {
+            return;
+        };
+        let v = allocate(self.heap, self.table, roots, consts, c, j, kind, words);
+        match v {
+            Valued::Done(w, c) => {
+                self.c = c;
+                self.bag[below(self.x, 64) as usize] = w;
+            }
+            Valued::Refused(_, c) => self.c = c,
+        }
+    }
+
+    fn one_value(&mut self) {
+        let x = self.draw();
+        let j = region_numbered(below(x, self.c.regions) as usize);
+        let y = self.draw();
+        let m = self.length_for(y, j);
+        let kind = if below(next(y), 4) == 0 {
+            Kind::Raw
+        } else {
+            Kind::Record
+        };
+        self.fill_words(kind, m);
+        self.store(j, kind, m);
+    }
+
+    // A field of one of the pool becomes a word.
+    fn assigned(&mut self, target: u32, field: usize, w: u32) {
+        let (consts, c) = (self.consts, self.c);
+        let (table, roots) = (&mut *self.table, &mut *self.roots);
+        self.c = record_of(assign(self.heap, table, roots, consts, c, target, field, w));
+    }
+
+    // A field of one of the pool becomes a word: often the pointer to its own value.
+    fn one_assign(&mut self) {
+        let pointers = self.pointers;
+        let x = self.draw();
+        let target = self.pooled(x);
+        let field = below(self.draw(), 9) as usize;
+        let z = self.draw();
+        let w = if below(z, 4) == 0 {
+            target
+        } else {
+            self.word_for(z, pointers)
+        };
+        self.assigned(target, field, w);
+    }
+
+    // Two of the pool become each other's first field.
+    fn one_pair(&mut self) {
+        let x = self.draw();
+        let a = self.pooled(x);
+        let y = self.draw();
+        let b = self.pooled(y);
+        self.assigned(a, 0, b);
+        self.assigned(b, 0, a);
+    }
+
+    // A step: a value more, a field, two fields.
+    fn one_step(&mut self) {
+        let x = self.draw();
+        match below(x, 8) {
+            0..=5 => self.one_value(),
+            6 => self.one_assign(),
+            _ => self.one_pair(),
+        }
+    }
+
+    // So many regions, as far as there are pages.
+    fn push_all(&mut self, regions: u32) {
+        for _ in 0..regions {
+            let (consts, c) = (self.consts, self.c);
+            let roots = &mut *self.roots;
+            self.c = record_of(push(self.heap, self.table, roots, consts, c));
+        }
+    }
+
+    // Steps until no more pages are free than shall stay, and a few in any case.
+    fn steps(&mut self, keep: u32) {
+        for i in 0..40000u32 {
+            if 12 < i && self.c.count <= keep {
+                return;
+            }
+            self.one_step();
+        }
+    }
+
+    // Each root becomes a word.
+    fn name_roots(&mut self) {
+        for i in 0..self.roots.len() {
+            let x = self.draw();
+            let w = self.word_for(x, 3);
+            let (consts, c) = (self.consts, self.c);
+            let (heap, table) = (&mut *self.heap, &mut *self.table);
+            self.c = record_of(set_root(heap, table, self.roots, consts, c, i, w));
+        }
+    }
 }
 
-// A sample of this shape, its regions empty.
-fn begin(
-    heap: &mut [u32],
-    table: &mut [u32],
-    roots: &mut [u32],
-    consts: &[u32],
-    shape: Shape,
-) -> Control {
-    let c = opened(set_up(heap, table, roots, consts, shape.n));
-    push_all(heap, table, roots, consts, c, shape.regions)
-}
-
-// The sample with the start x. The bag has a pool of 64 words, and room for the longest value.
+// The sample with the start x.
 pub fn make(
     heap: &mut [u32],
     table: &mut [u32],
@@ -358,9 +248,19 @@ pub fn make(
     x: u32,
     shape: Shape,
 ) -> Control {
-    let mut bag = [1u32; 317];
-    let c = begin(heap, table, roots, consts, shape);
-    let s = Stand { x: x, c: c };
-    let t = steps(heap, table, roots, consts, &mut bag, s, shape);
-    name_roots(heap, table, roots, consts, &bag, t)
+    let c = opened(set_up(heap, table, roots, consts, shape.n));
+    let mut making = Making {
+        heap,
+        table,
+        roots,
+        consts,
+        c,
+        x,
+        pointers: shape.pointers,
+        bag: [1; 317],
+    };
+    making.push_all(shape.regions);
+    making.steps(shape.keep);
+    making.name_roots();
+    making.c
 }

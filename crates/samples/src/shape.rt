@@ -19,67 +19,51 @@ pub struct Shape {
 fn most_pages(n: u32) -> u32
     ensures { (0 < result) × (result ≤ 4096) }
 {
-    if n == 4 {
-        return 4096;
+    match n {
+        4 => 4096,
+        5 => 2048,
+        6 => 1024,
+        7 => 512,
+        _ => 256,
     }
-    if n == 5 {
-        return 2048;
-    }
-    if n == 6 {
-        return 1024;
-    }
-    if n == 7 {
-        return 512;
-    }
-    256
 }
 
 // Mostly a few pages, now and then all that a heap can have.
 fn pages_for(x: u32, n: u32) -> u32 {
     let y = next(x);
-    let class = below(x, 16);
-    if class < 4 {
-        return 2 + below(y, 14);
+    match below(x, 16) {
+        0..=3 => 2 + below(y, 14),
+        4..=13 => 8 + below(y, 120),
+        14 => 2 + below(y, most_pages(n) - 1),
+        _ => most_pages(n),
     }
-    if class < 14 {
-        return 8 + below(y, 120);
-    }
-    if class < 15 {
-        return 2 + below(y, most_pages(n) - 1);
-    }
-    most_pages(n)
 }
 
 fn regions_for(x: u32) -> u32 {
     let y = next(x);
-    let class = below(x, 8);
-    if class == 0 {
-        return below(y, 2);
+    match below(x, 8) {
+        0 => below(y, 2),
+        1..=5 => 1 + below(y, 4),
+        6 => 1 + below(y, 20),
+        _ => 64,
     }
-    if class < 6 {
-        return 1 + below(y, 4);
-    }
-    if class == 6 {
-        return 1 + below(y, 20);
-    }
-    64
 }
 
 // A quarter of the samples are left with few free pages.
 fn keep_for(x: u32, pages: u32, regions: u32) -> u32 {
     let y = next(x);
-    if below(x, 4) == 0 {
-        return below(y, 2 * (regions % 65) + 3);
+    match below(x, 4) {
+        0 => below(y, 2 * (regions % 65) + 3),
+        _ => below(y, pages),
     }
-    below(y, pages)
 }
 
 fn roots_for(x: u32) -> u32 {
     let y = next(x);
-    if below(x, 16) == 0 {
-        return 1024;
+    match below(x, 16) {
+        0 => 1024,
+        _ => below(y, 12),
     }
-    below(y, 12)
 }
 
 // The shape of the sample with this start.
@@ -92,9 +76,9 @@ pub fn shape_of(x: u32) -> Shape {
     let pages = pages_for(a, n);
     let regions = regions_for(b);
     Shape {
-        n: n,
-        pages: pages,
-        regions: regions,
+        n,
+        pages,
+        regions,
         keep: keep_for(c, pages, regions),
         roots: roots_for(d),
         pointers: below(next(d), 5),

@@ -19,7 +19,7 @@
 
 #![tactic(auto)]
 
-ghost use Rattle.std.specs.Prelude.{◌≡◌, ◌+◌, ◌≤◌, ◌<◌};
+ghost use Rattle.std.specs.Prelude.{◌≡◌, ◌+◌, ◌≤◌, ◌<◌, IfOk, IfSome};
 
 use rules::{Address, Control, Page, Region};
 
@@ -64,40 +64,23 @@ const SIDE: usize = 67018;
 
 const FREE: usize = 329162;
 
-fn wide(w: u32) -> usize
-    ensures { result < 4294967296 }
-{
-    w as usize
-}
-
 // The word at a place, 0 outside.
 fn get(words: &[u32], i: usize) -> usize
     ensures { result < 4294967296 }
 {
-    if words.len() <= i {
-        return 0;
-    }
-    wide(words[i])
+    words.get(i).map_or(0, |w| *w as usize)
 }
 
 // A word stored, nothing outside.
 fn put(words: &mut [u32], i: usize, w: u32) {
-    if words.len() <= i {
-        return;
+    if let Some(place) = words.get_mut(i) {
+        *place = w;
     }
-    words[i] = w;
 }
 
 // A number stored as a word.
 fn set(words: &mut [u32], i: usize, v: usize) {
     put(words, i, (v % 4294967296) as u32);
-}
-
-// The words of a page.
-fn size(n: usize) -> usize
-    ensures { result < 65536 }
-{
-    (1usize << (n % 16)) % 65536
 }
 
 // ---- Pages, regions and addresses: each is made here only, from its number, from a word that stands for it, or from another of the three.
@@ -117,11 +100,10 @@ fn address_in(words: &[u32], i: usize) -> Address
 }
 
 // The page that a link names.
-fn named_page(link: usize) -> Page {
-    if link == 0 {
-        return Page(0);
-    }
-    Page(link - 1)
+fn named_page(link: usize) -> Option<Page>
+    ensures { IfSome result (λ k. k.0 + 1 ≡ link) }
+{
+    link.checked_sub(1).map(Page)
 }
 
 // The link that names a page.
@@ -130,20 +112,6 @@ fn link_to(k: Page) -> usize
     ensures { result ≤ 4294967296 }
 {
     k.0 + 1
-}
-
-// The first address of a page.
-fn base(k: Page, n: usize) -> Address
-    ensures { result.0 < 4294967296 }
-{
-    Address((k.0 << (n % 16)) % 4294967296)
-}
-
-// The page that an address lies in.
-fn page_at(a: Address, n: usize) -> Page
-    ensures { result.0 < 4294967296 }
-{
-    Page((a.0 >> (n % 16)) % 4294967296)
 }
 
 // The address m words behind another.
@@ -169,14 +137,6 @@ fn pointer_to(a: Address) -> usize
     4 * a.0
 }
 
-// The region above region j.
-fn next_region(j: Region) -> Region
-    requires { j.0 < 4294967296 }
-    ensures { result.0 ≡ j.0 + 1 }
-{
-    Region(j.0 + 1)
-}
-
 // The origin of region j's pages.
 fn origin_of(j: Region) -> usize
     requires { j.0 < 4294967296 }
@@ -185,458 +145,423 @@ fn origin_of(j: Region) -> usize
 }
 
 // The region whose pages have an origin.
-fn region_from(origin: usize) -> Region
-    requires { (0 < origin) × (origin < 4294967296) }
-    ensures { result.0 < 4294967296 }
+fn region_from(origin: usize) -> Option<Region>
+    ensures { IfSome result (λ j. j.0 + 1 ≡ origin) }
 {
-    Region(origin - 1)
+    origin.checked_sub(1).map(Region)
 }
 
 // ---- The collection.
 
-// m words of the one slice from a on, into the other from b on.
-fn copy_words(from: &[u32], to: &mut [u32], a: usize, b: usize, m: usize)
-    requires { (a < 4294967296) × (b < 4294967296) × (m ≤ 4294967296) }
-{
-    let mut i: usize = 0;
-    while i < m {
-        set(to, b + i, get(from, a + i));
-        i += 1;
+// A page is lacking.
+#[derive(Clone, Copy)]
+pub struct NoPage;
+
+// The heap that is read, the second heap with the books behind it, and the page exponent of both.
+#[derive(Drop)]
+struct Pass<'o, 'n> {
+    old: &'o [u32],
+    new: &'n mut [u32],
+    n: usize,
+}
+
+impl Pass<'_, '_> {
+    // The words of a page.
+    fn size(&self) -> usize
+        ensures { result < 65536 }
+    {
+        (1usize << (self.n % 16)) % 65536
     }
-}
 
-// A page at the end of the list of free pages, as a link.
-fn list_page(new: &mut [u32], link: usize) {
-    let listed = get(new, LISTED);
-    set(new, FREE + listed, link);
-    set(new, LISTED, listed + 1);
-}
+    // The first address of a page.
+    fn base(&self, k: Page) -> Address
+        ensures { result.0 < 4294967296 }
+    {
+        Address((k.0 << (self.n % 16)) % 4294967296)
+    }
 
-// The pages of a chain, listed in its order; at most `most`.
-fn list_chain(old: &[u32], new: &mut [u32], n: usize, link: usize, most: usize) {
-    let mut next = link;
-    let mut left = most;
-    while 0 < left {
-        if next == 0 {
+    // The page that an address lies in.
+    fn page_at(&self, a: Address) -> Page
+        ensures { result.0 < 4294967296 }
+    {
+        Page((a.0 >> (self.n % 16)) % 4294967296)
+    }
+
+    // m words from a on, copied into the second heap from b on.
+    fn copy_words(&mut self, a: usize, b: usize, m: usize)
+        requires { (a < 4294967296) × (b < 4294967296) × (m ≤ 4294967296) }
+    {
+        for i in 0..m {
+            set(self.new, b + i, get(self.old, a + i));
+        }
+    }
+
+    // A page at the end of the list of free pages, as a link.
+    fn list_page(&mut self, link: usize) {
+        let listed = get(self.new, LISTED);
+        set(self.new, FREE + listed, link);
+        set(self.new, LISTED, listed + 1);
+    }
+
+    // The pages of a chain, listed in its order; at most `most`.
+    fn list_chain(&mut self, link: usize, most: usize) {
+        let mut next = link;
+        for _ in 0..most {
+            let Some(k) = named_page(next) else {
+                return;
+            };
+            self.list_page(next);
+            next = get(self.old, self.base(k).0);
+        }
+    }
+
+    // The page at a place of the list, as a link.
+    fn listed_at(&self, i: usize) -> usize
+        requires { i < 4294967296 }
+        ensures { result < 4294967296 }
+    {
+        get(self.new, FREE + i)
+    }
+
+    // The next page of the list.
+    fn take(&mut self) -> Result<Page, NoPage>
+        ensures { IfOk result (λ k. k.0 < 4294967296) }
+    {
+        let taken = get(self.new, TAKEN);
+        if get(self.new, LISTED) <= taken {
+            return Err(NoPage);
+        }
+        set(self.new, TAKEN, taken + 1);
+        named_page(self.listed_at(taken)).ok_or(NoPage)
+    }
+
+    // A taken page becomes region j's last: its origin written, the region's e and a set. Its first address.
+    fn open(&mut self, j: Region, k: Page) -> Address
+        requires { j.0 < 4294967296 }
+    {
+        let at = self.base(k);
+        set(self.new, at.0 + 1, origin_of(j));
+        let end = behind(at, self.size());
+        set(self.new, TABLE + 4 * j.0, end.0);
+        let top = behind(at, 2);
+        set(self.new, TABLE + 4 * j.0 + 2, top.0);
+        at
+    }
+
+    // Region j takes its first page.
+    fn first_page(&mut self, j: Region) -> Result<(), NoPage>
+        requires { j.0 < 4294967296 }
+    {
+        let k = self.take()?;
+        let at = self.open(j, k);
+        set(self.new, TABLE + 4 * j.0 + 1, at.0);
+        Ok(())
+    }
+
+    // The page that ends at `end` linked to another.
+    fn link_last(&mut self, end: Address, k: Page)
+        requires { k.0 < 4294967296 }
+    {
+        if let Some(last) = end.0.checked_sub(self.size()) {
+            set(self.new, last, link_to(k));
+        }
+    }
+
+    // A page more for region j, to which its last one is linked.
+    fn next_page(&mut self, j: Region, end: Address) -> Result<(), NoPage>
+        requires { j.0 < 4294967296 }
+    {
+        let k = self.take()?;
+        self.link_last(end, k);
+        self.open(j, k);
+        Ok(())
+    }
+
+    // Room for m words in region j: where it stands, or in a page more.
+    fn make_room(&mut self, j: Region, m: usize) -> Result<(), NoPage>
+        requires { (j.0 < 4294967296) × (m ≤ 4294967296) }
+    {
+        let end = address_in(self.new, TABLE + 4 * j.0);
+        let top = address_in(self.new, TABLE + 4 * j.0 + 2);
+        if top.0 + m <= end.0 {
+            return Ok(());
+        }
+        self.next_page(j, end)
+    }
+
+    // Copy number i goes behind the copy that was the last of its region, number plus 1, if there was one.
+    fn link_copy(&mut self, before: usize, i: usize)
+        requires { (before < 4294967296) × (i < 4294967296) }
+    {
+        if 0 < before {
+            set(self.new, SIDE + 4 * (before - 1) + 3, i + 1);
+        }
+    }
+
+    // A region of which all was scanned has copy number i to scan, and goes on the stack.
+    fn wake(&mut self, j: Region, i: usize)
+        requires { (j.0 < 4294967296) × (i < 4294967296) }
+    {
+        if 0 < get(self.new, NEXT_COPY + 2 * j.0) {
             return;
         }
-        list_page(new, next);
-        let at = base(named_page(next), n);
-        next = get(old, at.0);
-        left -= 1;
+        set(self.new, NEXT_COPY + 2 * j.0, i + 1);
+        let depth = get(self.new, DEPTH);
+        set(self.new, STACK + depth, j.0);
+        set(self.new, DEPTH, depth + 1);
     }
-}
 
-// The page at a place of the list, as a link.
-fn listed_at(new: &[u32], i: usize) -> usize
-    requires { i < 4294967296 }
-    ensures { result ≤ 4294967296 }
-{
-    get(new, FREE + i)
-}
-
-// The next page of the list, as a link; 0 where the list is used up.
-fn take(new: &mut [u32]) -> usize
-    ensures { result ≤ 4294967296 }
-{
-    let taken = get(new, TAKEN);
-    if get(new, LISTED) <= taken {
-        return 0;
+    // Copy number i goes to the end of region j's list.
+    fn list_copy(&mut self, j: Region, i: usize)
+        requires { (j.0 < 4294967296) × (i < 4294967296) }
+    {
+        let before = get(self.new, LAST_COPY + 2 * j.0);
+        self.link_copy(before, i);
+        set(self.new, LAST_COPY + 2 * j.0, i + 1);
+        self.wake(j, i);
     }
-    set(new, TAKEN, taken + 1);
-    listed_at(new, taken)
-}
 
-// A taken page becomes region j's last: its origin written, the region's e and a set. Its first address.
-fn open(new: &mut [u32], n: usize, j: Region, k: Page) -> Address
-    requires { j.0 < 4294967296 }
-{
-    let at = base(k, n);
-    set(new, at.0 + 1, origin_of(j));
-    let end = behind(at, size(n));
-    set(new, TABLE + 4 * j.0, end.0);
-    let top = behind(at, 2);
-    set(new, TABLE + 4 * j.0 + 2, top.0);
-    at
-}
-
-// Each region takes its first page; false where a page is lacking.
-fn first_page(new: &mut [u32], n: usize, j: Region) -> bool
-    requires { j.0 < 4294967296 }
-{
-    let link = take(new);
-    if link == 0 {
-        return false;
+    // The next copy's number; it is of the value at a, and stands at b.
+    fn number_copy(&mut self, a: Address, b: Address) -> usize
+        requires { a.0 < 4294967296 }
+        ensures { result < 4294967296 }
+    {
+        set(self.new, SIDE + 4 * a.0, b.0);
+        let i = get(self.new, COPIED);
+        set(self.new, SIDE + 4 * i + 1, a.0);
+        set(self.new, SIDE + 4 * i + 2, b.0);
+        set(self.new, COPIED, i + 1);
+        i
     }
-    let at = open(new, n, j, named_page(link));
-    set(new, TABLE + 4 * j.0 + 1, at.0);
-    true
-}
 
-fn first_pages(new: &mut [u32], n: usize, regions: usize) -> bool
-    requires { regions ≤ 64 }
-{
-    let mut j = region_of(0);
-    while j.0 < regions {
-        if !first_page(new, n, j) {
-            return false;
+    // The value at a copied into region j, whose first unused address b has room for its m words.
+    fn copy_into(&mut self, a: Address, m: usize, j: Region)
+        requires { (a.0 < 4294967296) × (m ≤ 4294967296) × (j.0 < 4294967296) }
+    {
+        let b = address_in(self.new, TABLE + 4 * j.0 + 2);
+        self.copy_words(a.0, b.0, m);
+        let top = behind(b, m);
+        set(self.new, TABLE + 4 * j.0 + 2, top.0);
+        let i = self.number_copy(a, b);
+        self.list_copy(j, i);
+    }
+
+    // The value at a copied, if it was not yet.
+    fn copy_value(&mut self, a: Address) -> Result<(), NoPage>
+        requires { a.0 < 4294967296 }
+    {
+        if 0 < get(self.new, SIDE + 4 * a.0) {
+            return Ok(());
         }
-        j = next_region(j);
-    }
-    true
-}
-
-// The page that ends at `end` linked to another.
-fn link_last(new: &mut [u32], n: usize, end: Address, link: usize) {
-    let p = size(n);
-    if end.0 < p {
-        return;
-    }
-    set(new, end.0 - p, link);
-}
-
-// A page more for region j, to which its last one is linked; false where it is lacking.
-fn next_page(new: &mut [u32], n: usize, j: Region, end: Address) -> bool
-    requires { j.0 < 4294967296 }
-{
-    let link = take(new);
-    if link == 0 {
-        return false;
-    }
-    link_last(new, n, end, link);
-    open(new, n, j, named_page(link));
-    true
-}
-
-// Room for m words in region j: where it stands, or in a page more.
-fn make_room(new: &mut [u32], n: usize, j: Region, m: usize) -> bool
-    requires { (j.0 < 4294967296) × (m ≤ 4294967296) }
-{
-    let end = address_in(new, TABLE + 4 * j.0);
-    let top = address_in(new, TABLE + 4 * j.0 + 2);
-    if top.0 + m <= end.0 {
-        return true;
-    }
-    next_page(new, n, j, end)
-}
-
-// Copy number i goes behind the copy that was the last of its region.
-fn link_copy(new: &mut [u32], before: usize, i: usize)
-    requires { (before < 4294967296) × (i < 4294967296) }
-{
-    if before == 0 {
-        return;
-    }
-    set(new, SIDE + 4 * (before - 1) + 3, i + 1);
-}
-
-// A region of which all was scanned has copy number i to scan, and goes on the stack.
-fn wake(new: &mut [u32], j: Region, i: usize)
-    requires { (j.0 < 4294967296) × (i < 4294967296) }
-{
-    if 0 < get(new, NEXT_COPY + 2 * j.0) {
-        return;
-    }
-    set(new, NEXT_COPY + 2 * j.0, i + 1);
-    let depth = get(new, DEPTH);
-    set(new, STACK + depth, j.0);
-    set(new, DEPTH, depth + 1);
-}
-
-// Copy number i goes to the end of region j's list.
-fn list_copy(new: &mut [u32], j: Region, i: usize)
-    requires { (j.0 < 4294967296) × (i < 4294967296) }
-{
-    let before = get(new, LAST_COPY + 2 * j.0);
-    link_copy(new, before, i);
-    set(new, LAST_COPY + 2 * j.0, i + 1);
-    wake(new, j, i);
-}
-
-// The next copy's number; it is of the value at a, and stands at b.
-fn number_copy(new: &mut [u32], a: Address, b: Address) -> usize
-    requires { a.0 < 4294967296 }
-    ensures { result < 4294967296 }
-{
-    set(new, SIDE + 4 * a.0, b.0);
-    let i = get(new, COPIED);
-    set(new, SIDE + 4 * i + 1, a.0);
-    set(new, SIDE + 4 * i + 2, b.0);
-    set(new, COPIED, i + 1);
-    i
-}
-
-// The value at a copied into region j, whose first unused address b has room for its m words.
-fn copy_into(old: &[u32], new: &mut [u32], a: Address, m: usize, j: Region)
-    requires { (a.0 < 4294967296) × (m ≤ 4294967296) × (j.0 < 4294967296) }
-{
-    let b = address_in(new, TABLE + 4 * j.0 + 2);
-    copy_words(old, new, a.0, b.0, m);
-    let top = behind(b, m);
-    set(new, TABLE + 4 * j.0 + 2, top.0);
-    let i = number_copy(new, a, b);
-    list_copy(new, j, i);
-}
-
-// The value at a copied, if it was not yet; false where a page is lacking.
-fn copy_value(old: &[u32], new: &mut [u32], n: usize, a: Address) -> bool
-    requires { a.0 < 4294967296 }
-{
-    if 0 < get(new, SIDE + 4 * a.0) {
-        return true;
-    }
-    let m = get(old, a.0) / 8 + 1;
-    let at = base(page_at(a, n), n);
-    let origin = get(old, at.0 + 1);
-    if origin == 0 {
-        return true;
-    }
-    let j = region_from(origin);
-    if !make_room(new, n, j, m) {
-        return false;
-    }
-    copy_into(old, new, a, m, j);
-    true
-}
-
-// The word that stands for w after the collection.
-fn new_word(new: &[u32], w: usize) -> usize
-    requires { w < 4294967296 }
-{
-    if w % 4 != 0 {
-        return w;
-    }
-    let a = named_address(w);
-    pointer_to(address_in(new, SIDE + 4 * a.0))
-}
-
-// The value that a word points to copied, if it points into the heap.
-fn copy_named(old: &[u32], new: &mut [u32], n: usize, w: usize) -> bool
-    requires { w < 4294967296 }
-{
-    if w % 4 != 0 {
-        return true;
-    }
-    copy_value(old, new, n, named_address(w))
-}
-
-// The values that the m words from a on point to, in order.
-fn copy_all(old: &[u32], new: &mut [u32], n: usize, a: usize, m: usize) -> bool
-    requires { (a ≤ 4294967296) × (m ≤ 4294967296) }
-{
-    let mut i: usize = 0;
-    while i < m {
-        let w = get(old, a + i);
-        if !copy_named(old, new, n, w) {
-            return false;
+        let m = get(self.old, a.0) / 8 + 1;
+        let at = self.base(self.page_at(a));
+        let origin = get(self.old, at.0 + 1);
+        if let Some(j) = region_from(origin) {
+            self.make_room(j, m)?;
+            self.copy_into(a, m, j);
         }
-        i += 1;
+        Ok(())
     }
-    true
-}
 
-// The m words from a on as they are after the collection, from b on in the second heap.
-fn write_all(old: &[u32], new: &mut [u32], a: usize, b: usize, m: usize)
-    requires { (a ≤ 4294967296) × (b ≤ 4294967296) × (m ≤ 4294967296) }
-{
-    let mut i: usize = 0;
-    while i < m {
-        let w = new_word(new, get(old, a + i));
-        set(new, b + i, w);
-        i += 1;
-    }
-}
-
-// Copy number i scanned: a record's fields; raw words stay as they were copied.
-fn scan_copy(old: &[u32], new: &mut [u32], n: usize, i: usize) -> bool
-    requires { i < 4294967296 }
-{
-    let a = address_in(new, SIDE + 4 * i + 1);
-    let header = get(old, a.0);
-    if header % 8 != 1 {
-        return true;
-    }
-    let m = header / 8;
-    if !copy_all(old, new, n, a.0 + 1, m) {
-        return false;
-    }
-    let b = address_in(new, SIDE + 4 * i + 2);
-    write_all(old, new, a.0 + 1, b.0 + 1, m);
-    true
-}
-
-// The next copy of region j, number i, scanned; the one behind it is the next then.
-fn scan_next(old: &[u32], new: &mut [u32], n: usize, j: Region, i: usize) -> bool
-    requires { (j.0 < 4294967296) × (i < 4294967296) }
-{
-    if !scan_copy(old, new, n, i) {
-        return false;
-    }
-    let next = get(new, SIDE + 4 * i + 3);
-    set(new, NEXT_COPY + 2 * j.0, next);
-    true
-}
-
-// Region j scanned to its end: no more copies than a heap has words.
-fn scan_region(old: &[u32], new: &mut [u32], n: usize, j: Region) -> bool
-    requires { j.0 < 4294967296 }
-{
-    let mut left: usize = TABLE;
-    while 0 < left {
-        let i = get(new, NEXT_COPY + 2 * j.0);
-        if i == 0 {
-            return true;
+    // The word that stands for w after the collection.
+    fn new_word(&self, w: usize) -> usize
+        requires { w < 4294967296 }
+    {
+        if w % 4 != 0 {
+            return w;
         }
-        if !scan_next(old, new, n, j, i - 1) {
-            return false;
+        let a = named_address(w);
+        pointer_to(address_in(self.new, SIDE + 4 * a.0))
+    }
+
+    // The value that a word points to copied, if it points into the heap.
+    fn copy_named(&mut self, w: usize) -> Result<(), NoPage>
+        requires { w < 4294967296 }
+    {
+        if w % 4 != 0 {
+            return Ok(());
         }
-        left -= 1;
+        self.copy_value(named_address(w))
     }
-    true
-}
 
-// The regions on the stack, last pushed first, until it is empty: no more than a heap has words.
-fn scan_all(old: &[u32], new: &mut [u32], n: usize) -> bool {
-    let mut left: usize = TABLE;
-    while 0 < left {
-        let depth = get(new, DEPTH);
-        if depth == 0 {
-            return true;
+    // The values that the m words from a on point to, in order.
+    fn copy_all(&mut self, a: usize, m: usize) -> Result<(), NoPage>
+        requires { (a ≤ 4294967296) × (m ≤ 4294967296) }
+    {
+        for i in 0..m {
+            self.copy_named(get(self.old, a + i))?;
         }
-        set(new, DEPTH, depth - 1);
-        let j = region_of(get(new, STACK - 1 + depth));
-        if !scan_region(old, new, n, j) {
-            return false;
+        Ok(())
+    }
+
+    // The m words from a on as they are after the collection, from b on in the second heap.
+    fn write_all(&mut self, a: usize, b: usize, m: usize)
+        requires { (a ≤ 4294967296) × (b ≤ 4294967296) × (m ≤ 4294967296) }
+    {
+        for i in 0..m {
+            let w = self.new_word(get(self.old, a + i));
+            set(self.new, b + i, w);
         }
-        left -= 1;
     }
-    true
-}
 
-// The old pages of every region, bottom first, behind the free ones.
-fn list_old(old: &[u32], new: &mut [u32], n: usize, regions: usize)
-    requires { regions ≤ 64 }
-{
-    let mut j = region_of(0);
-    while j.0 < regions {
-        let first = address_in(old, TABLE + 4 * j.0 + 1);
-        list_chain(old, new, n, link_to(page_at(first, n)), TABLE);
-        j = next_region(j);
+    // Copy number i scanned: a record's fields; raw words stay as they were copied.
+    fn scan_copy(&mut self, i: usize) -> Result<(), NoPage>
+        requires { i < 4294967296 }
+    {
+        let a = address_in(self.new, SIDE + 4 * i + 1);
+        let header = get(self.old, a.0);
+        if header % 8 != 1 {
+            return Ok(());
+        }
+        let m = header / 8;
+        self.copy_all(a.0 + 1, m)?;
+        let b = address_in(self.new, SIDE + 4 * i + 2);
+        self.write_all(a.0 + 1, b.0 + 1, m);
+        Ok(())
     }
-}
 
-// The page at a place of the list linked to the next one.
-fn link_next(new: &mut [u32], n: usize, i: usize)
-    requires { i < 4294967295 }
-{
-    let at = base(named_page(listed_at(new, i)), n);
-    let link = listed_at(new, i + 1);
-    set(new, at.0, link);
-}
-
-// The pages of the list from one place on linked one to the next; `to` is the place of the last, which is linked to none.
-fn link_free(new: &mut [u32], n: usize, from: usize, to: usize)
-    requires { to < 4294967296 }
-{
-    let mut i = from;
-    while i < to {
-        link_next(new, n, i);
-        i += 1;
+    // The next copy of region j, number i, scanned; the one behind it is the next then.
+    fn scan_next(&mut self, j: Region, i: usize) -> Result<(), NoPage>
+        requires { (j.0 < 4294967296) × (i < 4294967296) }
+    {
+        self.scan_copy(i)?;
+        let next = get(self.new, SIDE + 4 * i + 3);
+        set(self.new, NEXT_COPY + 2 * j.0, next);
+        Ok(())
     }
-}
 
-// The free list from place `taken` to the end, and what is said of it behind the second heap.
-fn write_free(new: &mut [u32], n: usize, taken: usize, listed: usize)
-    requires { (taken < listed) × (listed < 4294967296) }
-{
-    link_free(new, n, taken, listed - 1);
-    let first = listed_at(new, taken);
-    let last = listed_at(new, listed - 1);
-    set(new, FIRST, first);
-    set(new, LAST, last);
-    set(new, COUNT, listed - taken);
-}
-
-// The free list after the collection: what was not taken, then the old pages.
-fn end_free(old: &[u32], new: &mut [u32], n: usize, regions: usize)
-    requires { regions ≤ 64 }
-{
-    list_old(old, new, n, regions);
-    let taken = get(new, TAKEN);
-    let listed = get(new, LISTED);
-    if taken < listed {
-        write_free(new, n, taken, listed);
+    // Region j scanned to its end: no more copies than a heap has words.
+    fn scan_region(&mut self, j: Region) -> Result<(), NoPage>
+        requires { j.0 < 4294967296 }
+    {
+        for _ in 0..TABLE {
+            let i = get(self.new, NEXT_COPY + 2 * j.0);
+            if i == 0 {
+                return Ok(());
+            }
+            self.scan_next(j, i - 1)?;
+        }
+        Ok(())
     }
-}
 
-// The free pages listed, and a first page taken for each region; false where one is lacking.
-fn start(old: &[u32], new: &mut [u32], n: usize, regions: usize) -> bool
-    requires { regions ≤ 64 }
-{
-    list_chain(old, new, n, get(old, FIRST), get(old, COUNT));
-    first_pages(new, n, regions)
-}
-
-// All that a root reaches copied into the second heap; false where a page is lacking.
-fn copy_living(old: &[u32], new: &mut [u32], n: usize) -> bool {
-    let named = get(old, NAMED);
-    if !copy_all(old, new, n, ROOTS, named) {
-        return false;
+    // The regions on the stack, last pushed first, until it is empty: no more than a heap has words.
+    fn scan_all(&mut self) -> Result<(), NoPage> {
+        for _ in 0..TABLE {
+            let depth = get(self.new, DEPTH);
+            if depth == 0 {
+                return Ok(());
+            }
+            set(self.new, DEPTH, depth - 1);
+            let j = region_of(get(self.new, STACK - 1 + depth));
+            self.scan_region(j)?;
+        }
+        Ok(())
     }
-    write_all(old, new, ROOTS, ROOTS, named);
-    scan_all(old, new, n)
-}
 
-// What is said of the second heap: n, R and the number of roots stay, the rows and the free list are new.
-fn finish(old: &[u32], new: &mut [u32], n: usize, regions: usize)
-    requires { regions ≤ 64 }
-{
-    copy_words(old, new, EXPONENT, EXPONENT, 3);
-    end_free(old, new, n, regions);
-}
-
-// The collection from its first pages on; false where a page is lacking.
-fn go_on(old: &[u32], new: &mut [u32], n: usize, regions: usize) -> bool
-    requires { regions ≤ 64 }
-{
-    if !copy_living(old, new, n) {
-        return false;
+    // The free pages listed, and a first page taken for each region.
+    fn start(&mut self, regions: usize) -> Result<(), NoPage>
+        requires { regions ≤ 64 }
+    {
+        self.list_chain(get(self.old, FIRST), get(self.old, COUNT));
+        for j in 0..regions {
+            self.first_page(region_of(j))?;
+        }
+        Ok(())
     }
-    finish(old, new, n, regions);
-    true
+
+    // All that a root reaches copied into the second heap.
+    fn copy_living(&mut self) -> Result<(), NoPage> {
+        let named = get(self.old, NAMED);
+        self.copy_all(ROOTS, named)?;
+        self.write_all(ROOTS, ROOTS, named);
+        self.scan_all()
+    }
+
+    // The old pages of every region, bottom first, behind the free ones.
+    fn list_old(&mut self, regions: usize)
+        requires { regions ≤ 64 }
+    {
+        for j in 0..regions {
+            let first = address_in(self.old, TABLE + 4 * j + 1);
+            self.list_chain(link_to(self.page_at(first)), TABLE);
+        }
+    }
+
+    // The page at a place of the list linked to the next one.
+    fn link_next(&mut self, i: usize)
+        requires { i < 4294967295 }
+    {
+        if let Some(k) = named_page(self.listed_at(i)) {
+            let at = self.base(k);
+            let link = self.listed_at(i + 1);
+            set(self.new, at.0, link);
+        }
+    }
+
+    // The free list from place `taken` to the end, each page linked to the next and the last to none, and what is said of it behind the second
+    // heap.
+    fn write_free(&mut self, taken: usize, listed: usize)
+        requires { (taken < listed) × (listed < 4294967296) }
+    {
+        for i in taken..listed - 1 {
+            self.link_next(i);
+        }
+        let first = self.listed_at(taken);
+        let last = self.listed_at(listed - 1);
+        set(self.new, FIRST, first);
+        set(self.new, LAST, last);
+        set(self.new, COUNT, listed - taken);
+    }
+
+    // The free list after the collection: what was not taken, then the old pages.
+    fn end_free(&mut self, regions: usize)
+        requires { regions ≤ 64 }
+    {
+        self.list_old(regions);
+        let taken = get(self.new, TAKEN);
+        let listed = get(self.new, LISTED);
+        if taken < listed {
+            self.write_free(taken, listed);
+        }
+    }
 }
 
 // The collection of document 01 into a second heap with all that belongs to it, all 0 before, as the books are. The first is only read. A
-// heap that passes the audit is wanted; of any other the answer means nothing. False where a page was lacking.
-pub fn collect_again(old: &[u32], new: &mut [u32]) -> bool {
+// heap that passes the audit is wanted; of any other the answer means nothing. What is said of the heap, n, R and the number of roots, stays.
+pub fn collect_again(old: &[u32], new: &mut [u32]) -> Result<(), NoPage> {
     let n = get(old, EXPONENT);
     let regions = get(old, REGIONS) % 65;
-    if !start(old, new, n, regions) {
-        return false;
-    }
-    go_on(old, new, n, regions)
+    let mut pass = Pass { old, new, n };
+    pass.start(regions)?;
+    pass.copy_living()?;
+    pass.copy_words(EXPONENT, EXPONENT, 3);
+    pass.end_free(regions);
+    Ok(())
 }
 
-// The words of the record.
-fn lay_record(whole: &mut [u32], c: Control) {
+// The words of a part, from a place on.
+fn lay(whole: &mut [u32], at: usize, part: &[u32])
+    requires { at < 4294967296 }
+{
+    for (i, w) in part.iter().enumerate() {
+        put(whole, at + i, *w);
+    }
+}
+
+// The words of the record, and how many roots there are.
+fn lay_record(whole: &mut [u32], c: Control, named: usize) {
     put(whole, EXPONENT, c.n);
     put(whole, REGIONS, c.regions);
+    set(whole, NAMED, named);
     put(whole, FIRST, c.first);
     put(whole, LAST, c.last);
     put(whole, COUNT, c.count);
 }
 
-// The roots, and how many there are.
-fn lay_roots(whole: &mut [u32], roots: &[u32]) {
-    let named = roots.len() % 1025;
-    copy_words(roots, whole, 0, ROOTS, named);
-    set(whole, NAMED, named);
-}
-
 // A heap and all that belongs to it in one slice, which is all 0 before.
 pub fn lay_out(whole: &mut [u32], heap: &[u32], table: &[u32], roots: &[u32], c: Control) {
-    copy_words(heap, whole, 0, 0, heap.len() % 65537);
-    copy_words(table, whole, 0, TABLE, 256);
-    lay_roots(whole, roots);
-    lay_record(whole, c);
+    lay(whole, 0, heap);
+    lay(whole, TABLE, table);
+    lay(whole, ROOTS, roots);
+    lay_record(whole, c, roots.len());
 }

@@ -1,81 +1,35 @@
 // The lent parts as they stand after a call.
 ghost use Rattle.std.specs.Prelude.{◌<◌};
 
-use crate::say;
-use rules::Control;
+use crate::say::{Record, Words};
+use rules::{Control, Lent};
 use std::io;
 use std::io::Write;
 
-// The pages. Every heap that is shown has pages of 16 words, as those of document 01's soundings.
-fn pages(out: &mut impl Write, heap: &[u32]) -> io::Result<()> {
-    let mut a: usize = 0;
-    while a < heap.len() {
-        if heap.len() - a < 16 {
-            return Ok(());
-        }
-        let e = a + 16;
-        say::words(out, &heap[a..e])?;
-        a = e;
+// The record, the table, the roots and the pages. Every heap that is shown has pages of 16 words, as those of document 01's soundings.
+pub fn show(out: &mut impl Write, lent: Lent<'_>) -> io::Result<()> {
+    let record = Record(lent.control);
+    let table = Words(lent.table);
+    let roots = Words(lent.roots);
+    write!(
+        out,
+        "; record {record}, table {table}, roots {roots}, pages"
+    )?;
+    for page in lent.heap.chunks_exact(16) {
+        write!(out, " {}", Words(page))?;
     }
-    Ok(())
-}
-
-// The roots, where nothing else is to be seen.
-pub fn only_roots(out: &mut impl Write, roots: &[u32]) -> io::Result<()> {
-    say::text(out, b", roots")?;
-    say::words(out, roots)?;
-    say::text(out, b"\n")
-}
-
-// The record, the table, the roots and the pages.
-pub fn show(
-    out: &mut impl Write,
-    heap: &[u32],
-    table: &[u32],
-    roots: &[u32],
-    c: Control,
-) -> io::Result<()> {
-    say::text(out, b"; record")?;
-    say::record(out, c)?;
-    say::text(out, b", table")?;
-    say::words(out, table)?;
-    say::text(out, b", roots")?;
-    say::words(out, roots)?;
-    say::text(out, b", pages")?;
-    pages(out, heap)?;
-    say::text(out, b"\n")
+    writeln!(out)
 }
 
 // A sum of the words in their order: what stood before a call is told from what stands after it.
-fn sum_words(part: &[u32], start: u64) -> u64
-    requires { start < 4294967291 }
+pub fn sum(lent: Lent<'_>) -> u64
     ensures { result < 4294967291 }
 {
-    let mut sum = start;
-    let mut i = 0;
-    while i < part.len() {
-        sum = (sum * 31 + wide(part[i])) % 4294967291;
-        i += 1;
+    let mut sum = 1;
+    for w in lent.heap.iter().chain(lent.table).chain(lent.roots) {
+        sum = (sum * 31 + u64::from(*w)) % 4294967291;
     }
     sum
-}
-
-fn wide(w: u32) -> u64
-    ensures { result < 4294967296 }
-{
-    w as u64
-}
-
-pub fn sum(heap: &[u32], table: &[u32], roots: &[u32]) -> u64 {
-    sum_words(roots, sum_words(table, sum_words(heap, 1)))
-}
-
-fn same(a: Control, b: Control) -> bool {
-    a.n == b.n
-        && a.regions == b.regions
-        && a.first == b.first
-        && a.last == b.last
-        && a.count == b.count
 }
 
 // What a call left: that nothing changed, or the record and the parts.
@@ -83,15 +37,10 @@ pub fn report(
     out: &mut impl Write,
     before: u64,
     given: Control,
-    heap: &[u32],
-    table: &[u32],
-    roots: &[u32],
-    after: Control,
+    after: Lent<'_>,
 ) -> io::Result<()> {
-    if same(given, after) {
-        if before == sum(heap, table, roots) {
-            return say::text(out, b"; nothing changed\n");
-        }
+    if given == after.control && before == sum(after) {
+        return writeln!(out, "; nothing changed");
     }
-    show(out, heap, table, roots, after)
+    show(out, after)
 }

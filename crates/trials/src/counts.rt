@@ -2,153 +2,59 @@
 ghost use Rattle.std.specs.Prelude.{◌≤◌, ◌<◌};
 
 use audit::audit;
-use conversions::refusal_number;
-use leaves::word;
 use rules::{Control, Plain, Refusal};
-use samples::census;
-use samples::census::add;
+use samples::census::{Census, add};
 
-// The places of the sums, in the order in which they are reported.
-pub const HEAPS: usize = 3; // heaps, or images; those of page exponent n are counted at n
-
-pub const OF_NO_REGION: usize = 9; // heaps of no region
-
-pub const OF_ALL_REGIONS: usize = 10; // of 64 regions
-
-pub const OF_ALL_WORDS: usize = 11; // of 65,536 words
-
-pub const OF_ALL_ROOTS: usize = 12; // of 1,024 roots
-
-pub const FEW_FREE: usize = 13; // with fewer free pages than regions
-
-pub const ROOTS_TO_VALUES: usize = 14; // roots that point to values
-
-pub const FINISHED: usize = 15; // finished
-
-pub const GAINED: usize = 16; // heaps that gained pages, and behind it the pages gained
-
-pub const LOST: usize = 18; // heaps that lost pages, and behind it the pages lost
-
-pub const BROKEN_AFTER: usize = 20; // finished heaps that fail the audit
-
-pub const NO_PAGE: usize = 21; // refused for want of a page
-
-pub const NO_PAGE_LATER: usize = 22; // refused after each region had its fresh page
-
-pub const REFUSED_ELSE: usize = 23; // refused for another reason
-
-pub const DIFFERENCES: usize = 24; // heaps on which the collectors differ
-
-pub const TEXTS_DIFFER: usize = 25; // images whose text differs from its answer
-
-pub const BEFORE: usize = 32; // the census before the collections
-
-pub const LIVING: usize = 48; // the census after those that finished
-
-fn add_if(sums: &mut [u32], kind: usize, holds: bool) {
-    if holds {
-        add(sums, kind, 1);
-    }
+// The sums, in the order in which they are reported.
+#[derive(Clone, Copy, Default)]
+pub struct Sums {
+    // heaps, or images, and of these the ones of each page exponent
+    pub heaps: u32,
+    pub of_exponent: [u32; 9],
+    pub of_no_region: u32,
+    // of 64 regions, of 65,536 words, of 1,024 roots
+    pub of_all_regions: u32,
+    pub of_all_words: u32,
+    pub of_all_roots: u32,
+    // with fewer free pages than regions
+    pub few_free: u32,
+    // roots that point to values
+    pub roots_to_values: u32,
+    pub finished: u32,
+    // heaps that gained or lost pages, and how many pages
+    pub gained: u32,
+    pub pages_gained: u32,
+    pub lost: u32,
+    pub pages_lost: u32,
+    // finished heaps that fail the audit
+    pub broken_after: u32,
+    // refused for want of a page, of these after each region had its fresh page, and for another reason
+    pub no_page: u32,
+    pub no_page_later: u32,
+    pub refused_else: u32,
+    // heaps on which the collectors differ
+    pub differences: u32,
+    // images whose text differs from its answer
+    pub texts_differ: u32,
+    // what stood in the heaps before the collections, and after those that finished
+    pub before: Census,
+    pub living: Census,
 }
 
-fn size(sums: &mut [u32], words: usize, roots: usize, c: Control) {
-    add(sums, HEAPS, 1);
-    add(sums, c.n as usize % 9, 1);
-    add_if(sums, OF_ALL_WORDS, words == 65536);
-    add_if(sums, OF_ALL_ROOTS, roots == 1024);
-}
-
-fn regions(sums: &mut [u32], c: Control) {
-    add_if(sums, OF_NO_REGION, c.regions == 0);
-    add_if(sums, OF_ALL_REGIONS, c.regions == 64);
-    add_if(sums, FEW_FREE, c.count < c.regions);
-}
-
-// The roots that point to values.
-fn named(sums: &mut [u32], roots: &[u32]) {
-    let mut i: usize = 0;
-    while i < roots.len() {
-        add_if(sums, ROOTS_TO_VALUES, word(roots, i) % 4 == 0);
-        i += 1;
-    }
-}
-
-// What stands in a heap, counted from a place of the sums on.
-fn stands(sums: &mut [u32], from: usize, heap: &[u32], c: Control)
-    requires { from ≤ 48 }
-{
-    let end = from + 16;
-    if end <= sums.len() {
-        census::count(heap, &mut sums[from..end], page_words(c.n));
-    }
+fn add_if(count: &mut u32, holds: bool) {
+    add(count, u32::from(holds));
 }
 
 // The words of a page.
 fn page_words(n: u32) -> usize
     ensures { (0 < result) × (result ≤ 256) }
 {
-    if n == 4 {
-        return 16;
-    }
-    if n == 5 {
-        return 32;
-    }
-    if n == 6 {
-        return 64;
-    }
-    if n == 7 {
-        return 128;
-    }
-    256
-}
-
-// A sample before its collection.
-pub fn made(sums: &mut [u32], heap: &[u32], roots: &[u32], c: Control) {
-    size(sums, heap.len(), roots.len(), c);
-    regions(sums, c);
-    named(sums, roots);
-    stands(sums, BEFORE, heap, c);
-}
-
-// A heap that gained or lost so many pages.
-fn pages_moved(sums: &mut [u32], kind: usize, pages: u32)
-    requires { kind ≤ 48 }
-{
-    add(sums, kind, 1);
-    add(sums, kind + 1, pages as usize);
-}
-
-// The free pages before a collection and after it.
-fn moved(sums: &mut [u32], before: u32, after: u32) {
-    if before < after {
-        pages_moved(sums, GAINED, after - before);
-        return;
-    }
-    if after < before {
-        pages_moved(sums, LOST, before - after);
-    }
-}
-
-fn finished(sums: &mut [u32], before: u32, after: u32) {
-    add(sums, FINISHED, 1);
-    moved(sums, before, after);
-}
-
-fn refused(sums: &mut [u32], why: Refusal, later: bool) {
-    if refusal_number(why) != 4 {
-        add(sums, REFUSED_ELSE, 1);
-        return;
-    }
-    add(sums, NO_PAGE, 1);
-    add_if(sums, NO_PAGE_LATER, later);
-}
-
-// How the collection ended.
-pub fn ended(sums: &mut [u32], answer: Plain, c: Control, agree: bool) {
-    add_if(sums, DIFFERENCES, !agree);
-    match answer {
-        Plain::Done(after) => finished(sums, c.count, after.count),
-        Plain::Refused(why, _) => refused(sums, why, c.regions <= c.count),
+    match n {
+        4 => 16,
+        5 => 32,
+        6 => 64,
+        7 => 128,
+        _ => 256,
     }
 }
 
@@ -159,21 +65,77 @@ fn passes(p: Plain) -> bool {
     }
 }
 
-// A sample after its collection: what is left is counted, and passes the audit.
-pub fn left(
-    sums: &mut [u32],
-    heap: &[u32],
-    table: &[u32],
-    roots: &[u32],
-    consts: &[u32],
-    answer: Plain,
-) {
-    match answer {
-        Plain::Done(c) => {
-            stands(sums, LIVING, heap, c);
-            let sound = passes(audit(heap, table, roots, consts, c));
-            add_if(sums, BROKEN_AFTER, !sound);
+impl Sums {
+    fn size(&mut self, words: usize, roots: usize, c: Control) {
+        add(&mut self.heaps, 1);
+        add(&mut self.of_exponent[c.n as usize % 9], 1);
+        add_if(&mut self.of_all_words, words == 65536);
+        add_if(&mut self.of_all_roots, roots == 1024);
+    }
+
+    fn regions(&mut self, c: Control) {
+        add_if(&mut self.of_no_region, c.regions == 0);
+        add_if(&mut self.of_all_regions, c.regions == 64);
+        add_if(&mut self.few_free, c.count < c.regions);
+    }
+
+    // A sample before its collection.
+    pub fn made(&mut self, heap: &[u32], roots: &[u32], c: Control) {
+        self.size(heap.len(), roots.len(), c);
+        self.regions(c);
+        for w in roots {
+            add_if(&mut self.roots_to_values, *w % 4 == 0);
         }
-        Plain::Refused(_, _) => {}
+        self.before.count(heap, page_words(c.n));
+    }
+
+    // The free pages before a collection and after it.
+    fn moved(&mut self, before: u32, after: u32) {
+        if before < after {
+            add(&mut self.gained, 1);
+            add(&mut self.pages_gained, after - before);
+        } else if after < before {
+            add(&mut self.lost, 1);
+            add(&mut self.pages_lost, before - after);
+        }
+    }
+
+    // A collection that was refused; `later` where each region can have had its fresh page.
+    fn refused(&mut self, why: Refusal, later: bool) {
+        match why {
+            Refusal::NoPage => {
+                add(&mut self.no_page, 1);
+                add_if(&mut self.no_page_later, later);
+            }
+            _ => add(&mut self.refused_else, 1),
+        }
+    }
+
+    // How the collection of a heap with this record ended.
+    pub fn ended(&mut self, answer: Plain, c: Control, agree: bool) {
+        add_if(&mut self.differences, !agree);
+        match answer {
+            Plain::Done(after) => {
+                add(&mut self.finished, 1);
+                self.moved(c.count, after.count);
+            }
+            Plain::Refused(why, _) => self.refused(why, c.regions <= c.count),
+        }
+    }
+
+    // A sample after its collection: what is left is counted, and passes the audit.
+    pub fn left(
+        &mut self,
+        heap: &[u32],
+        table: &[u32],
+        roots: &[u32],
+        consts: &[u32],
+        answer: Plain,
+    ) {
+        if let Plain::Done(c) = answer {
+            self.living.count(heap, page_words(c.n));
+            let sound = passes(audit(heap, table, roots, consts, c));
+            add_if(&mut self.broken_after, !sound);
+        }
     }
 }
