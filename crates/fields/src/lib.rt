@@ -4,18 +4,19 @@
 
 ghost use Rattle.std.specs.Prelude.{◌≡◌, ◌≤◌, ◌<◌, length, ℕ, Bool};
 ghost use Rattle.laws.specs.Lists.{all};
-ghost use Rattle.rules.specs.Memory.{lent};
-ghost use Rattle.rules.specs.Refusals.{Paged, Admitted};
+ghost use Rattle.rules.specs.Memory.{store};
+ghost use Rattle.rules.specs.Refusals.{Paged};
 ghost use Rattle.rules.specs.Audit.{records_pass, rule6 as rule6_of, rule7 as rule7_of};
 ghost use Rattle.rules.specs.Calls.{points_into, let_go};
 
 use conversions::{
     address_behind, address_page, origin_region, page_address, pointer_address, region_numbered,
 };
+use limits::Admitted;
 use pages::{page_count, page_words};
 use rows::{first_link, link_address};
-use rules::{Control, Region};
-use values::{fits, good_word, is_record};
+use rules::{Lent, Region};
+use values::{Memory, fits, good_word, is_record};
 
 // Whether a word points into a page of region j.
 fn points_into(heap: &[u32], n: u32, j: Region, w: u32) -> bool
@@ -48,21 +49,15 @@ fn words_pass<F: Fn(u32) -> bool>(words: &[u32], test: &F) -> bool
 }
 
 // Whether each field of each record of the regions below a bound passes the test.
-fn records_pass<F: Fn(u32) -> bool>(
-    heap: &[u32],
-    table: &[u32],
-    n: u32,
-    below: usize,
-    test: &F,
-) -> bool
+fn records_pass<F: Fn(u32) -> bool>(admitted: Admitted<'_>, below: usize, test: &F) -> bool
     ghost p: { ℕ → Bool }
-    requires paged { Paged n (length heap.now) }
-    requires table { length table.now ≡ 256 }
     requires below { below ≤ 64 }
     requires asked { F.IsAlwaysCallable test.now }
     requires told { (w : ℕ) (b : Bool) → F.post test.now w b → b ≡ p w }
-    ensures { result ≡ records_pass p n heap.now table.now below }
+    ensures { let s = store admitted.entry.lent in result ≡ records_pass p s.ctl.n s.heap s.table below }
 {
+    let Lent { heap, table, control, .. } = admitted.lent;
+    let n = control.n;
     let size = page_words(n);
     let pages = page_count(heap.len(), n) as u32;
     let mut fine = true;
@@ -106,36 +101,32 @@ fn records_pass<F: Fn(u32) -> bool>(
 }
 
 // Rule 6: each field of each record in the heap is a number or a good pointer.
-pub fn rule6(heap: &[u32], table: &[u32], roots: &[u32], consts: &[u32], c: Control) -> bool
-    requires { Admitted (length heap.now) (length table.now) (length roots.now) (length consts.now) c }
-    ensures { result ≡ rule6_of (lent heap.now table.now roots.now consts.now c) }
+pub fn rule6(admitted: Admitted<'_>) -> bool
+    ensures { result ≡ rule6_of (store admitted.entry.lent) }
 {
-    let good = move |w| good_word(heap, consts, c.n, c.regions, w);
-    records_pass(heap, table, c.n, c.regions as usize, &good)
+    let Lent { heap, consts, control, .. } = admitted.lent;
+    let memory = Memory { heap, consts, c: control };
+    let good = move |w| good_word(memory, w);
+    records_pass(admitted, control.regions as usize, &good)
 }
 
 // Rule 7: each root is a number or a good pointer.
-pub fn rule7(heap: &[u32], table: &[u32], roots: &[u32], consts: &[u32], c: Control) -> bool
-    requires { Admitted (length heap.now) (length table.now) (length roots.now) (length consts.now) c }
-    ensures { result ≡ rule7_of (lent heap.now table.now roots.now consts.now c) }
+pub fn rule7(admitted: Admitted<'_>) -> bool
+    ensures { result ≡ rule7_of (store admitted.entry.lent) }
 {
-    let good = move |w| good_word(heap, consts, c.n, c.regions, w);
+    let Lent { heap, roots, consts, control, .. } = admitted.lent;
+    let memory = Memory { heap, consts, c: control };
+    let good = move |w| good_word(memory, w);
     words_pass(roots, &good)
 }
 
 // Whether no root, and no field of a record in a region below j, points into region j.
-pub fn let_go(
-    heap: &[u32],
-    table: &[u32],
-    roots: &[u32],
-    consts: &[u32],
-    c: Control,
-    j: Region,
-) -> bool
-    requires { Admitted (length heap.now) (length table.now) (length roots.now) (length consts.now) c × (j.0 ≤ 64) }
-    ensures { result ≡ let_go c.n heap.now table.now roots.now j.0 }
+pub fn let_go(admitted: Admitted<'_>, j: Region) -> bool
+    requires { j.0 ≤ 64 }
+    ensures { let s = store admitted.entry.lent in result ≡ let_go s.ctl.n s.heap s.table s.roots j.0 }
 {
-    let apart = move |w| !points_into(heap, c.n, j, w);
+    let Lent { heap, roots, control, .. } = admitted.lent;
+    let apart = move |w| !points_into(heap, control.n, j, w);
     // as many regions lie below region j as its number says
-    words_pass(roots, &apart) && records_pass(heap, table, c.n, j.0, &apart)
+    words_pass(roots, &apart) && records_pass(admitted, j.0, &apart)
 }

@@ -21,12 +21,12 @@ use Rattle.fields.proofs.records_pass.Goals.{Left-values, else-values-test, then
 pub pages-init : goal.pages-init
 pages-init g c =
     let q : c.page_count-pages.result - 0 ≡ c.page_count-pages.result = omega arith in
-    rw q (sym (regions_go _ _ _ _ c.args.table.now _ c.regions.j c.first_link-link.result c.page_count-pages.ensures (cc) (omega arith)) ∙ c.regions.invariant.0, c.regions.invariant.1)
+    rw q (sym (regions_go _ _ _ _ c.args.admitted.lent.table.now _ c.regions.j c.first_link-link.result c.page_count-pages.ensures (cc) (omega arith)) ∙ c.regions.invariant.0, c.regions.invariant.1)
 
-next : (g : Bound) (c : After-link_address-base g) → Next c.args.n c.args.heap.now (c.page_count-pages.result - c.pages.counter) c.pages.link c.link_address-base.result.0
+next : (g : Bound) (c : After-link_address-base g) → Next c.args.admitted.lent.control.n c.args.admitted.lent.heap.now (c.page_count-pages.result - c.pages.counter) c.pages.link c.link_address-base.result.0
 next g c = next_page_lem _ _ _ c.page_count-pages.ensures _ _ _ c.link_address-base.ensures (omega arith) c.if-link-eq0.false c.if-pages-link.false
 
-over : (g : Bound) (c : Left-pages g) → Over c.args.n c.args.heap.now (c.page_count-pages.result - c.pages.counter) c.pages.link
+over : (g : Bound) (c : Left-pages g) → Over c.args.admitted.lent.control.n c.args.admitted.lent.heap.now (c.page_count-pages.result - c.pages.counter) c.pages.link
 over g c =
     elim c.pages-test.branch [
       | else-pages-test w ↦ over_fuel (omega arith)
@@ -35,13 +35,13 @@ over g c =
     ]
 
 -- the page lies inside
-inside : (g : Bound) (c : After-address_behind-end g) → c.address_behind-end.result.0 ≤ length c.args.heap.now
+inside : (g : Bound) (c : After-address_behind-end g) → c.address_behind-end.result.0 ≤ length c.args.admitted.lent.heap.now
 inside g c =
-    let page : Inside (2 ^ c.args.n) c.link_address-base.result.0 (length c.args.heap.now) = page_here _ _ _ _ _ c.requires.1.0 c.page_count-pages.ensures c.link_address-base.ensures c.if-link-eq0.false c.if-pages-link.false in
+    let page : Inside (2 ^ c.args.admitted.lent.control.n) c.link_address-base.result.0 (length c.args.admitted.lent.heap.now) = page_here _ _ _ _ _ c.args.admitted.fits.paged c.page_count-pages.ensures c.link_address-base.ensures c.if-link-eq0.false c.if-pages-link.false in
     omega (arith, page, c.page_words-size.ensures)
 
 -- so does the value
-within : (g : Bound) (c : After-address_behind-next g) → c.address_behind-end.result.0 ≤ length c.args.heap.now → c.address_behind-next.result.0 ≤ length c.args.heap.now
+within : (g : Bound) (c : After-address_behind-next g) → c.address_behind-end.result.0 ≤ length c.args.admitted.lent.heap.now → c.address_behind-next.result.0 ≤ length c.args.admitted.lent.heap.now
 within g c end = let f = (fit_of _ _ (told_true c.fits.ensures c.if-not-fits.false)).1 in omega (arith, end)
 
 pub values-init : goal.values-init
@@ -59,13 +59,13 @@ loop-w-init g c =
     (sym (record_ ∙ part_all _ _ c.address_behind-first.result.0 c.address_behind-next.result.0 _ (omega arith)) ∙ c.values.invariant.0, c.values.invariant.1)
 
 pub loop-w-preserved : goal.loop-w-preserved
-loop-w-preserved g c = (sym (fields_go _ _ _ _ _ c.loop-w-test.true (le_refl _) (sym (c.requires.1.1.1.1.1 _ _ c.test.ensures) ∙ c.if-not-test.false)) ∙ c.loop-w.invariant.0, c.loop-w.invariant.1)
+loop-w-preserved g c = (sym (fields_go _ _ _ _ _ c.loop-w-test.true (le_refl _) (sym (c.requires.1.1.1 _ _ c.test.ensures) ∙ c.if-not-test.false)) ∙ c.loop-w.invariant.0, c.loop-w.invariant.1)
 
 pub values-preserved : goal.values-preserved
 values-preserved g c = (sym (fields_end _ _ _ _ _ c.loop-w-test.false) ∙ c.loop-w.invariant.0, c.loop-w.invariant.1)
 
 -- no value stands where the loop stopped
-ended : (g : Bound) (c : Left-values g) → c.address_behind-end.result.0 ≤ length c.args.heap.now → vals_in c.args.heap.now c.values.at.0 c.address_behind-end.result.0 ≡ []
+ended : (g : Bound) (c : Left-values g) → c.address_behind-end.result.0 ≤ length c.args.admitted.lent.heap.now → vals_in c.args.admitted.lent.heap.now c.values.at.0 c.address_behind-end.result.0 ≡ []
 ended g c end =
     elim c.values-test.branch [
       | else-values-test w ↦ vals_none _ _ _ w.values-test.false
@@ -87,4 +87,4 @@ pub returns-after-regions : goal.returns-after-regions
 returns-after-regions g c = c.regions.invariant.1 ∙ sym (from_end _ _ _ (omega arith)) ∙ c.regions.invariant.0
 
 pub returns-then-not-test : goal.returns-then-not-test
-returns-then-not-test g c = sym (fields_stop _ _ _ _ _ c.loop-w-test.true (le_refl _) (sym (c.requires.1.1.1.1.1 _ _ c.test.ensures) ∙ c.if-not-test.true)) ∙ c.loop-w.invariant.0
+returns-then-not-test g c = sym (fields_stop _ _ _ _ _ c.loop-w-test.true (le_refl _) (sym (c.requires.1.1.1 _ _ c.test.ensures) ∙ c.if-not-test.true)) ∙ c.loop-w.invariant.0

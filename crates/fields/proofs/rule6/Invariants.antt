@@ -3,4 +3,4 @@ use Rattle.rules.specs.Words.{good_in}
 use Rattle.fields.proofs.rule6.Given as goal
 
 abbrev pub ghost-records_pass : goal.ghost-records_pass
-ghost-records_pass a = let of = a.test.now in good_in of.2 of.3 of.0.now of.1.now
+ghost-records_pass a = let m = a.test.now.0 in good_in m.c.n m.c.regions m.heap.now m.consts.now
