@@ -101,7 +101,12 @@ pub fn good_word(memory: Memory<'_>, w: u32) -> bool
     ensures { let m = memory.entry in result ≡ good_in m.c.n m.c.regions m.heap.now m.consts.now w }
 {
     if w % 4 == 0 {
-        return good_heap(memory.heap, memory.c.n, memory.c.regions, pointer_address(w));
+        return good_heap(
+            memory.heap,
+            memory.c.n,
+            memory.c.regions,
+            pointer_address(w),
+        );
     }
     if w % 4 == 2 {
         return good_const(memory.consts, pointer_address(w));
