@@ -3,15 +3,16 @@
 #![tactic(auto)]
 
 ghost use Rattle.std.specs.Prelude.{◌≡◌, ◌≤◌, ◌<◌, length};
-ghost use Rattle.rules.specs.Memory.{lent};
-ghost use Rattle.rules.specs.Refusals.{Paged, Admitted};
+ghost use Rattle.rules.specs.Memory.{store};
+ghost use Rattle.rules.specs.Refusals.{Paged};
 ghost use Rattle.rules.specs.Audit.{opens as opens_of, rule3 as rule3_of};
 ghost use Rattle.chains.specs.Walked.{regions_chained, free_listed};
 
 use conversions::{address_page, region_numbered, region_origin};
+use limits::Admitted;
 use pages::{page_count, page_words};
 use rows::{first_link, first_of, link_address};
-use rules::{Control, Region};
+use rules::{Lent, Region};
 
 // Whether a region's fp is the address of a page.
 fn opens(heap: &[u32], table: &[u32], j: Region, n: u32) -> bool
@@ -96,10 +97,10 @@ fn free_listed(heap: &[u32], n: u32, first: u32) -> Option<(usize, u32)>
 
 // Rule 3: every page is in exactly one chain, a region's or the free list's, and the record agrees. Chains that end, whose pages bear
 // their own origin, hold no page twice; so it is enough that their lengths add up to the pages that there are.
-pub fn rule3(heap: &[u32], table: &[u32], roots: &[u32], consts: &[u32], c: Control) -> bool
-    requires { Admitted (length heap.now) (length table.now) (length roots.now) (length consts.now) c }
-    ensures { result ≡ rule3_of (lent heap.now table.now roots.now consts.now c) }
+pub fn rule3(admitted: Admitted<'_>) -> bool
+    ensures { result ≡ rule3_of (store admitted.entry.lent) }
 {
+    let Lent { heap, table, control: c, .. } = admitted.lent;
     let Some(held) = regions_chained(heap, table, c.n, c.regions as usize) else {
         return false;
     };

@@ -3,22 +3,22 @@
 #![tactic(auto)]
 
 ghost use Rattle.std.specs.Prelude.{◌≡◌, length};
-ghost use Rattle.rules.specs.Memory.{lent};
-ghost use Rattle.rules.specs.Refusals.{Admitted};
+ghost use Rattle.rules.specs.Memory.{store};
 ghost use Rattle.rules.specs.Audit.{rule5 as rule5_of};
 
 use conversions::{address_behind, region_numbered};
+use limits::Admitted;
 use pages::{page_count, page_words};
 use rows::{first_link, link_address, top_of};
-use rules::Control;
+use rules::Lent;
 use table_words::zero_between;
 use values::fits;
 
 // Rule 5: in each page of a region values stand back to back from the third word, then zeros; in the last page they end at a.
-pub fn rule5(heap: &[u32], table: &[u32], roots: &[u32], consts: &[u32], c: Control) -> bool
-    requires { Admitted (length heap.now) (length table.now) (length roots.now) (length consts.now) c }
-    ensures { result ≡ rule5_of (lent heap.now table.now roots.now consts.now c) }
+pub fn rule5(admitted: Admitted<'_>) -> bool
+    ensures { result ≡ rule5_of (store admitted.entry.lent) }
 {
+    let Lent { heap, table, control: c, .. } = admitted.lent;
     let n = c.n;
     let regions = c.regions as usize;
     let size = page_words(n);

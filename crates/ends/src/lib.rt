@@ -3,14 +3,14 @@
 #![tactic(auto)]
 
 ghost use Rattle.std.specs.Prelude.{◌≡◌, ◌≤◌, ◌<◌, length};
-ghost use Rattle.rules.specs.Memory.{lent};
-ghost use Rattle.rules.specs.Refusals.{Admitted};
+ghost use Rattle.rules.specs.Memory.{store};
 ghost use Rattle.rules.specs.Audit.{top_fits, rule4 as rule4_of, rule9 as rule9_of};
 
 use conversions::{address_behind, region_numbered};
+use limits::Admitted;
 use pages::{page_count, page_words};
 use rows::{end_of, first_link, link_address, top_of};
-use rules::{Control, Region};
+use rules::{Lent, Region};
 use table_words::zero_between;
 
 // Whether a region's a lies from e-P+2 to e.
@@ -27,10 +27,10 @@ fn top_fits(table: &[u32], j: Region, n: u32) -> bool
 }
 
 // Rule 4: the chain's last page starts at e-P, a lies from e-P+2 to e.
-pub fn rule4(heap: &[u32], table: &[u32], roots: &[u32], consts: &[u32], c: Control) -> bool
-    requires { Admitted (length heap.now) (length table.now) (length roots.now) (length consts.now) c }
-    ensures { result ≡ rule4_of (lent heap.now table.now roots.now consts.now c) }
+pub fn rule4(admitted: Admitted<'_>) -> bool
+    ensures { result ≡ rule4_of (store admitted.entry.lent) }
 {
+    let Lent { heap, table, control: c, .. } = admitted.lent;
     let n = c.n;
     let regions = c.regions as usize;
     let size = page_words(n);
@@ -67,10 +67,10 @@ pub fn rule4(heap: &[u32], table: &[u32], roots: &[u32], consts: &[u32], c: Cont
 }
 
 // Rule 9: a free page is all zero but its link.
-pub fn rule9(heap: &[u32], table: &[u32], roots: &[u32], consts: &[u32], c: Control) -> bool
-    requires { Admitted (length heap.now) (length table.now) (length roots.now) (length consts.now) c }
-    ensures { result ≡ rule9_of (lent heap.now table.now roots.now consts.now c) }
+pub fn rule9(admitted: Admitted<'_>) -> bool
+    ensures { result ≡ rule9_of (store admitted.entry.lent) }
 {
+    let Lent { heap, control: c, .. } = admitted.lent;
     let n = c.n;
     let first = c.first;
     let size = page_words(n);

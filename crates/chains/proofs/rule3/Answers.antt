@@ -19,7 +19,7 @@ pub returns-then-c-free : goal.returns-then-c-free
 returns-then-c-free c = sym (three_sums _ _ _ _ _ _ _ c.regions_chained.ensures c.in-Some.is _ c.free_listed.ensures _ _ c.in-Some-free_listed.is ∙ rw (eq-eqb _ _ c.if-c-last.false, ne_eqb _ _ c.if-c-free.true))
 
 pub overflow_add-result : goal.overflow_add-result
-overflow_add-result c = let b = sums_fit _ _ c.args.roots.now c.args.consts.now c.args.c _ _ c.regions_chained.ensures c.in-Some.is _ c.free_listed.ensures _ _ c.in-Some-free_listed.is c.requires.paged c.requires.regions in omega arith
+overflow_add-result c = let b = sums_fit _ _ c.args.admitted.lent.roots.now c.args.admitted.lent.consts.now c.args.admitted.lent.control _ _ c.regions_chained.ensures c.in-Some.is _ c.free_listed.ensures _ _ c.in-Some-free_listed.is c.args.admitted.fits.paged c.args.admitted.fits.regions in omega arith
 
 pub returns : goal.returns
 returns c = sym (three_sums _ _ _ _ _ _ _ c.regions_chained.ensures c.in-Some.is _ c.free_listed.ensures _ _ c.in-Some-free_listed.is ∙ rw (eq-eqb _ _ c.if-c-last.false, eq-eqb _ _ c.if-c-free.false, ← c.page_count.ensures) (ap (λ s. eqb s c.page_count.result) (omega arith)))

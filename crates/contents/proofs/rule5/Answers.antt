@@ -22,12 +22,12 @@ use Rattle.contents.proofs.rule5.Goals.{else-values-test, then-values-test+then-
 pub pages-init : goal.pages-init
 pages-init c =
     let q : c.page_count-pages.result - 0 ≡ c.page_count-pages.result = omega arith in
-    rw q (sym (regions_go _ _ _ _ c.args.table.now _ c.regions.j c.first_link-link.result c.page_count-pages.ensures (cc) (omega arith)) ∙ c.regions.invariant.0, c.regions.invariant.1)
+    rw q (sym (regions_go _ _ _ _ c.args.admitted.lent.table.now _ c.regions.j c.first_link-link.result c.page_count-pages.ensures (cc) (omega arith)) ∙ c.regions.invariant.0, c.regions.invariant.1)
 
-next : (c : After-link_address-base) → Next c.args.c.n c.args.heap.now (c.page_count-pages.result - c.pages.counter) c.pages.link c.link_address-base.result.0
+next : (c : After-link_address-base) → Next c.args.admitted.lent.control.n c.args.admitted.lent.heap.now (c.page_count-pages.result - c.pages.counter) c.pages.link c.link_address-base.result.0
 next c = next_page_lem _ _ _ c.page_count-pages.ensures _ _ _ c.link_address-base.ensures (omega arith) (λ z. omega arith) (omega arith)
 
-over : (c : Left-pages) → Over c.args.c.n c.args.heap.now (c.page_count-pages.result - c.pages.counter) c.pages.link
+over : (c : Left-pages) → Over c.args.admitted.lent.control.n c.args.admitted.lent.heap.now (c.page_count-pages.result - c.pages.counter) c.pages.link
 over c =
     elim c.pages-test.branch [
       | else-pages-test w ↦ over_fuel (omega arith)
@@ -36,19 +36,19 @@ over c =
     ]
 
 -- the page lies inside
-inside : (c : After-address_behind-end) → c.address_behind-end.result.0 ≤ length c.args.heap.now
+inside : (c : After-address_behind-end) → c.address_behind-end.result.0 ≤ length c.args.admitted.lent.heap.now
 inside c =
-    let page : Inside (2 ^ c.args.c.n) c.link_address-base.result.0 (length c.args.heap.now) = page_here _ _ _ _ _ c.requires.paged c.page_count-pages.ensures c.link_address-base.ensures (λ z. omega arith) (omega arith) in
+    let page : Inside (2 ^ c.args.admitted.lent.control.n) c.link_address-base.result.0 (length c.args.admitted.lent.heap.now) = page_here _ _ _ _ _ c.args.admitted.fits.paged c.page_count-pages.ensures c.link_address-base.ensures (λ z. omega arith) (omega arith) in
     omega (arith, page, c.page_words-size.ensures)
 
 pub values-init : goal.values-init
-values-init c = sym (five_page (next (goal.at.values-init c).After-link_address-base) c.args.table.now c.regions.j c.top_of-top.result.0 _ (cc) c.page_words-size.ensures _ _ _ c.address_behind-at.ensures c.address_behind-end.ensures) ∙ c.pages.invariant.0
+values-init c = sym (five_page (next (goal.at.values-init c).After-link_address-base) c.args.admitted.lent.table.now c.regions.j c.top_of-top.result.0 _ (cc) c.page_words-size.ensures _ _ _ c.address_behind-at.ensures c.address_behind-end.ensures) ∙ c.pages.invariant.0
 
 pub values-preserved : goal.values-preserved
 values-preserved c = sym (rest_go _ _ _ _ _ _ (omega arith) (inside (goal.at.values-preserved c).After-address_behind-end) _ (told_true c.fits.ensures c.if-not-fits.false) (omega arith) _ c.address_behind-at-in-values.ensures) ∙ c.values.invariant
 
 -- no value stands where the loop stopped
-ended : (c : Left-values) → c.address_behind-end.result.0 ≤ length c.args.heap.now → vals_in c.args.heap.now c.values.at.0 c.address_behind-end.result.0 ≡ []
+ended : (c : Left-values) → c.address_behind-end.result.0 ≤ length c.args.admitted.lent.heap.now → vals_in c.args.admitted.lent.heap.now c.values.at.0 c.address_behind-end.result.0 ≡ []
 ended c end =
     elim c.values-test.branch [
       | else-values-test w ↦ vals_none _ _ _ w.values-test.false
@@ -56,9 +56,9 @@ ended c end =
     ]
 
 passed : (c : Left-values)
-    → Passed c.args.heap.now c.values.at.0 c.address_behind-end.result.0 (get_or c.args.heap.now c.link_address-base.result.0 0) c.top_of-top.result.0 (all (page_filled c.args.c.n c.args.heap.now c.args.table.now c.regions.j) (chain (c.page_count-pages.result - c.pages.counter - 1) c.args.c.n c.args.heap.now (get_or c.args.heap.now c.link_address-base.result.0 0)) && all_from (λ i. all (page_filled c.args.c.n c.args.heap.now c.args.table.now i) (region_pages c.args.c.n c.args.heap.now c.args.table.now i)) (c.args.c.regions - c.regions.j - 1) (c.regions.j + 1)) (all_from (λ i. all (page_filled c.args.c.n c.args.heap.now c.args.table.now i) (region_pages c.args.c.n c.args.heap.now c.args.table.now i)) c.args.c.regions 0)
+    → Passed c.args.admitted.lent.heap.now c.values.at.0 c.address_behind-end.result.0 (get_or c.args.admitted.lent.heap.now c.link_address-base.result.0 0) c.top_of-top.result.0 (all (page_filled c.args.admitted.lent.control.n c.args.admitted.lent.heap.now c.args.admitted.lent.table.now c.regions.j) (chain (c.page_count-pages.result - c.pages.counter - 1) c.args.admitted.lent.control.n c.args.admitted.lent.heap.now (get_or c.args.admitted.lent.heap.now c.link_address-base.result.0 0)) && all_from (λ i. all (page_filled c.args.admitted.lent.control.n c.args.admitted.lent.heap.now c.args.admitted.lent.table.now i) (region_pages c.args.admitted.lent.control.n c.args.admitted.lent.heap.now c.args.admitted.lent.table.now i)) (c.args.admitted.lent.control.regions - c.regions.j - 1) (c.regions.j + 1)) (all_from (λ i. all (page_filled c.args.admitted.lent.control.n c.args.admitted.lent.heap.now c.args.admitted.lent.table.now i) (region_pages c.args.admitted.lent.control.n c.args.admitted.lent.heap.now c.args.admitted.lent.table.now i)) c.args.admitted.lent.control.regions 0)
 passed c =
-    let page : Inside (2 ^ c.args.c.n) c.link_address-base.result.0 (length c.args.heap.now) = page_here _ _ _ _ _ c.requires.paged c.page_count-pages.ensures c.link_address-base.ensures (λ z. omega arith) (omega arith) in
+    let page : Inside (2 ^ c.args.admitted.lent.control.n) c.link_address-base.result.0 (length c.args.admitted.lent.heap.now) = page_here _ _ _ _ _ c.args.admitted.fits.paged c.page_count-pages.ensures c.link_address-base.ensures (λ z. omega arith) (omega arith) in
     record { left = sym (rest_over _ _ _ _ _ _ (ended c (omega (arith, page, c.page_words-size.ensures)))) ∙ c.values.invariant }
 
 pub pages-preserved-then-link-gt0 : goal.pages-preserved-then-link-gt0
@@ -73,7 +73,7 @@ pages-preserved c =
 
 pub regions-preserved : goal.regions-preserved
 regions-preserved c =
-    let q : c.args.c.regions - (c.regions.j + 1) ≡ c.args.c.regions - c.regions.j - 1 = omega arith in
+    let q : c.args.admitted.lent.control.regions - (c.regions.j + 1) ≡ c.args.admitted.lent.control.regions - c.regions.j - 1 = omega arith in
     rw q (sym (pages_over _ _ (over (goal.at.regions-preserved c).Left-pages)) ∙ c.pages.invariant.0, c.pages.invariant.1)
 
 pub returns-after-regions : goal.returns-after-regions

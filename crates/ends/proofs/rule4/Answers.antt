@@ -13,22 +13,22 @@ use Rattle.ends.proofs.rule4.Goals.{After-link_address-base, Left-pages, else-pa
 pub pages-init : goal.pages-init
 pages-init c =
     let q : c.page_count-pages.result - 0 ≡ c.page_count-pages.result = omega arith in
-    (cc (four_open _ _ c.args.heap.now _ c.page_count-pages.ensures (c.args.c.regions - c.regions.j) _ (omega arith) _ (told_true c.top_fits.ensures c.if-not-top_fits.false) c.first_link-link.ensures), c.regions.invariant.1)
+    (cc (four_open _ _ c.args.admitted.lent.heap.now _ c.page_count-pages.ensures (c.args.admitted.lent.control.regions - c.regions.j) _ (omega arith) _ (told_true c.top_fits.ensures c.if-not-top_fits.false) c.first_link-link.ensures), c.regions.invariant.1)
 
-next : (c : After-link_address-base) → Next c.args.c.n c.args.heap.now (c.page_count-pages.result - c.pages.counter) c.pages.link c.link_address-base.result.0
+next : (c : After-link_address-base) → Next c.args.admitted.lent.control.n c.args.admitted.lent.heap.now (c.page_count-pages.result - c.pages.counter) c.pages.link c.link_address-base.result.0
 next c = next_page_lem _ _ _ c.page_count-pages.ensures _ _ _ c.link_address-base.ensures (omega arith) (λ z. omega arith) (omega arith)
 
 pub pages-preserved-then-link-gt0 : goal.pages-preserved-then-link-gt0
 pages-preserved-then-link-gt0 c =
     let q : c.page_count-pages.result - (c.pages.counter + 1) ≡ c.page_count-pages.result - c.pages.counter - 1 = omega arith in
-    (rw q (sym (four_on (next (goal.at.pages-preserved-then-link-gt0 c).After-link_address-base) c.args.table.now c.regions.j c.end_of-end.result.0 _ (cc) c.page_words-size.ensures _ (omega arith)) ∙ c.pages.invariant.0), c.pages.invariant.1)
+    (rw q (sym (four_on (next (goal.at.pages-preserved-then-link-gt0 c).After-link_address-base) c.args.admitted.lent.table.now c.regions.j c.end_of-end.result.0 _ (cc) c.page_words-size.ensures _ (omega arith)) ∙ c.pages.invariant.0), c.pages.invariant.1)
 
 pub pages-preserved : goal.pages-preserved
 pages-preserved c =
     let q : c.page_count-pages.result - (c.pages.counter + 1) ≡ c.page_count-pages.result - c.pages.counter - 1 = omega arith in
-    (rw q (sym (four_at (next (goal.at.pages-preserved c).After-link_address-base) c.args.table.now c.regions.j c.end_of-end.result.0 _ (cc) c.page_words-size.ensures _ (omega arith) (omega arith)) ∙ c.pages.invariant.0), c.pages.invariant.1)
+    (rw q (sym (four_at (next (goal.at.pages-preserved c).After-link_address-base) c.args.admitted.lent.table.now c.regions.j c.end_of-end.result.0 _ (cc) c.page_words-size.ensures _ (omega arith) (omega arith)) ∙ c.pages.invariant.0), c.pages.invariant.1)
 
-over : (c : Left-pages) → Over c.args.c.n c.args.heap.now (c.page_count-pages.result - c.pages.counter) c.pages.link
+over : (c : Left-pages) → Over c.args.admitted.lent.control.n c.args.admitted.lent.heap.now (c.page_count-pages.result - c.pages.counter) c.pages.link
 over c =
     elim c.pages-test.branch [
       | else-pages-test w ↦ over_fuel (omega arith)
@@ -38,7 +38,7 @@ over c =
 
 pub regions-preserved : goal.regions-preserved
 regions-preserved c =
-    let q : c.args.c.regions - (c.regions.j + 1) ≡ c.args.c.regions - c.regions.j - 1 = omega arith in
+    let q : c.args.admitted.lent.control.regions - (c.regions.j + 1) ≡ c.args.admitted.lent.control.regions - c.regions.j - 1 = omega arith in
     (rw q (sym (pages_over _ _ (over (goal.at.regions-preserved c).Left-pages)) ∙ c.pages.invariant.0), c.pages.invariant.1)
 
 pub returns-after-regions : goal.returns-after-regions
@@ -46,10 +46,10 @@ returns-after-regions c = c.regions.invariant.1 ∙ sym (from_end _ _ _ (omega a
 
 pub returns-then-not-top_fits : goal.returns-then-not-top_fits
 returns-then-not-top_fits c =
-    let o = four_shut _ _ c.args.heap.now _ c.page_count-pages.ensures (c.args.c.regions - c.regions.j) _ (omega arith) (told_false c.top_fits.ensures c.if-not-top_fits.true) in
-    cc (four_each c.args.heap.now c.args.table.now c.args.roots.now c.args.consts.now c.args.c)
+    let o = four_shut _ _ c.args.admitted.lent.heap.now _ c.page_count-pages.ensures (c.args.admitted.lent.control.regions - c.regions.j) _ (omega arith) (told_false c.top_fits.ensures c.if-not-top_fits.true) in
+    cc (four_each c.args.admitted.lent.heap.now c.args.admitted.lent.table.now c.args.admitted.lent.roots.now c.args.admitted.lent.consts.now c.args.admitted.lent.control)
 
 pub returns-then-end-address_behind : goal.returns-then-end-address_behind
 returns-then-end-address_behind c =
-    sym (four_off (next (goal.at.returns-then-end-address_behind c).After-link_address-base) c.args.table.now c.regions.j c.end_of-end.result.0 _ (cc) c.page_words-size.ensures _ (omega arith) (λ z. omega arith))
+    sym (four_off (next (goal.at.returns-then-end-address_behind c).After-link_address-base) c.args.admitted.lent.table.now c.regions.j c.end_of-end.result.0 _ (cc) c.page_words-size.ensures _ (omega arith) (λ z. omega arith))
     ∙ c.pages.invariant.0 ∙ four_each _ _ _ _ _

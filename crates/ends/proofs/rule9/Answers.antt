@@ -9,7 +9,7 @@ use Rattle.ends.proofs.Turns.{nine_open, nine_go, nine_stop}
 use Rattle.ends.proofs.rule9.Goals as goal
 use Rattle.ends.proofs.rule9.Goals.{After-link_address-base}
 
-next : (c : After-link_address-base) → Next c.args.c.n c.args.heap.now (c.page_count-pages.result - c.pages.counter) c.pages.link c.link_address-base.result.0
+next : (c : After-link_address-base) → Next c.args.admitted.lent.control.n c.args.admitted.lent.heap.now (c.page_count-pages.result - c.pages.counter) c.pages.link c.link_address-base.result.0
 next c = next_page_lem _ _ _ c.page_count-pages.ensures _ _ _ c.link_address-base.ensures (omega arith) (λ z. omega arith) (omega arith)
 
 pub pages-preserved : goal.pages-preserved
