@@ -26,6 +26,9 @@ pub head_eight : (m : ℕ) (text : List ℕ) → m ≡ 8 → head_fits (words_at
 unfolding words_at
 head_eight m text e = rw e
 
+-- what the limits of the first frame's words say of their number
+pub ruleset eight_words = (head_other, head_eight)
+
 module _ (text : List ℕ) (h : Head) (e : h ≡ head_from (words_at 8 text 6)) (f : frame_fits 1 head_fits text 0 ≡ true) where
   fits : head_fits (words_of text 0) ≡ true
   unfolding frame_fits

@@ -43,6 +43,7 @@ impl From<Head> for Control {
 }
 
 // The frames of the pages, and nothing behind them.
+#[tactic(auto, using(crate::proofs::Lines::pages_more, crate::proofs::Lines::pages_over))]
 fn judge_pages(text: &[u8], c: Cursor, pages: usize, most: usize) -> Result<(), Refusal>
     requires { (c.at ≤ 2 ^ 32) × (c.line ≤ 5) × (pages ≤ 65536) }
     ensures { result ≡ rest_of (read_frames c.line (replicate pages (expected 5 most)) (drop c.at text.now)) }
@@ -58,6 +59,7 @@ fn judge_pages(text: &[u8], c: Cursor, pages: usize, most: usize) -> Result<(), 
 }
 
 // The words of the first frame.
+#[tactic(auto, unfolding(scanning::specs::Places::words_at))]
 pub fn read_head(text: &[u8]) -> Head
     ensures { result ≡ head_from (words_at 8 text.now 6) }
 {
@@ -96,7 +98,7 @@ fn head_fits(h: Head) -> bool
 }
 
 // Whether the text begins with a well formed first frame.
-#[tactic(auto, using(laws::proofs::Tests::tests, crate::proofs::Heads::head_other, crate::proofs::Heads::head_eight), unfolding(scanning::specs::Places::frame_fits))]
+#[tactic(auto, using(laws::proofs::Tests::tests, crate::proofs::Heads::eight_words), unfolding(scanning::specs::Places::frame_fits))]
 fn head_frame(text: &[u8]) -> bool
     ensures { result ≡ frame_fits 1 head_fits text.now 0 }
 {
@@ -116,6 +118,7 @@ fn judge_parts(text: &[u8], h: Head) -> Result<(), Refusal>
 }
 
 // The first pass: the first frame's words, or the line of the first malformed frame.
+#[tactic(auto, using(crate::proofs::Heads::head_fits_lem, crate::proofs::Heads::judged_stop, crate::proofs::Heads::judged_on))]
 pub fn judge(text: &[u8]) -> Result<Head, Refusal>
     ensures { result ≡ judged_as (read_text text.now) }
 {
@@ -141,6 +144,7 @@ fn word_at(text: &[u8], from: usize, count: usize, i: usize) -> u32
 }
 
 // Fills a part from the frame that begins at a place. The answer is the place behind the frame.
+#[tactic(auto, using(crate::proofs::Fills::part_turn, crate::proofs::Fills::part_end))]
 pub fn fill_part(text: &[u8], from: usize, part: &mut [u32]) -> usize
     requires { (from ≤ 2 ^ 40) × (length part.old ≤ 65536) }
     ensures { (part.new ≡ part_at (length part.old) text.now from)

@@ -14,6 +14,7 @@ use limits::Admitted;
 use pages::{page_count, page_part};
 
 // The digit of a number below 16.
+#[tactic(auto, using(laws::proofs::Tests::tests), unfolding(rules::specs::Image::digit_of))]
 fn digit(d: u32) -> u8
     requires { d < 16 }
     ensures { result ≡ digit_of d }
@@ -25,6 +26,7 @@ fn digit(d: u32) -> u8
 }
 
 // The last m digits of w.
+#[tactic(auto, using(rules::proofs::Frames::digits_turn, rules::proofs::Frames::digits_end))]
 fn write_digits(bytes: &mut [u8], at: usize, w: u32, m: u32)
     requires { (m ≤ 8) × (at + m ≤ length bytes.old) }
     ensures { bytes.new ≡ sets bytes.old at (hex m w) }
@@ -37,6 +39,7 @@ fn write_digits(bytes: &mut [u8], at: usize, w: u32, m: u32)
 }
 
 // The words, eight digits each.
+#[tactic(auto, using(rules::proofs::Frames::words_turn, rules::proofs::Frames::words_end))]
 fn write_words(bytes: &mut [u8], at: usize, words: &[u32])
     requires { at + 8 * length words.now ≤ length bytes.old }
     ensures { bytes.new ≡ sets bytes.old at (hex_words words.now) }
@@ -49,6 +52,7 @@ fn write_words(bytes: &mut [u8], at: usize, words: &[u32])
 }
 
 // A frame: kind, word count, words, newline.
+#[tactic(auto, using(rules::proofs::Frames::frame_sets))]
 pub fn write_frame(bytes: &mut [u8], at: usize, kind: u32, words: &[u32])
     requires { (length words.now ≤ 65536) × (at + 7 + 8 * length words.now ≤ length bytes.old) }
     ensures { bytes.new ≡ sets bytes.old at (frame kind words.now) }
@@ -83,6 +87,7 @@ fn kept(words: &[u32]) -> usize
 }
 
 // The frame of a part, its trailing zeros dropped. The answer is where the frame ends.
+#[tactic(auto, using(rules::proofs::Frames::length_trim, rules::proofs::Frames::trim_part))]
 fn write_part(bytes: &mut [u8], at: usize, kind: u32, part: &[u32]) -> usize
     requires { (length part.now ≤ 65536) × (at + (7 + 8 * length (trim part.now)) ≤ length bytes.old) }
     ensures { (bytes.new ≡ sets bytes.old at (frame kind (trim part.now)))
@@ -94,6 +99,7 @@ fn write_part(bytes: &mut [u8], at: usize, kind: u32, part: &[u32]) -> usize
 }
 
 // The frames of all pages.
+#[tactic(auto, using(rules::proofs::Frames::pages_turn, rules::proofs::Frames::pages_room, rules::proofs::Frames::pages_text_end))]
 fn write_pages(bytes: &mut [u8], at: usize, heap: &[u32], n: u32, pages: usize)
     requires { Paged n (length heap.now)
         × (pages ≡ length heap.now / 2 ^ n)
@@ -133,6 +139,7 @@ pub fn write_text(bytes: &mut [u8], heap: Admitted<'_>)
 }
 
 // How long a part's frame is.
+#[tactic(auto, using(rules::proofs::Frames::length_trim))]
 fn part_length(part: &[u32]) -> usize
     requires { length part.now ≤ 65536 }
     ensures { (result ≡ 7 + 8 * length (trim part.now)) × (result ≤ 524295) }
@@ -141,6 +148,7 @@ fn part_length(part: &[u32]) -> usize
 }
 
 // How long the frames of all pages are.
+#[tactic(auto, using(rules::proofs::Frames::page_text, rules::proofs::Frames::pages_text_length, rules::proofs::Frames::pages_text_end))]
 fn pages_length(heap: &[u32], n: u32, pages: usize) -> usize
     requires { Paged n (length heap.now) × (pages ≡ length heap.now / 2 ^ n) }
     ensures { (result ≡ length (page_frames n heap.now pages 0)) × (result ≤ 2055 * pages) }

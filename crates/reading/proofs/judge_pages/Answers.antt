@@ -3,7 +3,7 @@ use Prim.Native.Nat.{◌+◌, ◌-◌, ◌<◌}
 use mathlib.Core.Path.{◌≡◌, sym, ◌∙◌}
 use native.Mathlib.Omega.{arith}
 use Rattle.std.proofs.lemmas.Result.{err_from_is_err_and}
-use Rattle.reading.proofs.Lines.{step_far, page_next, page_stop, pages_more, pages_over}
+use Rattle.reading.proofs.Lines.{step_far, page_next, page_stop}
 use Rattle.reading.proofs.judge_pages.Goals as goal
 
 pub returns-in_err-here : goal.returns-in_err-here
@@ -18,10 +18,3 @@ loop-preserved c =
     let q : c.args.pages - (c.loop.counter + 1) ≡ c.args.pages - c.loop.counter - 1 = omega arith in
     let f = step_far _ _ _ _ _ _ c.in_ok-here.was c.part_frame.ensures in
     (rw q (sym (page_next _ _ _ _ l _ c.part_frame.ensures _ c.in_ok-here.was) ∙ c.loop.invariant.0), omega arith, omega arith)
-
-pub returns-then-here-text : goal.returns-then-here-text
-returns-then-here-text c =
-    sym (pages_more c.args.text.now c.loop.here _ (c.args.pages - c.loop.counter) (omega arith) (omega arith)) ∙ c.loop.invariant.0
-
-pub returns : goal.returns
-returns c = sym (pages_over c.args.text.now c.loop.here _ (c.args.pages - c.loop.counter) (omega arith) (omega arith)) ∙ c.loop.invariant.0
