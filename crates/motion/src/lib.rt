@@ -15,6 +15,7 @@ pub struct Desk<'a> {
     ghost fits: { (4 ≤ n) × (n ≤ 8) },
 }
 
+// What is only read is read through these: a `&mut` field that is lent as `&` by itself would have an unknown value afterwards.
 impl Desk<'_> {
     // The heap, to be read.
     pub fn heap(&self) -> &[u32]
