@@ -154,16 +154,6 @@ pub fn refusal_place(r: Refusal) -> u32
     match r {
         Refusal::Broken(rule) => rule,
         Refusal::Malformed(line) => line,
-        Refusal::Limits => 0,
-        Refusal::RegionsFull => 0,
-        Refusal::NoPage => 0,
-        Refusal::NoRegion => 0,
-        Refusal::Held => 0,
-        Refusal::NotGood => 0,
-        Refusal::TooLong => 0,
-        Refusal::NoFields => 0,
-        Refusal::NoSuch => 0,
-        Refusal::Constant => 0,
-        Refusal::NoNumber => 0,
+        _ => 0,
     }
 }
