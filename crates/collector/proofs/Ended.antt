@@ -27,23 +27,18 @@ finished c c' p h t rs notes rs' h₁ h₂ notes₂ t' k n g a b d e f =
     let given = rw (n, count) at d in
     rw (f, e, a, ← owned, ← given)
 
--- the notes at the start
-pub begun_is : (first last : ℕ) (t t' : List ℕ) → t ≡ set (replicate 400 0) free_first first → t' ≡ set t free_last last → t' ≡ begun_notes first last
-unfolding begun_notes
-begun_is first last t t' e q = rw (q, e)
-
 -- a page is lacking: h₁ and notes₂ are what the attempt left
-pub lacks : (c : Control) (h t rs notes h₁ notes₂ h₂ k : List ℕ) (m : ℕ) → notes ≡ begun_notes c.first c.last
-    → after false (desk h₁ notes₂) ≡ attempt c.n c.regions (2 * length h) rs (desk h notes) → length h₁ ≡ length h → m ≡ at notes₂ taken
-    → h₂ ≡ undo c.n m (page_count c.n h₁) c.regions c.first t h₁
+pub lacks : (c : Control) (h t rs h₁ notes₂ h₂ k : List ℕ) (m : ℕ)
+    → after false (desk h₁ notes₂) ≡ attempt c.n c.regions (2 * length h) rs (desk h (set (set (replicate 400 0) free_first c.first) free_last c.last))
+    → length h₁ ≡ length h → m ≡ at notes₂ taken → h₂ ≡ undo c.n m (page_count c.n h₁) c.regions c.first t h₁
     → outcome (refusing Refusal.NoPage c) h₂ t rs k ≡ working_collect (lent h t rs k c)
-unfolding lacking ended working_collect
-lacks c h t rs notes h₁ notes₂ h₂ k m a b l d f = rw (f, l, d, ← a, ← b)
+unfolding begun_notes lacking ended working_collect
+lacks c h t rs h₁ notes₂ h₂ k m b l d f = rw (f, l, d, ← b)
 
 -- the attempt has pages enough, and `finish` ends it
-pub ends : (c c' : Control) (h t rs notes h₁ notes₂ h₂ t' rs' k : List ℕ) → notes ≡ begun_notes c.first c.last
-    → after true (desk h₁ notes₂) ≡ attempt c.n c.regions (2 * length h) rs (desk h notes) → length h₁ ≡ length h
-    → outcome (Ok c') h₂ t' rs' k ≡ done (lent h₁ t rs k c) (page_count c.n h₁) (desk h₁ notes₂)
+pub ends : (c c' : Control) (h t rs h₁ notes₂ h₂ t' rs' k : List ℕ)
+    → after true (desk h₁ notes₂) ≡ attempt c.n c.regions (2 * length h) rs (desk h (set (set (replicate 400 0) free_first c.first) free_last c.last))
+    → length h₁ ≡ length h → outcome (Ok c') h₂ t' rs' k ≡ done (lent h₁ t rs k c) (page_count c.n h₁) (desk h₁ notes₂)
     → outcome (Ok c') h₂ t' rs' k ≡ working_collect (lent h t rs k c)
-unfolding done_as done ended working_collect
-ends c c' h t rs notes h₁ notes₂ h₂ t' rs' k a b l f = rw (← a, ← b, ← l) f
+unfolding begun_notes done_as done ended working_collect
+ends c c' h t rs h₁ notes₂ h₂ t' rs' k b l f = rw (← b, ← l) f

@@ -12,7 +12,7 @@ ghost use Rattle.motion.specs.Whole.{undo as undo_def, done, working_collect};
 use attempting::attempt;
 use ending::{give_all, own_all, record_by, write_roots, write_table};
 use leaves::size::Pages;
-use leaves::{word, write};
+use leaves::word;
 use motion::{FREE_FIRST, FREE_LAST, NOTES, NoPage, TAKEN};
 use pages::page_count;
 use rules::{Control, Refusal, Refused};
@@ -72,8 +72,8 @@ pub fn copy_living(
         ≡ working_collect (lent heap.old table.old roots.old k c) }
 {
     let mut notes = [0u32; NOTES];
-    write(&mut notes, FREE_FIRST, c.first as usize);
-    write(&mut notes, FREE_LAST, c.last as usize);
+    notes[FREE_FIRST] = c.first;
+    notes[FREE_LAST] = c.last;
     let fuel = 2 * heap.len();
     match attempt(heap, &mut notes, roots, c.regions, fuel, c.n) {
         Ok(()) => Ok(finish(heap, &mut notes, table, roots, c)),

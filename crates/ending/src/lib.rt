@@ -28,7 +28,7 @@ fn own(heap: &mut [u32], j: Region, k: Page, n: u32)
 }
 
 // The origins of all regions' new pages.
-#[tactic(auto, unfolding(laws::specs::Each::steps))]
+#[tactic(auto, using(leaves::proofs::Walks::walked), unfolding(laws::specs::Each::steps))]
 pub fn own_all(heap: &mut [u32], notes: &[u32], regions: u32, pages: Pages)
     requires { regions ≤ 64 }
     ensures { heap.new ≡ own_all pages.n pages.count regions notes.now heap.old }
@@ -64,7 +64,7 @@ fn give_back(heap: &mut [u32], notes: &mut [u32], k: Page, n: u32)
 }
 
 // The old pages of all regions, bottom region first, given back.
-#[tactic(auto, unfolding(laws::specs::Each::steps))]
+#[tactic(auto, using(leaves::proofs::Walks::walked), unfolding(laws::specs::Each::steps))]
 pub fn give_all(heap: &mut [u32], notes: &mut [u32], table: &[u32], regions: u32, pages: Pages)
     requires { AllOf pages heap.old }
     ensures { desk heap.new notes.new ≡ give_all pages.n pages.count regions table.now (desk heap.old notes.old) }

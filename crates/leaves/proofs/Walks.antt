@@ -3,7 +3,7 @@ use Prim.Native.Nat.{ℕ, zero, suc, ◌+◌, ◌/◌, ◌^◌, ◌<◌}
 use native.Mathlib.Omega.{arith}
 use native.Mathlib.Nat.{add-zero, zero-add}
 use native.Mathlib.Numerals.{add-one}
-use mathlib.Core.Path.{◌≡◌, sym, ap, ◌∙◌}
+use mathlib.Core.Path.{◌≡◌, refl, sym, ap, ◌∙◌}
 use mathlib.Core.Logic.{inl, inr}
 use mathlib.Core.List.{List}
 use lib.ListN.{length}
@@ -29,12 +29,12 @@ module _ {S : Type 0} (next : ℕ → S → ℕ → ℕ) (g : ℕ → S → S) w
     pub sets_out : (c : Chain) → (link_to c.page ≡ l) × (c.left ≡ f) × (c.pages ≡ p) → Walking p f l s₀ s₀ c
     sets_out c (e, q, r) = record { rest = rw (e, q); pages = r }
 
-    pub goes_on : (s s' : S) (c c' : Chain) (k x : ℕ) → Walking p f l s₀ s c → Passed c c' k x → x ≡ next c.pages.n s k → s' ≡ g k s → Walking p f l s₀ s' c'
-    goes_on s s' c c' k x w t e q =
+    pub goes_on : (s s' : S) (c c' : Chain) (k : ℕ) → Walking p f l s₀ s c → Passed c c' k (next c.pages.n s k) → s' ≡ g k s → Walking p f l s₀ s' c'
+    goes_on s s' c c' k w t q =
         let b : k < p.count = rw w.pages at t.known in
-        let y : x ≡ next p.n s k = rw w.pages at e in
+        let e = rw w.pages at t.goes_on in
         record {
-          rest = rw (t.left, t.goes_on) (sym (along_more c.left p.count (next p.n) g (link_to c.page) x k s s' t.may t.named b y q) ∙ w.rest);
+          rest = rw (t.left, e) (sym (along_more c.left p.count (next p.n) g (link_to c.page) (next p.n s k) k s s' t.may t.named b refl q) ∙ w.rest);
           pages = t.pages ∙ w.pages;
         }
 
@@ -56,3 +56,6 @@ region_done g i s₀ s s' e w =
 
 pub regions_done : {S : Type 0} (g : ℕ → S → S) (i r : ℕ) (s₀ s : S) → s ≡ steps i g 0 s₀ → i ≡ r → s ≡ steps r g 0 s₀
 regions_done g i r s₀ s e q = rw q at e
+
+-- what the proofs of the walks use
+pub ruleset walked = (page_kept, sets_out, arrives, region_done, regions_done)

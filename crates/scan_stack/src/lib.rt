@@ -57,6 +57,7 @@ fn next_body(desk: &Desk<'_>, s: Address) -> Address
 }
 
 // Where the scan goes on after the value at an entry.
+#[tactic(auto, using(crate::proofs::Masks::off_pages), unfolding(motion::specs::Run::next_of))]
 fn next_scan(desk: &Desk<'_>, at: Entry) -> Address
     requires { Fitting at }
     ensures { result.0 ≡ next_scan desk.now.n at.region.0 at.address.0 (laid desk.now) }
@@ -67,10 +68,7 @@ fn next_scan(desk: &Desk<'_>, at: Entry) -> Address
     if t.0 == top.0 {
         return t;
     }
-    if t.0 & (page_words(desk.n) - 1) == 0 {
-        return next_body(desk, at.address);
-    }
-    if word(desk.heap, t.0) == 0 {
+    if t.0 & (page_words(desk.n) - 1) == 0 || word(desk.heap, t.0) == 0 {
         return next_body(desk, at.address);
     }
     t

@@ -52,7 +52,7 @@ fn undo_page(heap: &mut [u32], k: Page, n: u32)
 }
 
 // The headers of all regions' pages.
-#[tactic(auto, unfolding(laws::specs::Each::steps))]
+#[tactic(auto, using(leaves::proofs::Walks::walked), unfolding(laws::specs::Each::steps))]
 pub fn undo_headers(heap: &mut [u32], table: &[u32], regions: u32, pages: Pages)
     requires { 4 ≤ pages.n }
     ensures { heap.new ≡ undo_headers pages.n pages.count regions table.now heap.old }
@@ -78,6 +78,7 @@ fn relink(heap: &mut [u32], k: Page, n: u32)
 }
 
 // The pages that were taken, from the link `first` on, free again.
+#[tactic(auto, using(leaves::proofs::Walks::walked))]
 pub fn relink_all(heap: &mut [u32], first: u32, taken: usize, pages: Pages)
     requires { AllOf pages heap.old }
     ensures { heap.new ≡ relink_all pages.n taken pages.count first heap.old }
