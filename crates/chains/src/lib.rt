@@ -100,7 +100,12 @@ fn free_listed(heap: &[u32], n: u32, first: u32) -> Option<(usize, u32)>
 pub fn rule3(admitted: Admitted<'_>) -> bool
     ensures { result ≡ rule3_of (store admitted.entry.lent) }
 {
-    let Lent { heap, table, control: c, .. } = admitted.lent;
+    let Lent {
+        heap,
+        table,
+        control: c,
+        ..
+    } = admitted.lent;
     let Some(held) = regions_chained(heap, table, c.n, c.regions as usize) else {
         return false;
     };

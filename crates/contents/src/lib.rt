@@ -18,7 +18,12 @@ use values::fits;
 pub fn rule5(admitted: Admitted<'_>) -> bool
     ensures { result ≡ rule5_of (store admitted.entry.lent) }
 {
-    let Lent { heap, table, control: c, .. } = admitted.lent;
+    let Lent {
+        heap,
+        table,
+        control: c,
+        ..
+    } = admitted.lent;
     let n = c.n;
     let regions = c.regions as usize;
     let size = page_words(n);

@@ -30,7 +30,12 @@ fn top_fits(table: &[u32], j: Region, n: u32) -> bool
 pub fn rule4(admitted: Admitted<'_>) -> bool
     ensures { result ≡ rule4_of (store admitted.entry.lent) }
 {
-    let Lent { heap, table, control: c, .. } = admitted.lent;
+    let Lent {
+        heap,
+        table,
+        control: c,
+        ..
+    } = admitted.lent;
     let n = c.n;
     let regions = c.regions as usize;
     let size = page_words(n);
@@ -70,7 +75,11 @@ pub fn rule4(admitted: Admitted<'_>) -> bool
 pub fn rule9(admitted: Admitted<'_>) -> bool
     ensures { result ≡ rule9_of (store admitted.entry.lent) }
 {
-    let Lent { heap, control: c, .. } = admitted.lent;
+    let Lent {
+        heap,
+        control: c,
+        ..
+    } = admitted.lent;
     let n = c.n;
     let first = c.first;
     let size = page_words(n);

@@ -56,7 +56,12 @@ fn records_pass<F: Fn(u32) -> bool>(admitted: Admitted<'_>, below: usize, test: 
     requires told { (w : ℕ) (b : Bool) → F.post test.now w b → b ≡ p w }
     ensures { let s = store admitted.entry.lent in result ≡ records_pass p s.ctl.n s.heap s.table below }
 {
-    let Lent { heap, table, control, .. } = admitted.lent;
+    let Lent {
+        heap,
+        table,
+        control,
+        ..
+    } = admitted.lent;
     let n = control.n;
     let size = page_words(n);
     let pages = page_count(heap.len(), n) as u32;
@@ -104,8 +109,17 @@ fn records_pass<F: Fn(u32) -> bool>(admitted: Admitted<'_>, below: usize, test: 
 pub fn rule6(admitted: Admitted<'_>) -> bool
     ensures { result ≡ rule6_of (store admitted.entry.lent) }
 {
-    let Lent { heap, consts, control, .. } = admitted.lent;
-    let memory = Memory { heap, consts, c: control };
+    let Lent {
+        heap,
+        consts,
+        control,
+        ..
+    } = admitted.lent;
+    let memory = Memory {
+        heap,
+        consts,
+        c: control,
+    };
     let good = move |w| good_word(memory, w);
     records_pass(admitted, control.regions as usize, &good)
 }
@@ -114,8 +128,18 @@ pub fn rule6(admitted: Admitted<'_>) -> bool
 pub fn rule7(admitted: Admitted<'_>) -> bool
     ensures { result ≡ rule7_of (store admitted.entry.lent) }
 {
-    let Lent { heap, roots, consts, control, .. } = admitted.lent;
-    let memory = Memory { heap, consts, c: control };
+    let Lent {
+        heap,
+        roots,
+        consts,
+        control,
+        ..
+    } = admitted.lent;
+    let memory = Memory {
+        heap,
+        consts,
+        c: control,
+    };
     let good = move |w| good_word(memory, w);
     words_pass(roots, &good)
 }
@@ -125,7 +149,12 @@ pub fn let_go(admitted: Admitted<'_>, j: Region) -> bool
     requires { j.0 ≤ 64 }
     ensures { let s = store admitted.entry.lent in result ≡ let_go s.ctl.n s.heap s.table s.roots j.0 }
 {
-    let Lent { heap, roots, control, .. } = admitted.lent;
+    let Lent {
+        heap,
+        roots,
+        control,
+        ..
+    } = admitted.lent;
     let apart = move |w| !points_into(heap, control.n, j, w);
     // as many regions lie below region j as its number says
     words_pass(roots, &apart) && records_pass(admitted, j.0, &apart)

@@ -1,7 +1,8 @@
 -- What a pop leaves, by the audit's answer and the tests after it: on a heap that passes, what is given back along the links is what document 01
 -- gives back.
-use Rattle.std.specs.Prelude.{Ok}
-use Rattle.rules.specs.Refusals.{outcome, refused, refusing}
+use Rattle.std.specs.Prelude.{Ok, Err}
+use Rattle.rules.specs.declared.Refused.{Refused}
+use Rattle.rules.specs.Refusals.{outcome, refused, unchanged}
 use Prim.Native.Nat.{ℕ, ◌-◌}
 use mathlib.Core.Path.{◌≡◌, refl, sym, ap, ◌∙◌}
 use mathlib.Core.Bool.{Bool, true, false}
@@ -16,13 +17,20 @@ use Rattle.rules.specs.Pages.{begun}
 use Rattle.rules.specs.Calls.{audit, let_go, pop_on, pop_top, pop}
 use Rattle.rules.proofs.Limits.{pages_few}
 use Rattle.rules.proofs.Judged.{Passes, passed, passed_admitted, judged_refuse}
+use Rattle.limits.specs.First.{tests_of}
+use Rattle.limits.proofs.First.{refused_first}
 use Rattle.facts.proofs.Passing.{meaning}
 use Rattle.giving.specs.Giving.{Free, Left, give_chain}
 use Rattle.giving.proofs.Chain.{last_there, region_given}
 
-pub pop_broken : (s : Store) (why : Refusal) (c : Control) → refusing why c ≡ audit s → refused s why ≡ pop s
+-- the first tests refuse, or the audit does
+pub pop_early : (s : Store) {f : Refused} → tests_of s ≡ Err f → unchanged (Err f) s ≡ pop s
 unfolding pop
-pop_broken s why c e = judged_refuse (refused s) _ s e
+pop_early s q = refused_first s (λ f. unchanged (Err f) s) _ q
+
+pub pop_broken : (s : Store) {f : Refused} → Err f ≡ audit s → unchanged (Err f) s ≡ pop s
+unfolding pop
+pop_broken s e = judged_refuse (λ f. unchanged (Err f) s) _ s e
 
 module _ (s : Store) (p : Passes s) where
   -- pages can follow the free list

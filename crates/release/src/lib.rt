@@ -11,31 +11,49 @@ use audit::audit;
 use conversions::region_numbered;
 use fields::let_go;
 use giving::give_chain;
+use limits::admit;
 use rows::{clear_row, first_link};
-use rules::{Control, Plain, Refusal};
+use rules::{Control, Lent, Refusal, Refused};
 
 // The top region's pages are free again, and its table words are 0. Refused while a root, or a field of a record in another region, points
 // into it.
-pub fn pop(heap: &mut [u32], table: &mut [u32], roots: &[u32], consts: &[u32], c: Control) -> Plain
+pub fn pop(
+    heap: &mut [u32],
+    table: &mut [u32],
+    roots: &[u32],
+    consts: &[u32],
+    c: Control,
+) -> Result<Control, Refused>
     ensures { outcome result heap.new table.new roots.now consts.now
         ≡ pop_of (lent heap.old table.old roots.now consts.now c) }
 {
-    let judged = audit(heap, table, roots, consts, c);
-    if let Plain::Refused(why, _) = judged {
-        return Plain::Refused(why, c);
-    }
+    let entered = Lent {
+        heap,
+        table,
+        roots,
+        consts,
+        control: c,
+    };
+    let admitted = admit(entered)?;
+    audit(entered)?;
     if c.regions == 0 {
-        return Plain::Refused(Refusal::NoRegion, c);
+        return Err(Refused {
+            why: Refusal::NoRegion,
+            control: c,
+        });
     }
     let below = c.regions - 1;
     let j = region_numbered(below as usize);
-    if !let_go(heap, table, roots, consts, c, j) {
-        return Plain::Refused(Refusal::Held, c);
+    if !let_go(admitted, j) {
+        return Err(Refused {
+            why: Refusal::Held,
+            control: c,
+        });
     }
     let first = first_link(table, j, c.n);
     let free = give_chain(heap, first, c);
     clear_row(table, j);
-    Plain::Done(Control {
+    Ok(Control {
         n: c.n,
         regions: below,
         first: free.first,
