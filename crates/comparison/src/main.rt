@@ -5,6 +5,7 @@
 mod report;
 
 use outside_images::image_of;
+use rules::Lent;
 use samples::chance;
 use samples::making::make;
 use samples::shape::{Shape, shape_of};
@@ -26,8 +27,15 @@ fn tried(
 ) {
     let c = make(heap, table, roots, consts, x, shape);
     sums.made(heap, roots, c);
-    let answer = both(heap, table, roots, consts, c, sums);
-    sums.left(heap, table, roots, consts, answer);
+    if let Ok(control) = both(heap, table, roots, consts, c, sums) {
+        sums.left(Lent {
+            heap,
+            table,
+            roots,
+            consts,
+            control,
+        });
+    }
 }
 
 // Sample number i. One of more words or roots than a heap may have is left out.

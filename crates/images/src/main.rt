@@ -3,9 +3,11 @@
 
 #![tactic(auto)]
 
+ghost use Rattle.std.specs.Prelude.{◌≤◌};
+
 use conversions::{refusal_number, refusal_place};
 use image::{read_image, write_image};
-use rules::{Control, Opened, Refusal, Valued};
+use rules::{Control, Lent, Refusal, Refused};
 use std::io;
 use std::io::Write;
 
@@ -70,391 +72,349 @@ fn example_control(first: u32) -> Control {
     }
 }
 
-// The example, written into bytes that it just fits.
-fn example(out: &mut impl Write, bytes: &mut [u8]) -> io::Result<()> {
+// What writing the example answers, with h words of its heap, this free first and this word behind the table's row.
+fn written(h: usize, first: u32, behind: u32, bytes: &mut [u8]) -> Result<(u32, Control), Refused>
+    requires { h ≤ 32 }
+{
     let heap = example_heap();
-    let table = example_table();
-    let roots = [0x14u32];
-    let consts = [0u32; 1];
-    print_image(
-        out,
-        &heap,
-        &table,
-        &roots,
-        &consts[0..0],
-        example_control(2),
-        bytes,
-    )
+    let mut table = example_table();
+    table[4] = behind;
+    let lent = Lent {
+        heap: &heap[..h],
+        table: &table,
+        roots: &[0x14],
+        consts: &[],
+        control: example_control(first),
+    };
+    write_image(lent, bytes)
+}
+
+// The example, written into bytes that it just fits.
+fn example(out: &mut impl Write, bytes: &mut [u8; 202]) -> io::Result<()> {
+    let answer = written(32, 2, 0, bytes);
+    print_image(out, answer, bytes)
 }
 
 // Read into parts that hold other words, and written again.
-fn read_back(out: &mut impl Write, image: &[u8]) -> io::Result<()> {
+fn read_back(out: &mut impl Write, image: &[u8; 202]) -> io::Result<()> {
     let mut heap = [7u32; 32];
     let mut table = [7u32; 256];
     let mut roots = [7u32; 1];
-    let mut consts = [7u32; 1];
+    let mut consts = [0u32; 0];
     let mut bytes = [0u8; 202];
-    match read_image(image, &mut heap, &mut table, &mut roots, &mut consts[0..0]) {
-        Opened::Refused(why) => refused(out, b"read back", why),
-        Opened::Done(c) => print_image(out, &heap, &table, &roots, &consts[0..0], c, &mut bytes),
+    match read_image(image, &mut heap, &mut table, &mut roots, &mut consts) {
+        Err(why) => answer(out, "read back", Err(why)),
+        Ok(control) => {
+            let lent = Lent {
+                heap: &heap,
+                table: &table,
+                roots: &roots,
+                consts: &consts,
+                control,
+            };
+            let written = write_image(lent, &mut bytes);
+            print_image(out, written, &bytes)
+        }
     }
 }
 
 // Free first, last and count are not looked at, and a heap may have more regions than pages: both are the audit's questions.
-fn no_damage(out: &mut impl Write, image: &[u8]) -> io::Result<()> {
-    damaged(out, b"no damage", image, END, END, b"")?;
+fn no_damage(out: &mut impl Write, image: &[u8; 202]) -> io::Result<()> {
+    damaged(out, "no damage", image, END, END, "")?;
     damaged(
         out,
-        b"free list unlooked at",
+        "free list unlooked at",
         image,
         30,
         54,
-        b"ffffffffffffffffffffffff",
+        "ffffffffffffffffffffffff",
     )?;
-    damaged(out, b"regions above pages", image, 22, 30, b"00000003")
+    damaged(out, "regions above pages", image, 22, 30, "00000003")
 }
 
 // "with any other byte"
-fn other_bytes(out: &mut impl Write, image: &[u8]) -> io::Result<()> {
+fn other_bytes(out: &mut impl Write, image: &[u8; 202]) -> io::Result<()> {
+    damaged(out, "upper-case digit", image, PAGE0 + 69, PAGE0 + 70, "F")?;
     damaged(
         out,
-        b"upper-case digit",
-        image,
-        PAGE0 + 69,
-        PAGE0 + 70,
-        b"F",
-    )?;
-    damaged(
-        out,
-        b"upper-case digit in a count",
+        "upper-case digit in a count",
         image,
         PAGE1,
         END,
-        b"05000A00000000000000000000000000000000000000000000000000000000000000000000000000000001\n",
+        "05000A00000000000000000000000000000000000000000000000000000000000000000000000000000001\n",
     )?;
-    damaged(out, b"letter past f", image, TABLE + 29, TABLE + 30, b"g")?;
-    damaged(
-        out,
-        b"space for a digit",
-        image,
-        ROOTS + 13,
-        ROOTS + 14,
-        b" ",
-    )?;
-    damaged(out, b"carriage return", image, 70, 70, b"\r")?;
-    damaged(out, b"empty line", image, ROOTS, ROOTS, b"\n")?;
-    damaged(out, b"digit too many", image, CONSTS + 6, CONSTS + 6, b"0")?;
-    damaged(out, b"two frames on a line", image, ROOTS - 1, ROOTS, b"")
+    damaged(out, "letter past f", image, TABLE + 29, TABLE + 30, "g")?;
+    damaged(out, "space for a digit", image, ROOTS + 13, ROOTS + 14, " ")?;
+    damaged(out, "carriage return", image, 70, 70, "\r")?;
+    damaged(out, "empty line", image, ROOTS, ROOTS, "\n")?;
+    damaged(out, "digit too many", image, CONSTS + 6, CONSTS + 6, "0")?;
+    damaged(out, "two frames on a line", image, ROOTS - 1, ROOTS, "")
 }
 
 // "Kinds 02 to 05 drop their trailing zero words, and a frame that keeps one is malformed."
-fn kept_zeros(out: &mut impl Write, image: &[u8]) -> io::Result<()> {
+fn kept_zeros(out: &mut impl Write, image: &[u8; 202]) -> io::Result<()> {
     damaged(
         out,
-        b"kept zero, table",
+        "kept zero, table",
         image,
         TABLE,
         ROOTS,
-        b"02000400000010000000000000000800000000\n",
+        "02000400000010000000000000000800000000\n",
     )?;
     damaged(
         out,
-        b"kept zero, roots",
+        "kept zero, roots",
         image,
         ROOTS,
         CONSTS,
-        b"03000100000000\n",
+        "03000100000000\n",
     )?;
     damaged(
         out,
-        b"kept zero, constants",
+        "kept zero, constants",
         image,
         62,
         PAGE0,
-        b"00000001\n020003000000100000000000000008\n03000100000014\n04000100000000\n",
+        "00000001\n020003000000100000000000000008\n03000100000014\n04000100000000\n",
     )?;
     damaged(
         out,
-        b"kept zero, page",
+        "kept zero, page",
         image,
         PAGE1,
         END,
-        b"05000100000000\n",
+        "05000100000000\n",
     )
 }
 
 // "out of order"
-fn out_of_order(out: &mut impl Write, image: &[u8]) -> io::Result<()> {
+fn out_of_order(out: &mut impl Write, image: &[u8; 202]) -> io::Result<()> {
     damaged(
         out,
-        b"roots before table",
+        "roots before table",
         image,
         TABLE,
         CONSTS,
-        b"03000100000014\n020003000000100000000000000008\n",
+        "03000100000014\n020003000000100000000000000008\n",
     )?;
     damaged(
         out,
-        b"constants before roots",
+        "constants before roots",
         image,
         ROOTS,
         PAGE0,
-        b"040000\n03000100000014\n",
+        "040000\n03000100000014\n",
     )?;
-    damaged(out, b"first frame of kind 02", image, 0, 2, b"02")?;
-    damaged(out, b"page of kind 06", image, PAGE1, PAGE1 + 2, b"06")
+    damaged(out, "first frame of kind 02", image, 0, 2, "02")?;
+    damaged(out, "page of kind 06", image, PAGE1, PAGE1 + 2, "06")
 }
 
 // "with more words than its part"; the first frame has "always 8 words".
-fn too_many_words(out: &mut impl Write, image: &[u8]) -> io::Result<()> {
+fn too_many_words(out: &mut impl Write, image: &[u8; 202]) -> io::Result<()> {
     damaged(
         out,
-        b"first frame, seven words",
+        "first frame, seven words",
         image,
         2,
         70,
-        b"000700000004000000020000000100000002000000020000000100000001",
+        "000700000004000000020000000100000002000000020000000100000001",
     )?;
     damaged(
         out,
-        b"first frame, nine words",
+        "first frame, nine words",
         image,
         2,
         70,
-        b"0009000000040000000200000001000000020000000200000001000000010000000000000000",
+        "0009000000040000000200000001000000020000000200000001000000010000000000000000",
     )?;
     damaged(
         out,
-        b"five table words",
+        "five table words",
         image,
         TABLE,
         ROOTS,
-        b"0200050000001000000000000000080000000000000001\n",
+        "0200050000001000000000000000080000000000000001\n",
     )?;
     damaged(
         out,
-        b"two roots",
+        "two roots",
         image,
         ROOTS,
         CONSTS,
-        b"0300020000001400000001\n",
+        "0300020000001400000001\n",
     )?;
     damaged(
         out,
-        b"one constant",
+        "one constant",
         image,
         CONSTS,
         PAGE0,
-        b"04000100000001\n",
+        "04000100000001\n",
     )?;
     damaged(
         out,
-        b"seventeen words in a page",
+        "seventeen words in a page",
         image,
         PAGE1,
         END,
-        b"0500110000000000000000000000000000000000000000000000000000000000000000000000000000000000000000000000000000000000000000000000000000000000000000000001\n",
+        "0500110000000000000000000000000000000000000000000000000000000000000000000000000000000000000000000000000000000000000000000000000000000000000000000001\n",
     )
 }
 
 // "cut short"
-fn cut_short(out: &mut impl Write, image: &[u8]) -> io::Result<()> {
-    damaged(out, b"digit short", image, PAGE0 + 69, PAGE0 + 70, b"")?;
-    damaged(out, b"word short", image, PAGE0 + 62, PAGE0 + 70, b"")?;
+fn cut_short(out: &mut impl Write, image: &[u8; 202]) -> io::Result<()> {
+    damaged(out, "digit short", image, PAGE0 + 69, PAGE0 + 70, "")?;
+    damaged(out, "word short", image, PAGE0 + 62, PAGE0 + 70, "")?;
     damaged(
         out,
-        b"count one word short",
+        "count one word short",
         image,
         PAGE0 + 2,
         PAGE0 + 6,
-        b"0007",
+        "0007",
     )?;
     damaged(
         out,
-        b"count without words",
+        "count without words",
         image,
         PAGE1 + 2,
         PAGE1 + 6,
-        b"ffff",
+        "ffff",
     )?;
-    damaged(out, b"text cut in a line", image, CONSTS + 3, END, b"")?;
-    damaged(out, b"no last newline", image, END - 1, END, b"")
+    damaged(out, "text cut in a line", image, CONSTS + 3, END, "")?;
+    damaged(out, "no last newline", image, END - 1, END, "")
 }
 
 // "or missing"
-fn missing(out: &mut impl Write, image: &[u8]) -> io::Result<()> {
-    damaged(out, b"no text", image, 0, END, b"")?;
-    damaged(out, b"no first frame", image, 0, TABLE, b"")?;
-    damaged(out, b"first frame alone", image, TABLE, END, b"")?;
-    damaged(out, b"no constants", image, CONSTS, PAGE0, b"")?;
-    damaged(out, b"no last page", image, PAGE1, END, b"")
+fn missing(out: &mut impl Write, image: &[u8; 202]) -> io::Result<()> {
+    damaged(out, "no text", image, 0, END, "")?;
+    damaged(out, "no first frame", image, 0, TABLE, "")?;
+    damaged(out, "first frame alone", image, TABLE, END, "")?;
+    damaged(out, "no constants", image, CONSTS, PAGE0, "")?;
+    damaged(out, "no last page", image, PAGE1, END, "")
 }
 
 // "or one past the last"
-fn past_the_last(out: &mut impl Write, image: &[u8]) -> io::Result<()> {
-    damaged(out, b"page past the last", image, END, END, b"050000\n")?;
-    damaged(out, b"newline past the last", image, END, END, b"\n")?;
-    damaged(out, b"digit past the last", image, END, END, b"0")
+fn past_the_last(out: &mut impl Write, image: &[u8; 202]) -> io::Result<()> {
+    damaged(out, "page past the last", image, END, END, "050000\n")?;
+    damaged(out, "newline past the last", image, END, END, "\n")?;
+    damaged(out, "digit past the last", image, END, END, "0")
 }
 
 // "in the first frame also n, N, R, roots or constants outside their limits"
-fn outside_limits(out: &mut impl Write, image: &[u8]) -> io::Result<()> {
-    damaged(out, b"n 3", image, 6, 14, b"00000003")?;
-    damaged(out, b"n 9", image, 6, 14, b"00000009")?;
-    damaged(out, b"N 1", image, 14, 22, b"00000001")?;
-    damaged(out, b"N 4097", image, 14, 22, b"00001001")?;
-    damaged(out, b"N that would wrap", image, 14, 22, b"10000002")?;
-    damaged(out, b"R 65", image, 22, 30, b"00000041")?;
-    damaged(out, b"1025 roots", image, 54, 62, b"00000401")?;
-    damaged(out, b"65536 constants", image, 62, 70, b"00010000")
+fn outside_limits(out: &mut impl Write, image: &[u8; 202]) -> io::Result<()> {
+    damaged(out, "n 3", image, 6, 14, "00000003")?;
+    damaged(out, "n 9", image, 6, 14, "00000009")?;
+    damaged(out, "N 1", image, 14, 22, "00000001")?;
+    damaged(out, "N 4097", image, 14, 22, "00001001")?;
+    damaged(out, "N that would wrap", image, 14, 22, "10000002")?;
+    damaged(out, "R 65", image, 22, 30, "00000041")?;
+    damaged(out, "1025 roots", image, 54, 62, "00000401")?;
+    damaged(out, "65536 constants", image, 62, 70, "00010000")
 }
 
 // "14, then 1 unless the lent parts have exactly the stated lengths, the table 256"
-fn other_lengths(out: &mut impl Write, image: &[u8]) -> io::Result<()> {
-    lengths(out, b"heap a page short", image, 16, 256, 1, 0)?;
-    lengths(out, b"heap a page long", image, 48, 256, 1, 0)?;
-    lengths(out, b"table of 255", image, 32, 255, 1, 0)?;
-    lengths(out, b"two roots lent", image, 32, 256, 2, 0)?;
-    lengths(out, b"a constant lent", image, 32, 256, 1, 1)?;
-    lengths(out, b"14 before 1", b"", 16, 256, 1, 0)
+fn other_lengths(out: &mut impl Write, image: &[u8; 202]) -> io::Result<()> {
+    lengths(out, "heap a page short", image, 16, 256, 1, 0)?;
+    lengths(out, "heap a page long", image, 48, 256, 1, 0)?;
+    lengths(out, "table of 255", image, 32, 255, 1, 0)?;
+    lengths(out, "two roots lent", image, 32, 256, 2, 0)?;
+    lengths(out, "a constant lent", image, 32, 256, 1, 1)?;
+    lengths(out, "14 before 1", b"", 16, 256, 1, 0)
 }
 
 // Writing tests the lengths, then the common test, then "table words past 4R not 0 give 2, text longer than the lent bytes 1".
 fn not_written(out: &mut impl Write) -> io::Result<()> {
-    writing(out, b"text that just fits", 32, 2, 0, 202)?;
-    writing(out, b"text a byte too long", 32, 2, 0, 201)?;
-    writing(out, b"table past 4R", 32, 2, 1, 202)?;
-    writing(out, b"table before bytes", 32, 2, 1, 201)?;
-    writing(out, b"free first above N", 32, 3, 0, 202)?;
-    writing(out, b"heap of no whole pages", 31, 3, 1, 202)
+    writing(out, "text that just fits", 32, 2, 0, 202)?;
+    writing(out, "text a byte too long", 32, 2, 0, 201)?;
+    writing(out, "table past 4R", 32, 2, 1, 202)?;
+    writing(out, "table before bytes", 32, 2, 1, 201)?;
+    writing(out, "free first above N", 32, 3, 0, 202)?;
+    writing(out, "heap of no whole pages", 31, 3, 1, 202)
 }
 
 // The image with its bytes from `from` to `to` replaced.
 fn damaged(
     out: &mut impl Write,
-    name: &[u8],
-    image: &[u8],
+    name: &str,
+    image: &[u8; 202],
     from: usize,
     to: usize,
-    new: &[u8],
-) -> io::Result<()> {
+    new: &str,
+) -> io::Result<()>
+    requires { (from ≤ to) × (to ≤ 202) }
+{
+    let bytes = image[..from]
+        .iter()
+        .chain(new.as_bytes())
+        .chain(&image[to..]);
     let mut text = [0u8; 512];
-    let before = append(&mut text, 0, image, 0, from);
-    let between = append(&mut text, before, new, 0, new.len());
-    let end = append(&mut text, between, image, to, image.len());
-    if end <= 512 {
-        lengths(out, name, &text[0..end], 32, 256, 1, 0)?;
+    for (place, byte) in text.iter_mut().zip(bytes) {
+        *place = *byte;
     }
-    Ok(())
+    let end = from + new.len() + (image.len() - to);
+    lengths(out, name, text.get(..end).unwrap_or(&text), 32, 256, 1, 0)
 }
 
 // Reads a text into parts of these lengths.
 fn lengths(
     out: &mut impl Write,
-    name: &[u8],
+    name: &str,
     text: &[u8],
     h: usize,
     t: usize,
     r: usize,
     k: usize,
-) -> io::Result<()> {
+) -> io::Result<()>
+    requires { (h ≤ 48) × (t ≤ 256) × (r ≤ 2) × (k ≤ 1) }
+{
     let mut heap = [7u32; 48];
     let mut table = [7u32; 256];
     let mut roots = [7u32; 2];
     let mut consts = [7u32; 1];
-    if h <= 48 && t <= 256 && r <= 2 && k <= 1 {
-        match read_image(
-            text,
-            &mut heap[0..h],
-            &mut table[0..t],
-            &mut roots[0..r],
-            &mut consts[0..k],
-        ) {
-            Opened::Refused(why) => refused(out, name, why)?,
-            Opened::Done(_) => answer(out, name, 0, 0)?,
-        }
-    }
-    Ok(())
+    let read = read_image(
+        text,
+        &mut heap[..h],
+        &mut table[..t],
+        &mut roots[..r],
+        &mut consts[..k],
+    );
+    answer(out, name, read)
 }
 
 // Writes the example with a heap of h words, another free first, a word behind the table's row and room for so many bytes.
 fn writing(
     out: &mut impl Write,
-    name: &[u8],
+    name: &str,
     h: usize,
     first: u32,
     behind: u32,
     room: usize,
-) -> io::Result<()> {
-    let heap = example_heap();
-    let mut table = example_table();
-    let roots = [0x14u32];
-    let consts = [0u32; 1];
+) -> io::Result<()>
+    requires { (h ≤ 32) × (room ≤ 202) }
+{
     let mut bytes = [0u8; 202];
-    table[4] = behind;
-    if h <= 32 && room <= 202 {
-        match write_image(
-            &heap[0..h],
-            &table,
-            &roots,
-            &consts[0..0],
-            example_control(first),
-            &mut bytes[0..room],
-        ) {
-            Valued::Refused(why, _) => refused(out, name, why)?,
-            Valued::Done(_, _) => answer(out, name, 0, 0)?,
-        }
-    }
-    Ok(())
+    let written = written(h, first, behind, &mut bytes[..room]);
+    answer(out, name, written.map(|(_, c)| c).map_err(|e| e.why))
 }
 
-// Copies the bytes of a text from `from` to `to` behind the first `at` bytes, as far as both reach. The answer is how many bytes there are then.
-fn append(bytes: &mut [u8], at: usize, text: &[u8], from: usize, to: usize) -> usize {
-    let mut i = from;
-    let mut k = at;
-    while i < to {
-        if text.len() <= i {
-            return k;
-        }
-        if bytes.len() <= k {
-            return k;
-        }
-        bytes[k] = text[i];
-        i += 1;
-        k += 1;
-    }
-    k
-}
-
-// Writes a heap's image and prints it.
+// The text that writing an image left at the start of these bytes.
 fn print_image(
     out: &mut impl Write,
-    heap: &[u32],
-    table: &[u32],
-    roots: &[u32],
-    consts: &[u32],
-    c: Control,
-    bytes: &mut [u8],
+    written: Result<(u32, Control), Refused>,
+    bytes: &[u8],
 ) -> io::Result<()> {
-    match write_image(heap, table, roots, consts, c, bytes) {
-        Valued::Refused(why, _) => refused(out, b"written", why),
-        Valued::Done(length, _) => print_front(out, bytes, length as usize),
+    match written {
+        Err(refused) => answer(out, "written", Err(refused.why)),
+        Ok((length, _)) => out.write_all(bytes.get(..length as usize).unwrap_or(&[])),
     }
 }
 
-fn print_front(out: &mut impl Write, bytes: &[u8], length: usize) -> io::Result<()> {
-    if length <= bytes.len() {
-        out.write_all(&bytes[0..length])?;
-    }
-    Ok(())
-}
-
-fn refused(out: &mut impl Write, name: &[u8], why: Refusal) -> io::Result<()> {
-    answer(out, name, refusal_number(why), refusal_place(why))
-}
-
-// A line of a name, a number and a place.
-fn answer(out: &mut impl Write, name: &[u8], number: u32, place: u32) -> io::Result<()> {
-    out.write_all(name)?;
-    writeln!(out, ": {number} {place}")
+// A line of a name, and a refusal's number and place, 0 0 where there is none.
+fn answer(out: &mut impl Write, name: &str, answer: Result<Control, Refusal>) -> io::Result<()> {
+    let (number, place) = match answer {
+        Ok(_) => (0, 0),
+        Err(why) => (refusal_number(why), refusal_place(why)),
+    };
+    writeln!(out, "{name}: {number} {place}")
 }

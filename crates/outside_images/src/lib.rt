@@ -6,8 +6,8 @@ ghost use Rattle.std.specs.Prelude.{◌≤◌};
 
 use conversions::{refusal_number, refusal_place};
 use image::{read_image, write_image};
-use reading::{Head, Judged, judge};
-use rules::{Control, Opened, Plain, Refusal, Valued};
+use reading::{Head, judge};
+use rules::{Control, Lent, Refusal};
 use samples::census::add;
 use script::filling::fill;
 use std::fs::File;
@@ -35,28 +35,16 @@ fn read_numbered(rt: &impl Files, i: u32, ending: &str, text: &mut [u8]) -> io::
 // Whether the line that the program "collect" prints for a refusal is the expected text.
 fn refused_so(why: Refusal, expected: &[u8]) -> bool {
     let mut out = [0u8; 23];
-    write_frame(
-        &mut out,
-        0,
-        255,
-        &[refusal_number(why), refusal_place(why)],
-    );
+    write_frame(&mut out, 0, 255, &[refusal_number(why), refusal_place(why)]);
     out.as_slice() == expected
 }
 
 // Whether a heap's text is the expected one.
-fn written_so(
-    heap: &[u32],
-    table: &[u32],
-    roots: &[u32],
-    consts: &[u32],
-    c: Control,
-    expected: &[u8],
-) -> bool {
+fn written_so(lent: Lent<'_>, expected: &[u8]) -> bool {
     let mut out = [0u8; 4096];
-    match write_image(heap, table, roots, consts, c, &mut out) {
-        Valued::Done(k, _) => out.get(..k as usize) == Some(expected),
-        Valued::Refused(_, _) => expected.is_empty(),
+    match write_image(lent, &mut out) {
+        Ok((k, _)) => out.get(..k as usize) == Some(expected),
+        Err(_) => expected.is_empty(),
     }
 }
 
@@ -71,8 +59,17 @@ fn collected(
     sums: &mut Sums,
 ) -> bool {
     match both(heap, table, roots, consts, c, sums) {
-        Plain::Done(c) => written_so(heap, table, roots, consts, c, expected),
-        Plain::Refused(why, _) => refused_so(why, expected),
+        Ok(control) => written_so(
+            Lent {
+                heap,
+                table,
+                roots,
+                consts,
+                control,
+            },
+            expected,
+        ),
+        Err(refused) => refused_so(refused.why, expected),
     }
 }
 
@@ -87,8 +84,8 @@ fn through(
     sums: &mut Sums,
 ) -> bool {
     match read_image(text, heap, table, roots, consts) {
-        Opened::Refused(why) => refused_so(why, expected),
-        Opened::Done(c) => collected(heap, table, roots, consts, c, expected, sums),
+        Ok(c) => collected(heap, table, roots, consts, c, expected, sums),
+        Err(why) => refused_so(why, expected),
     }
 }
 
@@ -118,8 +115,8 @@ fn sized(text: &[u8], h: Head, expected: &[u8], sums: &mut Sums) -> bool {
 // Whether a text comes out as the expected one.
 fn answered(text: &[u8], expected: &[u8], sums: &mut Sums) -> bool {
     match judge(text) {
-        Judged::Malformed(line) => refused_so(Refusal::Malformed(line), expected),
-        Judged::Well(h) => sized(text, h, expected, sums),
+        Ok(h) => sized(text, h, expected, sums),
+        Err(why) => refused_so(why, expected),
     }
 }
 
@@ -127,7 +124,11 @@ fn answered(text: &[u8], expected: &[u8], sums: &mut Sums) -> bool {
 fn as_answered(rt: &impl Files, i: u32, text: &[u8], sums: &mut Sums) -> io::Result<bool> {
     let mut bytes = [0u8; 4096];
     let m = read_numbered(rt, i, "out", &mut bytes)?;
-    Ok(bytes.get(..m).is_some_and(|expected| answered(text, expected, sums)))
+    Ok(
+        bytes
+            .get(..m)
+            .is_some_and(|expected| answered(text, expected, sums)),
+    )
 }
 
 // Image number i; false where there is none.

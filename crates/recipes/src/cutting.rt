@@ -1,34 +1,43 @@
-// Texts cut at their first bar, and parts at a length.
-ghost use Rattle.std.specs.Prelude.{◌≤◌};
+// Texts cut into their parts, and parts at a length.
 
-use crate::heaps;
-use script::parts;
-
-// What stands before the first bar.
-pub fn before_bar(text: &[u8]) -> &[u8] {
-    let e = heaps::end_of(text, 0, b'|');
-    &text[0..e]
+// A line of the soundings: four texts with bars between them. What is printed in front of the answer; numbers; the recipe of the heap; the question.
+#[derive(Clone, Copy)]
+pub struct Line<'a> {
+    pub heading: &'a str,
+    pub numbers: &'a str,
+    pub recipe: &'a str,
+    pub question: &'a str,
 }
 
-// What stands behind the first bar.
-pub fn behind_bar(text: &[u8]) -> &[u8] {
-    let e = heaps::end_of(text, 0, b'|');
-    if text.len() <= e {
-        return &text[0..0];
+// The line that a text is, if it has its bars.
+pub fn line_of(text: &str) -> Option<Line<'_>> {
+    let (heading, rest) = text.split_once('|')?;
+    let (numbers, rest) = rest.split_once('|')?;
+    let (recipe, question) = rest.split_once('|')?;
+    Some(Line {
+        heading,
+        numbers,
+        recipe,
+        question,
+    })
+}
+
+// The name that a text begins with.
+pub fn name_of(text: &str) -> &str {
+    text.split(' ').next().unwrap_or("")
+}
+
+// The numbers behind the name, as far as the row reaches; what is no number is 0.
+pub fn numbers_of<'r>(text: &str, row: &'r mut [u32; 16]) -> &'r [u32] {
+    for (place, word) in row.iter_mut().zip(text.split(' ').skip(1)) {
+        *place = word.parse().unwrap_or(0);
     }
-    let start = e + 1;
-    &text[start..]
+    let k = text.split(' ').skip(1).count();
+    &row[..k.min(16)]
 }
 
-// A length, at most n.
-pub fn within(k: u32, n: usize) -> usize
-    ensures { result ≤ n }
-{
-    parts::within(heaps::place(k), n)
-}
-
-// The first words of a part.
+// The first words of a part, as much of it as there is.
 pub fn first_words(part: &mut [u32], k: u32) -> &mut [u32] {
-    let n = within(k, part.len());
-    &mut part[0..n]
+    let n = part.len().min(k as usize);
+    &mut part[..n]
 }

@@ -11,350 +11,190 @@
 // and what is done behind the calls:
 //   heap 6 12;  table 3 1;  spoil 0 12;      a word of the heap, of the table, of the roots
 //   control 1 2 2 1;                         R, free first, free last and free count of the record
-ghost use Rattle.std.specs.Prelude.{◌+◌, ◌-◌, ◌≤◌, length};
-
+use crate::cutting::{name_of, numbers_of};
 use access::set_root;
 use allocation::allocate;
 use assignment::assign;
 use conversions::region_numbered;
 use regions::push;
-use rules::{Control, Kind, Opened, Plain, Valued};
+use rules::{Control, Kind, Lent, Refusal, Refused};
 use setting_up::set_up;
-use std::io;
-use std::io::Write;
-use telling::say;
+use telling::say::Given;
 
-pub fn record_of(p: Plain) -> Control {
-    match p {
-        Plain::Done(c) => c,
-        Plain::Refused(_, c) => c,
+// The heap of document 01's image, in pages of 16 words: "Sh" at 2, its record at 5, which is root 0.
+const LABEL: &str = "push 1;words 0 83 104;record 0 8 15;name 0 20;";
+
+// Raw values of 7, 7, 10 and 4 words, headers counted, with roots that name the 10, 7, 7 and 4.
+const FOUR: &str =
+    "push 1;words 0 5 5 5 5 5 5;words 0 6 6 6 6 6 6;words 0 7 7 7 7 7 7 7 7 7;words 0 8 8 8;name 0 72;name 1 8;name 2 36;name 3 112;";
+
+// The record of no heap, before one is set up.
+pub const NO_RECORD: Control = Control {
+    n: 0,
+    regions: 0,
+    first: 0,
+    last: 0,
+    count: 0,
+};
+
+// What the calls are lent, and the record that stands. A part that a call only reads is lent to it as one that may be written.
+#[derive(Drop)]
+pub struct Parts<'h, 't, 'r, 'c> {
+    pub heap: &'h mut [u32],
+    pub table: &'t mut [u32],
+    pub roots: &'r mut [u32],
+    pub consts: &'c mut [u32],
+    pub control: Control,
+}
+
+// One word of a part changed behind the calls.
+fn poke(part: &mut [u32], i: u32, w: u32) {
+    if let Some(word) = part.get_mut(i as usize) {
+        *word = w;
     }
 }
 
-fn opened_record(o: Opened) -> Control {
-    match o {
-        Opened::Done(c) => c,
-        Opened::Refused(_) => say::no_record(),
-    }
-}
-
-// The record after an allocation.
-fn valued_record(v: Valued) -> Control {
-    match v {
-        Valued::Done(_, c) => c,
-        Valued::Refused(_, c) => c,
-    }
-}
-
-// The record that an answer hands back. The answer of a step that is done aloud is printed.
-pub fn heard(out: &mut impl Write, aloud: bool, p: Plain) -> io::Result<Control> {
-    if aloud {
-        return say::plain(out, p);
-    }
-    Ok(record_of(p))
-}
-
-pub fn opened_heard(out: &mut impl Write, aloud: bool, o: Opened) -> io::Result<Control> {
-    if aloud {
-        return say::opened(out, o);
-    }
-    Ok(opened_record(o))
-}
-
-fn valued_heard(out: &mut impl Write, aloud: bool, v: Valued) -> io::Result<Control> {
-    if aloud {
-        return say::valued(out, v);
-    }
-    Ok(valued_record(v))
-}
-
-// So many regions more.
-fn pushed(
-    out: &mut impl Write,
-    heap: &mut [u32],
-    table: &mut [u32],
-    roots: &[u32],
-    consts: &[u32],
-    c: Control,
-    regions: u32,
-    aloud: bool,
-) -> io::Result<Control> {
-    let mut now = c;
-    let mut left = regions;
-    while 0 < left {
-        now = heard(out, aloud, push(heap, table, roots, consts, now))?;
-        left -= 1;
-    }
-    Ok(now)
-}
-
-pub fn place(i: u32) -> usize {
-    i as usize
-}
-
-fn kind_of(letter: u8) -> Kind {
-    if letter == b'w' {
-        return Kind::Raw;
-    }
-    Kind::Record
-}
-
-// The numbers of a step behind its first.
-pub fn behind(row: &[u32; 16], k: usize) -> &[u32] {
-    let all = &row[..];
-    if k < 1 {
-        return &all[0..0];
-    }
-    if all.len() < k {
-        return &all[0..0];
-    }
-    &all[1..k]
-}
-
-// A value more: k numbers, its region and its words.
-fn stored(
-    heap: &mut [u32],
-    table: &mut [u32],
-    roots: &[u32],
-    consts: &[u32],
-    c: Control,
-    letter: u8,
-    row: &[u32; 16],
-    k: usize,
-) -> Valued {
-    let j = region_numbered(place(row[0]));
-    let kind = kind_of(letter);
-    allocate(heap, table, roots, consts, c, j, kind, behind(row, k))
-}
-
-// A field of the record that a word points to becomes a word.
-fn assigned(
-    heap: &mut [u32],
-    table: &[u32],
-    roots: &[u32],
-    consts: &[u32],
-    c: Control,
-    row: &[u32; 16],
-) -> Plain {
-    let field = place(row[1]);
-    assign(heap, table, roots, consts, c, row[0], field, row[2])
-}
-
-// One word of a part changed behind the calls, where the step is the part's.
-fn poke(part: &mut [u32], mine: bool, row: &[u32; 16]) {
-    let at = place(row[0]);
-    if mine && at < part.len() {
-        part[at] = row[1];
-    }
-}
-
-// The record with another R, free first, free last and free count.
-fn controlled(c: Control, row: &[u32; 16]) -> Control {
-    Control {
-        n: c.n,
-        regions: row[0],
-        first: row[1],
-        last: row[2],
-        count: row[3],
-    }
-}
-
-// A step behind the calls that changes a word of a part.
-fn spoiled(heap: &mut [u32], table: &mut [u32], roots: &mut [u32], letter: u8, row: &[u32; 16]) {
-    poke(heap, letter == b'h', row);
-    poke(table, letter == b't', row);
-    poke(roots, letter == b's', row);
-}
-
-// A root becomes a word.
-fn rooted(
-    heap: &[u32],
-    table: &[u32],
-    roots: &mut [u32],
-    consts: &[u32],
-    c: Control,
-    row: &[u32; 16],
-) -> Plain {
-    let root = place(row[0]);
-    set_root(heap, table, roots, consts, c, root, row[1])
-}
-
-// A step of k numbers, by the letter that its name begins with.
-fn done(
-    out: &mut impl Write,
-    heap: &mut [u32],
-    table: &mut [u32],
-    roots: &mut [u32],
-    consts: &[u32],
-    c: Control,
-    letter: u8,
-    row: &[u32; 16],
-    k: usize,
-    aloud: bool,
-) -> io::Result<Control> {
-    match letter {
-        b'o' => opened_heard(out, aloud, set_up(heap, table, roots, consts, row[0])),
-        b'p' => pushed(out, heap, table, roots, consts, c, row[0], aloud),
-        b'r' | b'w' => valued_heard(
-            out,
-            aloud,
-            stored(heap, table, roots, consts, c, letter, row, k),
-        ),
-        b'a' => heard(out, aloud, assigned(heap, table, roots, consts, c, row)),
-        b'n' => heard(out, aloud, rooted(heap, table, roots, consts, c, row)),
-        b'c' => Ok(controlled(c, row)),
-        _ => {
-            spoiled(heap, table, roots, letter, row);
-            Ok(c)
+impl Parts<'_, '_, '_, '_> {
+    // What a call is lent that only reads.
+    pub fn lent(&self) -> Lent<'_> {
+        Lent {
+            heap: self.heap,
+            table: self.table,
+            roots: self.roots,
+            consts: self.consts,
+            control: self.control,
         }
     }
-}
 
-// A number with one digit more; any other byte leaves it.
-fn extended(n: u32, byte: u8) -> u32 {
-    if byte < 48 {
-        return n;
-    }
-    if 57 < byte {
-        return n;
-    }
-    if 400000000 < n {
-        return n;
-    }
-    n * 10 + (byte - 48) as u32
-}
-
-// The numbers so far, and how many, with a byte more: a space begins a number.
-fn taken(row: &mut [u32; 16], k: usize, byte: u8) -> usize {
-    if 15 < k {
-        return k;
-    }
-    if byte == b' ' {
-        return k + 1;
-    }
-    if 0 < k {
-        let last = k - 1;
-        row[last] = extended(row[last], byte);
-    }
-    k
-}
-
-// The numbers of a step, and how many.
-pub fn numbers(step: &[u8], row: &mut [u32; 16]) -> usize {
-    let mut k: usize = 0;
-    let mut i = 0;
-    while i < step.len() {
-        k = taken(row, k, step[i]);
-        i += 1;
-    }
-    k
-}
-
-pub fn first(text: &[u8]) -> u8 {
-    if text.len() == 0 {
-        return b' ';
-    }
-    text[0]
-}
-
-// The step that a text is; aloud, its answer is printed.
-pub fn step(
-    out: &mut impl Write,
-    heap: &mut [u32],
-    table: &mut [u32],
-    roots: &mut [u32],
-    consts: &[u32],
-    c: Control,
-    text: &[u8],
-    aloud: bool,
-) -> io::Result<Control> {
-    let mut row = [0u32; 16];
-    let k = numbers(text, &mut row);
-    done(
-        out,
-        heap,
-        table,
-        roots,
-        consts,
-        c,
-        first(text),
-        &row,
-        k,
-        aloud,
-    )
-}
-
-// Where what starts at a place ends: at the first such byte, or with the text.
-pub fn end_of(text: &[u8], from: usize, byte: u8) -> usize
-    ensures { (from ≤ result) × (result ≤ from + (length text.now - from)) }
-{
-    let mut e = from;
-    while e < text.len() {
-        if text[e] == byte {
-            return e;
+    // The record that a call hands back is the one that stands; what the call gave.
+    pub fn kept(&mut self, answer: Result<(Given, Control), Refused>) -> Result<Given, Refusal> {
+        match answer {
+            Ok((given, control)) => {
+                self.control = control;
+                Ok(given)
+            }
+            Err(refused) => {
+                self.control = refused.control;
+                Err(refused.why)
+            }
         }
-        e += 1;
     }
-    e
-}
 
-// The steps of a recipe, in their order.
-fn follow(
-    out: &mut impl Write,
-    heap: &mut [u32],
-    table: &mut [u32],
-    roots: &mut [u32],
-    consts: &[u32],
-    c: Control,
-    recipe: &[u8],
-) -> io::Result<Control> {
-    let mut now = c;
-    let mut at = 0;
-    while at < recipe.len() {
-        let e = end_of(recipe, at, b';');
-        now = step(out, heap, table, roots, consts, now, &recipe[at..e], false)?;
-        at = e + 1;
+    // A call that gives nothing but the record.
+    pub fn done(&mut self, answer: Result<Control, Refused>) -> Result<Given, Refusal> {
+        self.kept(answer.map(|control| (Given::Done, control)))
     }
-    Ok(now)
-}
 
-// The steps that stand for the first of a recipe, by its letter.
-fn beginning<'a>(letter: u8, label: &'a [u8], four: &'a [u8]) -> &'a [u8] {
-    match letter {
-        b'l' => label,
-        b'f' => four,
-        _ => &label[0..0],
+    // A call that is given no record. A refused one leaves none.
+    pub fn opened(&mut self, answer: Result<Control, Refusal>) -> Result<Given, Refusal> {
+        self.done(answer.map_err(|why| Refused {
+            why,
+            control: NO_RECORD,
+        }))
     }
-}
 
-// What a recipe begins with, in pages of 16 words. The heap of document 01's image: "Sh" at 2, its record at 5, which is root 0. Raw values of
-// 7, 7, 10 and 4 words, headers counted, with roots that name the 10, 7, 7 and 4. Else a new heap.
-fn begun(
-    out: &mut impl Write,
-    heap: &mut [u32],
-    table: &mut [u32],
-    roots: &mut [u32],
-    consts: &[u32],
-    letter: u8,
-) -> io::Result<Control> {
-    let c = opened_record(set_up(heap, table, roots, consts, 4));
-    let steps = beginning(
-        letter,
-        b"push 1;words 0 83 104;record 0 8 15;name 0 20;",
-        b"push 1;words 0 5 5 5 5 5 5;words 0 6 6 6 6 6 6;words 0 7 7 7 7 7 7 7 7 7;words 0 8 8 8;name 0 72;name 1 8;name 2 36;name 3 112;",
-    );
-    follow(out, heap, table, roots, consts, c, steps)
-}
+    fn open(&mut self, n: u32) -> Result<Given, Refusal> {
+        let consts = &mut *self.consts;
+        let answer = set_up(self.heap, self.table, self.roots, consts, n);
+        self.opened(answer)
+    }
 
-// The heap that a recipe makes.
-pub fn made(
-    out: &mut impl Write,
-    heap: &mut [u32],
-    table: &mut [u32],
-    roots: &mut [u32],
-    consts: &[u32],
-    recipe: &[u8],
-) -> io::Result<Control> {
-    let c = begun(out, heap, table, roots, consts, first(recipe))?;
-    follow(out, heap, table, roots, consts, c, recipe)
+    // So many regions more, as far as there are pages.
+    fn push(&mut self, regions: u32) -> Result<Given, Refusal> {
+        for _ in 0..regions {
+            let c = self.control;
+            let (roots, consts) = (&mut *self.roots, &mut *self.consts);
+            let answer = push(self.heap, self.table, roots, consts, c);
+            self.done(answer)?;
+        }
+        Ok(Given::Done)
+    }
+
+    // A value more in region j.
+    fn store(&mut self, kind: Kind, j: u32, words: &[u32]) -> Result<Given, Refusal> {
+        let c = self.control;
+        let j = region_numbered(j as usize);
+        let (roots, consts) = (&mut *self.roots, &mut *self.consts);
+        let answer = allocate(self.heap, self.table, roots, consts, c, j, kind, words);
+        self.kept(answer.map(|(w, control)| (Given::Word(w), control)))
+    }
+
+    // A field of the record that a word points to becomes a word.
+    fn assign(&mut self, target: u32, field: u32, w: u32) -> Result<Given, Refusal> {
+        let c = self.control;
+        let (table, roots, consts) = (&mut *self.table, &mut *self.roots, &mut *self.consts);
+        let field = field as usize;
+        let answer = assign(self.heap, table, roots, consts, c, target, field, w);
+        self.done(answer)
+    }
+
+    // A root becomes a word.
+    fn name(&mut self, root: u32, w: u32) -> Result<Given, Refusal> {
+        let c = self.control;
+        let (heap, table, consts) = (&mut *self.heap, &mut *self.table, &mut *self.consts);
+        let answer = set_root(heap, table, self.roots, consts, c, root as usize, w);
+        self.done(answer)
+    }
+
+    // The record with another R, free first, free last and free count.
+    fn set_control(&mut self, regions: u32, first: u32, last: u32, count: u32) {
+        let n = self.control.n;
+        self.control = Control {
+            n,
+            regions,
+            first,
+            last,
+            count,
+        };
+    }
+
+    // What is done behind the calls. A name that stands for no such step does nothing.
+    fn spoil(&mut self, name: &str, numbers: &[u32]) {
+        match (name, numbers) {
+            ("heap", [i, w]) => poke(self.heap, *i, *w),
+            ("table", [i, w]) => poke(self.table, *i, *w),
+            ("spoil", [i, w]) => poke(self.roots, *i, *w),
+            ("control", [regions, first, last, count]) => {
+                self.set_control(*regions, *first, *last, *count)
+            }
+            _ => {}
+        }
+    }
+
+    // The step that a text is, and what its call gave.
+    pub fn step(&mut self, text: &str) -> Result<Given, Refusal> {
+        let mut row = [0; 16];
+        let name = name_of(text);
+        let numbers = numbers_of(text, &mut row);
+        match (name, numbers) {
+            ("open", [n]) => self.open(*n),
+            ("push", [regions]) => self.push(*regions),
+            ("record", [j, words @ ..]) => self.store(Kind::Record, *j, words),
+            ("words", [j, words @ ..]) => self.store(Kind::Raw, *j, words),
+            ("assign", [target, field, w]) => self.assign(*target, *field, *w),
+            ("name", [root, w]) => self.name(*root, *w),
+            _ => {
+                self.spoil(name, numbers);
+                Ok(Given::Done)
+            }
+        }
+    }
+
+    // The steps of a recipe, in their order. One that is refused changes nothing.
+    fn follow(&mut self, recipe: &str) {
+        for step in recipe.split(';') {
+            let _ = self.step(step);
+        }
+    }
+
+    // The heap that a recipe makes, in pages of 16 words.
+    pub fn make(&mut self, recipe: &str) {
+        let _ = self.open(4);
+        if recipe.starts_with("label;") {
+            self.follow(LABEL);
+        } else if recipe.starts_with("four;") {
+            self.follow(FOUR);
+        }
+        self.follow(recipe);
+    }
 }

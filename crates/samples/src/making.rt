@@ -9,11 +9,11 @@ use assignment::assign;
 use conversions::region_numbered;
 use leaves::{end_of, top_of, word, write};
 use regions::push;
-use rules::{Control, Kind, Opened, Plain, Region, Valued};
+use rules::{Control, Kind, Refused, Region};
 use setting_up::set_up;
 
 // A sample that is being made: the lent parts and the record; where the generator stands; of four fields, how many are pointers to values; and
-// the bag: a pool of 64 words, and room for the longest value.
+// the bag: a pool of 64 words, and room for the longest value. A part that a call only reads is lent to it as one that may be written.
 #[derive(Drop)]
 struct Making<'h, 't, 'r, 'c> {
     heap: &'h mut [u32],
@@ -26,24 +26,18 @@ struct Making<'h, 't, 'r, 'c> {
     bag: [u32; 317],
 }
 
-pub fn record_of(p: Plain) -> Control {
-    match p {
-        Plain::Done(c) => c,
-        Plain::Refused(_, c) => c,
-    }
-}
+// The record of no heap.
+const NO_RECORD: Control = Control {
+    n: 0,
+    regions: 0,
+    first: 0,
+    last: 0,
+    count: 0,
+};
 
-fn opened(o: Opened) -> Control {
-    match o {
-        Opened::Done(c) => c,
-        Opened::Refused(_) => Control {
-            n: 0,
-            regions: 0,
-            first: 0,
-            last: 0,
-            count: 0,
-        },
-    }
+// The record that a call hands back.
+pub fn record_of(answer: Result<Control, Refused>) -> Control {
+    answer.unwrap_or_else(|refused| refused.control)
 }
 
 // A pointer to one of the constants.
@@ -142,13 +136,12 @@ impl Making<'_, '_, '_, '_> {
         let Some(words) = self.bag.get_mut(64..64 + m) else {
             return;
         };
-        let v = allocate(self.heap, self.table, roots, consts, c, j, kind, words);
-        match v {
-            Valued::Done(w, c) => {
+        match allocate(self.heap, self.table, roots, consts, c, j, kind, words) {
+            Ok((w, c)) => {
                 self.c = c;
                 self.bag[below(self.x, 64) as usize] = w;
             }
-            Valued::Refused(_, c) => self.c = c,
+            Err(refused) => self.c = refused.control,
         }
     }
 
@@ -248,7 +241,7 @@ pub fn make(
     x: u32,
     shape: Shape,
 ) -> Control {
-    let c = opened(set_up(heap, table, roots, consts, shape.n));
+    let c = set_up(heap, table, roots, consts, shape.n).unwrap_or(NO_RECORD);
     let mut making = Making {
         heap,
         table,

@@ -21,7 +21,7 @@
 
 ghost use Rattle.std.specs.Prelude.{◌≡◌, ◌+◌, ◌≤◌, ◌<◌, IfOk, IfSome};
 
-use rules::{Address, Control, Page, Region};
+use rules::{Address, Control, Lent, Page, Region};
 
 // The words of a heap with all that belongs to it, alone and with the books behind it.
 pub const WHOLE: usize = 66822;
@@ -559,9 +559,9 @@ fn lay_record(whole: &mut [u32], c: Control, named: usize) {
 }
 
 // A heap and all that belongs to it in one slice, which is all 0 before.
-pub fn lay_out(whole: &mut [u32], heap: &[u32], table: &[u32], roots: &[u32], c: Control) {
-    lay(whole, 0, heap);
-    lay(whole, TABLE, table);
-    lay(whole, ROOTS, roots);
-    lay_record(whole, c, roots.len());
+pub fn lay_out(whole: &mut [u32], lent: Lent<'_>) {
+    lay(whole, 0, lent.heap);
+    lay(whole, TABLE, lent.table);
+    lay(whole, ROOTS, lent.roots);
+    lay_record(whole, lent.control, lent.roots.len());
 }

@@ -9,55 +9,40 @@
 //   collected 0        the same after a collection
 use crate::{changing, looking};
 use collection::collect;
-use recipes::heaps;
-use rules::Control;
+use recipes::cutting::{name_of, numbers_of};
+use recipes::heaps::Parts;
 use std::io;
 use std::io::Write;
-use telling::say;
 
-// The record of the heap that is asked: of the one that a recipe makes, or of that one collected. Parts that are to be set up have none.
-fn given(
-    out: &mut impl Write,
-    heap: &mut [u32],
-    table: &mut [u32],
-    roots: &mut [u32],
-    consts: &[u32],
-    recipe: &[u8],
-    letter: u8,
-) -> io::Result<Control> {
-    if letter == b'o' {
-        return Ok(say::no_record());
-    }
-    let c = heaps::made(out, heap, table, roots, consts, recipe)?;
-    if letter == b'c' {
-        return Ok(heaps::record_of(collect(heap, table, roots, consts, c)));
-    }
-    Ok(c)
+// The heap that is collected.
+fn collects(parts: &mut Parts<'_, '_, '_, '_>) {
+    let c = parts.control;
+    let consts = &mut *parts.consts;
+    let answer = collect(parts.heap, parts.table, parts.roots, consts, c);
+    let _ = parts.done(answer);
 }
 
-// Whether the question with this letter leaves the parts as they are.
-fn only_looks(letter: u8) -> bool {
-    match letter {
-        b'f' | b'v' | b'g' | b'd' | b'u' | b'c' => true,
-        _ => false,
-    }
-}
-
-// The heap is made, and the question asked.
+// The heap is made, and the question asked. Parts that are to be set up are left as they are.
 pub fn asks(
     out: &mut impl Write,
-    heap: &mut [u32],
-    table: &mut [u32],
-    roots: &mut [u32],
-    consts: &[u32],
-    recipe: &[u8],
-    question: &[u8],
+    parts: &mut Parts<'_, '_, '_, '_>,
+    recipe: &str,
+    question: &str,
 ) -> io::Result<()> {
-    let letter = heaps::first(question);
-    let c = given(out, heap, table, roots, consts, recipe, letter)?;
-    if only_looks(letter) {
-        looking::looks(out, heap, table, roots, consts, c, question)
-    } else {
-        changing::changes(out, heap, table, roots, consts, c, question)
+    let mut row = [0; 16];
+    let name = name_of(question);
+    if name != "open" {
+        parts.make(recipe);
+    }
+    if name == "collected" {
+        collects(parts);
+    }
+    match (name, numbers_of(question, &mut row)) {
+        ("fetch", [w]) => looking::fetches(out, parts.lent(), *w),
+        ("view", [k]) => looking::views(out, parts.lent(), *k),
+        ("go", [root, path @ ..]) => looking::walks(out, parts.lent(), *root, path),
+        ("due", []) => looking::asks_due(out, parts.lent()),
+        ("used" | "collected", [j]) => looking::uses(out, parts.lent(), *j),
+        _ => changing::changes(out, parts, question),
     }
 }

@@ -1,42 +1,40 @@
 // Questions that may change the parts: what the call answers, and what it left.
-use recipes::heaps;
+use recipes::cutting::name_of;
+use recipes::heaps::Parts;
 use release::pop;
-use rules::Control;
+use rules::Refusal;
 use std::io;
 use std::io::Write;
-use telling::{lent, say};
+use telling::lent;
+use telling::say::{Answer, Given};
 
-// The call, its answer, and the record that it hands back. But for a pop it is a step of a recipe.
-fn called(
-    out: &mut impl Write,
-    heap: &mut [u32],
-    table: &mut [u32],
-    roots: &mut [u32],
-    consts: &[u32],
-    c: Control,
-    question: &[u8],
-) -> io::Result<Control> {
-    if heaps::first(question) == b'e' {
-        return say::plain(out, pop(heap, table, roots, consts, c));
+fn pops(parts: &mut Parts<'_, '_, '_, '_>) -> Result<Given, Refusal> {
+    let c = parts.control;
+    let (roots, consts) = (&mut *parts.roots, &mut *parts.consts);
+    let answer = pop(parts.heap, parts.table, roots, consts, c);
+    parts.done(answer)
+}
+
+// The call, and what it gave. But for a pop it is a step of a recipe.
+fn called(parts: &mut Parts<'_, '_, '_, '_>, question: &str) -> Result<Given, Refusal> {
+    match name_of(question) {
+        "end" => pops(parts),
+        _ => parts.step(question),
     }
-    heaps::step(out, heap, table, roots, consts, c, question, true)
 }
 
 // A call, and what it left: of a root that is named, the roots.
 pub fn changes(
     out: &mut impl Write,
-    heap: &mut [u32],
-    table: &mut [u32],
-    roots: &mut [u32],
-    consts: &[u32],
-    c: Control,
-    question: &[u8],
+    parts: &mut Parts<'_, '_, '_, '_>,
+    question: &str,
 ) -> io::Result<()> {
-    let before = lent::sum(heap, table, roots);
-    let after = called(out, heap, table, roots, consts, c, question)?;
-    if heaps::first(question) == b'n' {
-        lent::only_roots(out, roots)
-    } else {
-        lent::report(out, before, c, heap, table, roots, after)
+    let before = lent::sum(parts.lent());
+    let given = parts.control;
+    let answer = Answer(called(parts, question));
+    write!(out, "{answer}")?;
+    match name_of(question) {
+        "name" => lent::only_roots(out, parts.roots),
+        _ => lent::report(out, before, given, parts.lent()),
     }
 }

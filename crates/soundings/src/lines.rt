@@ -1,78 +1,37 @@
-// Lines of the soundings. A line is four texts with bars between them:
+// Lines of the soundings:
 //   push again: |on 32 256 2 0|push 1;|push 1
-// what is printed in front of the answer; the lengths of the heap, the table, the roots and the constants; the recipe of the heap; the question.
-use crate::asking;
-use recipes::{cutting, heaps};
-use script::parts;
+// The numbers are the lengths of the heap, the table, the roots and the constants.
+use crate::asking::asks;
+use recipes::cutting::{Line, first_words, line_of, numbers_of};
+use recipes::heaps::{NO_RECORD, Parts};
 use std::io;
 use std::io::Write;
-use telling::say;
 
-// The rest of a line, on parts of these lengths.
-fn sized(
-    out: &mut impl Write,
-    heap: &mut [u32],
-    table: &mut [u32],
-    roots: &mut [u32],
-    consts: &[u32],
-    row: &[u32; 16],
-    rest: &[u8],
-) -> io::Result<()> {
-    asking::asks(
-        out,
-        cutting::first_words(heap, row[0]),
-        cutting::first_words(table, row[1]),
-        cutting::first_words(roots, row[2]),
-        parts::first_words(consts, heaps::place(row[3])),
-        cutting::before_bar(rest),
-        cutting::behind_bar(rest),
-    )
+// A line, on parts whose words are all 7 and constants that are a record of the number 7, of the lengths that it names.
+fn sounding(out: &mut impl Write, line: Line<'_>) -> io::Result<()> {
+    let mut heap = [7; 2048];
+    let mut table = [7; 257];
+    let mut roots = [7; 1025];
+    let mut consts = [9, 7];
+    let mut row = [0; 16];
+    numbers_of(line.numbers, &mut row);
+    let mut parts = Parts {
+        heap: first_words(&mut heap, row[0]),
+        table: first_words(&mut table, row[1]),
+        roots: first_words(&mut roots, row[2]),
+        consts: first_words(&mut consts, row[3]),
+        control: NO_RECORD,
+    };
+    write!(out, "{}", line.heading)?;
+    asks(out, &mut parts, line.recipe, line.question)
 }
 
-// What stands behind a line's first bar, on parts of the lengths that it names. The constants are a record of the number 7.
-fn on(
-    out: &mut impl Write,
-    heap: &mut [u32],
-    table: &mut [u32],
-    roots: &mut [u32],
-    line: &[u8],
-) -> io::Result<()> {
-    let consts = [9u32, 7];
-    let mut row = [0u32; 16];
-    heaps::numbers(cutting::before_bar(line), &mut row);
-    sized(
-        out,
-        heap,
-        table,
-        roots,
-        &consts,
-        &row,
-        cutting::behind_bar(line),
-    )
-}
-
-// A line, on parts whose words are all 7.
-fn sounding(out: &mut impl Write, line: &[u8]) -> io::Result<()> {
-    let mut heap = [7u32; 2048];
-    let mut table = [7u32; 257];
-    let mut roots = [7u32; 1025];
-    say::text(out, cutting::before_bar(line))?;
-    on(
-        out,
-        &mut heap,
-        &mut table,
-        &mut roots,
-        cutting::behind_bar(line),
-    )
-}
-
-// Each line ends with a newline.
-pub fn all(out: &mut impl Write, lines: &[u8]) -> io::Result<()> {
-    let mut at = 0;
-    while at < lines.len() {
-        let e = heaps::end_of(lines, at, b'\n');
-        sounding(out, &lines[at..e])?;
-        at = e + 1;
+// A text of lines.
+pub fn all(out: &mut impl Write, lines: &str) -> io::Result<()> {
+    for text in lines.lines() {
+        if let Some(line) = line_of(text) {
+            sounding(out, line)?;
+        }
     }
     Ok(())
 }

@@ -2,14 +2,13 @@
 use crate::lines;
 use std::io;
 use std::io::Write;
-use telling::say;
 
 // Setting up and push.
 pub fn opening(out: &mut impl Write) -> io::Result<()> {
-    say::text(out, b"Setting up and push\n")?;
+    writeln!(out, "Setting up and push")?;
     lines::all(
         out,
-        b"set up P 16, N 2, two roots: |on 32 256 2 0||open 4
+        "set up P 16, N 2, two roots: |on 32 256 2 0||open 4
 push: |on 32 256 2 0||push 1
 push again: |on 32 256 2 0|push 1;|push 1
 push with no page left: |on 32 256 2 0|push 2;|push 1
@@ -25,10 +24,10 @@ push with 64 regions, a page free: |on 1040 256 2 0|push 64;|push 1\n",
 
 // Allocation, and whether a collection is due. Of the refusals 5 comes before 8, and 8 before 7.
 pub fn storing(out: &mut impl Write) -> io::Result<()> {
-    say::text(out, b"Allocation and due\n")?;
+    writeln!(out, "Allocation and due")?;
     lines::all(
         out,
-        b"allocate 13 words: |on 48 256 1 0|push 1;|record 0 1 1 1 1 1 1 1 1 1 1 1 1 1
+        "allocate 13 words: |on 48 256 1 0|push 1;|record 0 1 1 1 1 1 1 1 1 1 1 1 1 1
 allocate no words: |on 48 256 1 0|push 1;record 0 1 1 1 1 1 1 1 1 1 1 1 1 1;|record 0
 allocate 14 words: |on 48 256 1 0|push 1;record 0 1 1 1 1 1 1 1 1 1 1 1 1 1;record 0;|record 0 1 1 1 1 1 1 1 1 1 1 1 1 1 1
 allocate 14 words in region 1 of 1: |on 48 256 1 0|push 1;record 0 1 1 1 1 1 1 1 1 1 1 1 1 1;record 0;|record 1 1 1 1 1 1 1 1 1 1 1 1 1 1 1
@@ -45,10 +44,10 @@ due, 43 of 128 pages free: |on 2048 256 0 0|control 0 1 128 43;|due\n",
 
 // Fetch, page, walk, assign and set root, on the heap of "Sh" with a record of the number 7 in the constants.
 pub fn looking(out: &mut impl Write) -> io::Result<()> {
-    say::text(out, b"Fetch, page, walk, assign, set root\n")?;
+    writeln!(out, "Fetch, page, walk, assign, set root")?;
     lines::all(
         out,
-        b"fetch 8:|on 32 256 1 2|label;|fetch 8
+        "fetch 8:|on 32 256 1 2|label;|fetch 8
 fetch 20:|on 32 256 1 2|label;|fetch 20
 fetch 2:|on 32 256 1 2|label;|fetch 2
 fetch 12:|on 32 256 1 2|label;|fetch 12
@@ -85,10 +84,10 @@ root 0 to 12: |on 32 256 1 2|label;name 0 2;|name 0 12\n",
 // Used words and pop. A collection drops the dead value. In the two lines before the last a record in region 1 is its own field, and region 0
 // has its pointer: first in a record, then as a raw word. In the last a region's pages go back in the order of their chain.
 pub fn popping(out: &mut impl Write) -> io::Result<()> {
-    say::text(out, b"Used words and pop\n")?;
+    writeln!(out, "Used words and pop")?;
     lines::all(
         out,
-        b"used words of region 0: |on 32 256 1 0|label;|used 0
+        "used words of region 0: |on 32 256 1 0|label;|used 0
 used words of region 1 of 1: |on 32 256 1 0|label;|used 1
 used words of region 0 with a dead value: |on 32 256 1 0|label;words 0 1;|used 0
 used words of region 0 after a collection: |on 32 256 1 0|label;words 0 1;|collected 0

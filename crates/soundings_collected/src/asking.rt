@@ -8,69 +8,105 @@
 //   names              the answer, and the roots
 //   write              the text of what was read, written into so many bytes
 //   moved              the same after a collection
-use crate::{changing, looking};
-use image::read_image;
-use recipes::heaps;
-use rules::Control;
+use audit::audit;
+use collection::collect;
+use image::{read_image, write_image};
+use recipes::heaps::Parts;
+use rules::{Lent, Refusal};
 use std::io;
 use std::io::Write;
+use telling::lent;
+use telling::say::{Answer, Given};
 
 // Whether the heap of a question is read from the image's text.
-pub fn reads(letter: u8) -> bool {
-    match letter {
-        b'r' | b'p' | b'n' | b'w' | b'm' => true,
-        _ => false,
+pub fn reads(question: &str) -> bool {
+    matches!(question, "read" | "parts" | "names" | "write" | "moved")
+}
+
+fn read(parts: &mut Parts<'_, '_, '_, '_>, text: &[u8]) -> Result<Given, Refusal> {
+    let answer = read_image(text, parts.heap, parts.table, parts.roots, parts.consts);
+    parts.opened(answer)
+}
+
+fn collected(parts: &mut Parts<'_, '_, '_, '_>) -> Result<Given, Refusal> {
+    let c = parts.control;
+    let consts = &mut *parts.consts;
+    let answer = collect(parts.heap, parts.table, parts.roots, consts, c);
+    parts.done(answer)
+}
+
+fn audits(out: &mut impl Write, lent: Lent<'_>) -> io::Result<()> {
+    let answer = audit(lent).map(|_| Given::Done);
+    writeln!(out, "{}", Answer(answer.map_err(|refused| refused.why)))
+}
+
+// A collection, and what it left.
+fn collects(out: &mut impl Write, parts: &mut Parts<'_, '_, '_, '_>) -> io::Result<()> {
+    let sum = lent::sum(parts.lent());
+    let before = parts.control;
+    let answer = Answer(collected(parts));
+    write!(out, "{answer}")?;
+    lent::report(out, sum, before, parts.lent())
+}
+
+// The pages that are free before a collection, and after it.
+fn frees(out: &mut impl Write, parts: &mut Parts<'_, '_, '_, '_>) -> io::Result<()> {
+    let before = parts.control.count;
+    let _ = collected(parts);
+    let after = parts.control.count;
+    writeln!(out, "{before} {after}")
+}
+
+// The text that a write into so many bytes left at their start, or the refusal.
+fn writes(out: &mut impl Write, lent: Lent<'_>, room: u32) -> io::Result<()> {
+    let mut bytes = [0; 256];
+    let lent_bytes = &mut bytes[..256.min(room as usize)];
+    match write_image(lent, lent_bytes) {
+        Ok((k, _)) => out.write_all(bytes.get(..k as usize).unwrap_or(&bytes)),
+        Err(refused) => writeln!(out, "{}", Answer(Err(refused.why))),
     }
 }
 
-// Whether the answer of the read is printed.
-fn is_aloud(letter: u8) -> bool {
-    match letter {
-        b'w' | b'm' => false,
-        _ => true,
-    }
-}
-
-// Whether a question collects.
-fn collects(letter: u8) -> bool {
-    match letter {
-        b'c' | b'f' | b'm' => true,
-        _ => false,
-    }
-}
-
-// The record of the heap that is asked, which comes from an image's text or from a recipe.
-fn given(
+// The heap is made, and the question asked.
+pub fn asks_heap(
     out: &mut impl Write,
-    heap: &mut [u32],
-    table: &mut [u32],
-    roots: &mut [u32],
-    consts: &mut [u32],
-    source: &[u8],
-    letter: u8,
-) -> io::Result<Control> {
-    if reads(letter) {
-        let o = read_image(source, heap, table, roots, consts);
-        return heaps::opened_heard(out, is_aloud(letter), o);
+    parts: &mut Parts<'_, '_, '_, '_>,
+    recipe: &str,
+    question: &str,
+) -> io::Result<()> {
+    parts.make(recipe);
+    match question {
+        "audit" => audits(out, parts.lent()),
+        "collect" => collects(out, parts),
+        "free" => frees(out, parts),
+        _ => Ok(()),
     }
-    heaps::made(out, heap, table, roots, consts, source)
 }
 
-// The heap is made, or read, and the question asked. A write is lent so many bytes.
-pub fn asks(
+// The heap is read, and the question asked. A write is lent so many bytes, and after a collection begins on a line of its own.
+pub fn asks_image(
     out: &mut impl Write,
-    heap: &mut [u32],
-    table: &mut [u32],
-    roots: &mut [u32],
-    consts: &mut [u32],
-    source: &[u8],
-    letter: u8,
+    parts: &mut Parts<'_, '_, '_, '_>,
+    text: &[u8],
+    question: &str,
     room: u32,
 ) -> io::Result<()> {
-    let c = given(out, heap, table, roots, consts, source, letter)?;
-    if collects(letter) {
-        changing::changes(out, heap, table, roots, consts, c, letter, room)
-    } else {
-        looking::looks(out, heap, table, roots, consts, c, letter, room)
+    let answer = Answer(read(parts, text));
+    match question {
+        "read" => writeln!(out, "{answer}"),
+        "parts" => {
+            write!(out, "{answer}")?;
+            lent::show(out, parts.lent())
+        }
+        "names" => {
+            write!(out, "{answer}")?;
+            lent::only_roots(out, parts.roots)
+        }
+        "moved" => {
+            let _ = collected(parts);
+            writeln!(out)?;
+            writes(out, parts.lent(), room)
+        }
+        _ => writes(out, parts.lent(), room),
     }
 }

@@ -1,114 +1,56 @@
-// Lines of the soundings. A line is four texts with bars between them:
+// Lines of the soundings:
 //   audit, R is 0: |on 32 1 2 7|label;control 0 2 2 1;|audit
 //   read it with n 3: |on 32 1 0 0 202 13|3|read
-// what is printed in front of the answer; numbers; the recipe of the heap; the question. The numbers are the lengths of the heap, the roots and
-// the constants, and the field of the constants' record. A question about an image's text needs no recipe and no constants: there the fourth
-// number is how many bytes a write is lent, the fifth how many bytes of the text are read, and the sixth the place of a byte that is another: the
-// one that stands where a recipe would.
-use crate::asking;
-use recipes::{cutting, heaps};
-use script::parts;
+// The numbers are the lengths of the heap, the roots and the constants, and the field of the constants' record. A question about an image's text
+// needs no recipe and no constants: there the fourth number is how many bytes a write is lent, the fifth how many bytes of the text are read, and
+// the sixth the place of a byte that is another: the one that stands where a recipe would.
+use crate::asking::{asks_heap, asks_image, reads};
+use recipes::cutting::{Line, first_words, line_of, numbers_of};
+use recipes::heaps::{NO_RECORD, Parts};
 use std::io;
 use std::io::Write;
-use telling::say;
 
-// The question, on parts of these lengths.
-fn sized(
-    out: &mut impl Write,
-    heap: &mut [u32],
-    table: &mut [u32],
-    roots: &mut [u32],
-    consts: &mut [u32],
-    source: &[u8],
-    row: &[u32; 16],
-    letter: u8,
-) -> io::Result<()> {
-    asking::asks(
-        out,
-        cutting::first_words(heap, row[0]),
-        table,
-        cutting::first_words(roots, row[1]),
-        cutting::first_words(consts, row[2]),
-        source,
-        letter,
-        row[3],
-    )
-}
-
-// The question, on parts whose words are all 7, and a record of one word.
-fn on_parts(out: &mut impl Write, source: &[u8], row: &[u32; 16], letter: u8) -> io::Result<()> {
-    let mut heap = [7u32; 128];
-    let mut table = [7u32; 256];
-    let mut roots = [7u32; 4];
-    let mut consts = [9u32, row[3]];
-    sized(
-        out,
-        &mut heap,
-        &mut table,
-        &mut roots,
-        &mut consts,
-        source,
-        row,
-        letter,
-    )
-}
-
-// The recipe and the question: the heap comes from the image's text or from the recipe.
-fn on_source(out: &mut impl Write, image: &[u8], row: &[u32; 16], rest: &[u8]) -> io::Result<()> {
-    let letter = heaps::first(cutting::behind_bar(rest));
-    if asking::reads(letter) {
-        on_parts(out, image, row, letter)
-    } else {
-        on_parts(out, cutting::before_bar(rest), row, letter)
+// The image's text with another byte at a place; the place 0 stands for none.
+fn changed(image: &[u8; 256], at: u32, byte: Option<&u8>) -> [u8; 256] {
+    let mut text = *image;
+    if 0 < at
+        && let (Some(place), Some(byte)) = (text.get_mut(at as usize), byte)
+    {
+        *place = *byte;
     }
+    text
 }
 
-// A byte becomes another; the place 0 stands for none. The byte that stood there.
-fn changed(text: &mut [u8], at: u32, byte: u8) -> u8 {
-    let i = heaps::place(at);
-    if i == 0 {
-        return byte;
+// A line, on parts whose words are all 7, and a record of one word.
+fn sounding(out: &mut impl Write, image: &[u8; 256], line: Line<'_>) -> io::Result<()> {
+    let mut row = [0; 16];
+    numbers_of(line.numbers, &mut row);
+    let mut heap = [7; 128];
+    let mut table = [7; 256];
+    let mut roots = [7; 4];
+    let mut consts = [9, row[3]];
+    let mut parts = Parts {
+        heap: first_words(&mut heap, row[0]),
+        table: &mut table,
+        roots: first_words(&mut roots, row[1]),
+        consts: first_words(&mut consts, row[2]),
+        control: NO_RECORD,
+    };
+    write!(out, "{}", line.heading)?;
+    if !reads(line.question) {
+        return asks_heap(out, &mut parts, line.recipe, line.question);
     }
-    if text.len() <= i {
-        return byte;
-    }
-    let was = text[i];
-    text[i] = byte;
-    was
+    let text = changed(image, row[5], line.recipe.as_bytes().first());
+    let text = text.get(..row[4] as usize).unwrap_or(&text);
+    asks_image(out, &mut parts, text, line.question, row[3])
 }
 
-// The same on the image's text as the numbers have it, which stands as before when they are done.
-fn on_text(out: &mut impl Write, image: &mut [u8], row: &[u32; 16], rest: &[u8]) -> io::Result<()> {
-    let was = changed(image, row[5], heaps::first(rest));
-    on_source(
-        out,
-        parts::first_bytes(image, heaps::place(row[4])),
-        row,
-        rest,
-    )?;
-    changed(image, row[5], was);
-    Ok(())
-}
-
-// What stands behind a line's first bar.
-fn numbered(out: &mut impl Write, image: &mut [u8], rest: &[u8]) -> io::Result<()> {
-    let mut row = [0u32; 16];
-    heaps::numbers(cutting::before_bar(rest), &mut row);
-    on_text(out, image, &row, cutting::behind_bar(rest))
-}
-
-fn sounding(out: &mut impl Write, image: &mut [u8], line: &[u8]) -> io::Result<()> {
-    say::text(out, cutting::before_bar(line))?;
-    numbered(out, image, cutting::behind_bar(line))
-}
-
-// Each line ends with a newline. The image's text is for the lines that ask about one.
-pub fn all(out: &mut impl Write, image: &mut [u8], lines: &[u8]) -> io::Result<()> {
-    let mut at = 0;
-    while at < lines.len() {
-        let e = heaps::end_of(lines, at, b'\n');
-        sounding(out, image, &lines[at..e])?;
-        at = e + 1;
+// A text of lines. The image's text is for the lines that ask about one.
+pub fn all(out: &mut impl Write, image: &[u8; 256], lines: &str) -> io::Result<()> {
+    for text in lines.lines() {
+        if let Some(line) = line_of(text) {
+            sounding(out, image, line)?;
+        }
     }
     Ok(())
 }

@@ -4,16 +4,14 @@
 #![tactic(auto)]
 
 mod asking;
-mod changing;
 mod lines;
-mod looking;
 mod sections;
 
 use script::filling::fill;
 use std::io;
 use std::io::Write;
 
-fn soundings(out: &mut impl Write, image: &mut [u8]) -> io::Result<()> {
+fn soundings(out: &mut impl Write, image: &[u8; 256]) -> io::Result<()> {
     sections::auditing(out, image)?;
     sections::collecting(out, image)?;
     sections::slips(out, image)?;
@@ -24,5 +22,5 @@ fn soundings(out: &mut impl Write, image: &mut [u8]) -> io::Result<()> {
 fn main(rt: HostRuntime) -> io::Result<()> {
     let mut image = [10u8; 256];
     fill(&mut rt.stdin(), &mut image)?;
-    soundings(&mut rt.stdout(), &mut image)
+    soundings(&mut rt.stdout(), &image)
 }

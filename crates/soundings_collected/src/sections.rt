@@ -2,15 +2,14 @@
 use crate::lines;
 use std::io;
 use std::io::Write;
-use telling::say;
 
 // The heap of "Sh" passes; each line spoils it in one place, or two, and is told the first broken rule.
-pub fn auditing(out: &mut impl Write, image: &mut [u8]) -> io::Result<()> {
-    say::text(out, b"The audit\n")?;
+pub fn auditing(out: &mut impl Write, image: &[u8; 256]) -> io::Result<()> {
+    writeln!(out, "The audit")?;
     lines::all(
         out,
         image,
-        b"audit, nothing spoiled: |on 32 1 2 7|label;|audit
+        "audit, nothing spoiled: |on 32 1 2 7|label;|audit
 audit, R is 65: |on 32 1 2 7|label;control 65 2 2 1;|audit
 audit, free first is 3 of 2 pages: |on 32 1 2 7|label;control 1 3 2 1;|audit
 audit, free count is 0 and free first 2: |on 32 1 2 7|label;control 1 2 2 0;|audit
@@ -38,12 +37,12 @@ audit, a free page's word is 1 and a is 17: |on 32 1 2 7|label;heap 20 1;table 2
 
 // The heap of "Sh"; then a record of itself, and two records, each the other's field. Of the lines with no value that the roots name:
 // none at all; a raw value in region 1 and a record of it in region 0; none, and a free page is lacking before any root is looked at.
-pub fn collecting(out: &mut impl Write, image: &mut [u8]) -> io::Result<()> {
-    say::text(out, b"The collection\n")?;
+pub fn collecting(out: &mut impl Write, image: &[u8; 256]) -> io::Result<()> {
+    writeln!(out, "The collection")?;
     lines::all(
         out,
         image,
-        b"collect \"Sh\": |on 32 1 2 7|label;|collect
+        "collect \"Sh\": |on 32 1 2 7|label;|collect
 collect a record of itself: |on 32 1 2 7|push 1;record 0 1;assign 8 0 8;name 0 8;|collect
 collect two roots of one value: |on 32 2 2 7|push 1;record 0 1;record 0 8;assign 8 0 16;name 0 8;name 1 8;|collect
 collect 7, 7, 10, 4 words, three pages free: |on 80 4 2 7|four;|collect
@@ -65,12 +64,12 @@ collect a root that is 12: |on 32 1 2 7|label;spoil 0 12;|collect\n",
 // twice.
 //   Raw words: they are the pointers to the value itself, to its last word and past the heap.
 //   Pages free before and after: the values do not fit as many pages after the collection as before.
-pub fn slips(out: &mut impl Write, image: &mut [u8]) -> io::Result<()> {
-    say::text(out, b"Slips\n")?;
+pub fn slips(out: &mut impl Write, image: &[u8; 256]) -> io::Result<()> {
+    writeln!(out, "Slips")?;
     lines::all(
         out,
         image,
-        b"collect a page that ends full: |on 64 1 2 7|push 2;record 1 1;record 0 72 1 1 1 1 1 1 1 1 1 1 1 1;assign 72 0 8;name 0 8;|collect
+        "collect a page that ends full: |on 64 1 2 7|push 2;record 1 1;record 0 72 1 1 1 1 1 1 1 1 1 1 1 1;assign 72 0 8;name 0 8;|collect
 collect full pages with pages behind: |on 128 4 2 7|push 2;record 0 1 1 1 1 1 1 1 1 1 1 1 1 1;words 1 5 5 5 5 5 5 5 5 5 5 5 5 5;record 0 8;words 1 3;name 0 8;name 1 72;name 2 136;name 3 200;|collect
 collect a region met while it is scanned: |on 64 1 2 7|push 2;record 0 1;record 0 3;record 1 16;record 0 72 8;assign 8 0 24;name 0 24;|collect
 collect raw words 8 20 4000: |on 32 1 2 7|push 1;words 0 8 20 4000;name 0 8;|collect
@@ -80,12 +79,12 @@ pages free before and after 7, 7, 10, 4 words: |on 80 4 2 7|four;|free\n",
 }
 
 // The example of document 01 has 202 bytes.
-pub fn images(out: &mut impl Write, image: &mut [u8]) -> io::Result<()> {
-    say::text(out, b"Image text\n")?;
+pub fn images(out: &mut impl Write, image: &[u8; 256]) -> io::Result<()> {
+    writeln!(out, "Image text")?;
     lines::all(
         out,
         image,
-        b"read the example: |on 32 1 0 0 202||parts
+        "read the example: |on 32 1 0 0 202||parts
 write it into 201 bytes: |on 32 1 0 201 202||write
 collect and write it:|on 32 1 0 256 202||moved
 read it into two roots: |on 32 2 0 0 202||names

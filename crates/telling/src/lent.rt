@@ -21,6 +21,11 @@ pub fn show(out: &mut impl Write, lent: Lent<'_>) -> io::Result<()> {
     writeln!(out)
 }
 
+// The roots, where nothing else is to be seen.
+pub fn only_roots(out: &mut impl Write, roots: &[u32]) -> io::Result<()> {
+    writeln!(out, ", roots {}", Words(roots))
+}
+
 // A sum of the words in their order: what stood before a call is told from what stands after it.
 pub fn sum(lent: Lent<'_>) -> u64
     ensures { result < 4294967291 }

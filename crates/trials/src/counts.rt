@@ -2,7 +2,7 @@
 ghost use Rattle.std.specs.Prelude.{◌≤◌, ◌<◌};
 
 use audit::audit;
-use rules::{Control, Plain, Refusal};
+use rules::{Control, Lent, Refusal, Refused};
 use samples::census::{Census, add};
 
 // The sums, in the order in which they are reported.
@@ -58,13 +58,6 @@ fn page_words(n: u32) -> usize
     }
 }
 
-fn passes(p: Plain) -> bool {
-    match p {
-        Plain::Done(_) => true,
-        Plain::Refused(_, _) => false,
-    }
-}
-
 impl Sums {
     fn size(&mut self, words: usize, roots: usize, c: Control) {
         add(&mut self.heaps, 1);
@@ -112,30 +105,20 @@ impl Sums {
     }
 
     // How the collection of a heap with this record ended.
-    pub fn ended(&mut self, answer: Plain, c: Control, agree: bool) {
+    pub fn ended(&mut self, answer: Result<Control, Refused>, c: Control, agree: bool) {
         add_if(&mut self.differences, !agree);
         match answer {
-            Plain::Done(after) => {
+            Ok(after) => {
                 add(&mut self.finished, 1);
                 self.moved(c.count, after.count);
             }
-            Plain::Refused(why, _) => self.refused(why, c.regions <= c.count),
+            Err(refused) => self.refused(refused.why, c.regions <= c.count),
         }
     }
 
     // A sample after its collection: what is left is counted, and passes the audit.
-    pub fn left(
-        &mut self,
-        heap: &[u32],
-        table: &[u32],
-        roots: &[u32],
-        consts: &[u32],
-        answer: Plain,
-    ) {
-        if let Plain::Done(c) = answer {
-            self.living.count(heap, page_words(c.n));
-            let sound = passes(audit(heap, table, roots, consts, c));
-            add_if(&mut self.broken_after, !sound);
-        }
+    pub fn left(&mut self, lent: Lent<'_>) {
+        self.living.count(lent.heap, page_words(lent.control.n));
+        add_if(&mut self.broken_after, audit(lent).is_err());
     }
 }

@@ -7,7 +7,7 @@ pub mod counts;
 
 use collection::collect;
 use counts::Sums;
-use rules::{Control, Plain, Refusal};
+use rules::{Control, Lent, Refusal, Refused};
 use samples::making::record_of;
 use second::{WHOLE, WITH_BOOKS, collect_again, lay_out};
 
@@ -34,32 +34,13 @@ fn refuses_so(why: Refusal, old: &[u32], now: &[u32]) -> bool {
 }
 
 // Whether the second collector makes of the old heap what the first one made of it.
-fn made_so(answer: Plain, old: &[u32], now: &[u32]) -> bool {
-    match answer {
-        Plain::Done(_) => finishes_so(old, now),
-        Plain::Refused(why, _) => refuses_so(why, old, now),
-    }
-}
-
-fn agrees(answer: Plain, old: &[u32], heap: &[u32], table: &[u32], roots: &[u32]) -> bool {
+fn agrees(answer: Result<Control, Refused>, old: &[u32], left: Lent<'_>) -> bool {
     let mut now = [0u32; WHOLE];
-    lay_out(&mut now, heap, table, roots, record_of(answer));
-    made_so(answer, old, &now)
-}
-
-// The first collector's answer on a heap, and whether the second one agrees with it. The first one's words are left.
-fn compared(
-    heap: &mut [u32],
-    table: &mut [u32],
-    roots: &mut [u32],
-    consts: &[u32],
-    c: Control,
-) -> (Plain, bool) {
-    let mut old = [0u32; WHOLE];
-    lay_out(&mut old, heap, table, roots, c);
-    let answer = collect(heap, table, roots, consts, c);
-    let agree = agrees(answer, &old, heap, table, roots);
-    (answer, agree)
+    lay_out(&mut now, left);
+    match answer {
+        Ok(_) => finishes_so(old, &now),
+        Err(refused) => refuses_so(refused.why, old, &now),
+    }
 }
 
 // Both collectors on one heap, and how it ended. The first one's words are left.
@@ -70,8 +51,26 @@ pub fn both(
     consts: &[u32],
     c: Control,
     sums: &mut Sums,
-) -> Plain {
-    let (answer, agree) = compared(heap, table, roots, consts, c);
-    sums.ended(answer, c, agree);
+) -> Result<Control, Refused> {
+    let mut old = [0u32; WHOLE];
+    lay_out(
+        &mut old,
+        Lent {
+            heap,
+            table,
+            roots,
+            consts,
+            control: c,
+        },
+    );
+    let answer = collect(heap, table, roots, consts, c);
+    let left = Lent {
+        heap,
+        table,
+        roots,
+        consts,
+        control: record_of(answer),
+    };
+    sums.ended(answer, c, agrees(answer, &old, left));
     answer
 }
