@@ -107,7 +107,10 @@ fn write_part(to: &mut impl Write, part: &[u32]) -> io::Result<()> {
 }
 
 fn write_value(to: &mut impl Write, w: u32, m: &Memory<'_>) -> io::Result<()> {
-    write_part(to, access::fetch(m.heap, m.table, m.roots, m.consts, m.control, w))
+    write_part(
+        to,
+        access::fetch(m.heap, m.table, m.roots, m.consts, m.control, w),
+    )
 }
 
 fn write_page(to: &mut impl Write, k: Page, m: &Memory<'_>) -> io::Result<()> {

@@ -32,8 +32,7 @@ impl Memory<'_> {
 
     // The hash of the lent words and the record.
     pub fn hash(&self) -> u64
-        ensures {
-            let m = self.now in
+        ensures { let m = self.now in
             let c = m.control in
             let heap = hash_words 14695981039346656037 m.heap.now in
             let table = hash_words heap m.table.now in

@@ -70,9 +70,7 @@ fn allocate(m: &mut Memory<'_>, j: Region, kind: Kind, tokens: Tokens<'_>) -> Ou
     let table = &mut *m.table;
     let roots = &mut *m.roots;
     let consts = &mut *m.consts;
-    word(allocation::allocate(
-        heap, table, roots, consts, c, j, kind, words,
-    ))
+    word(allocation::allocate(heap, table, roots, consts, c, j, kind, words))
 }
 
 // A call that changes lent words or the record.

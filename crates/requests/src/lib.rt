@@ -128,17 +128,17 @@ pub fn read_lend(line: &[u8]) -> Option<Lengths> {
         return None;
     };
     let lengths = read_lengths(&mut tokens)?;
-    if tokens.is_done() { Some(lengths) } else { None }
+    if tokens.is_done() {
+        Some(lengths)
+    } else {
+        None
+    }
 }
 
 // The operations that make lent words and the record anew.
 fn read_making<'a>(name: &[u8], tokens: &mut Tokens<'a>) -> Option<Making<'a>> {
     match name {
-        b"poke" => Some(Making::Poke(
-            read_part(tokens)?,
-            read_index(tokens)?,
-            read_word(tokens)?,
-        )),
+        b"poke" => Some(Making::Poke(read_part(tokens)?, read_index(tokens)?, read_word(tokens)?)),
         b"ctl" => Some(Making::Ctl(read_control(tokens)?)),
         b"setup" => Some(Making::Setup(narrow(decimal(tokens.next()?)?))),
         b"read" => Some(Making::Read(tokens.next()?)),
@@ -151,11 +151,7 @@ fn read_changing<'a>(name: &[u8], tokens: &mut Tokens<'a>) -> Option<Changing<'a
     match name {
         b"push" => Some(Changing::Push),
         b"pop" => Some(Changing::Pop),
-        b"alloc" => Some(Changing::Alloc(
-            read_region(tokens)?,
-            read_kind(tokens)?,
-            tokens.rest(),
-        )),
+        b"alloc" => Some(Changing::Alloc(read_region(tokens)?, read_kind(tokens)?, tokens.rest())),
         b"assign" => Some(Changing::Assign(
             read_word(tokens)?,
             read_index(tokens)?,
@@ -198,5 +194,9 @@ fn read_operation<'a>(name: &[u8], tokens: &mut Tokens<'a>) -> Option<Request<'a
 pub fn read_request(line: &[u8]) -> Option<Request<'_>> {
     let mut tokens = Tokens::of(line);
     let request = read_operation(tokens.next()?, &mut tokens)?;
-    if tokens.is_done() { Some(request) } else { None }
+    if tokens.is_done() {
+        Some(request)
+    } else {
+        None
+    }
 }
