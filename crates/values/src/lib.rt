@@ -12,16 +12,11 @@ use pages::{body_address, page_end};
 use rules::{Address, Control};
 
 // Whether h is the header of a value that fits into the m words that follow it.
+#[tactic(auto, using(rules::proofs::Headers::fits_rec, rules::proofs::Headers::fits_raw, rules::proofs::Headers::fits_not))]
 pub fn fits(h: u32, m: usize) -> bool
     ensures { result ≡ fits_in h m }
 {
-    if h % 8 == 1 {
-        return (h / 8) as usize <= m;
-    }
-    if h % 8 == 3 {
-        return (h / 8) as usize <= m;
-    }
-    false
+    matches!(h % 8, 1 | 3) && (h / 8) as usize <= m
 }
 
 // Whether h is a record's header.
