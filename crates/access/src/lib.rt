@@ -4,51 +4,48 @@
 
 ghost use Rattle.std.specs.Prelude.{◌≡◌};
 ghost use Rattle.rules.specs.Calls.{fetch as fetch_of, fetch_refusal, set_root};
-ghost use Rattle.rules.specs.Memory.{lent};
+ghost use Rattle.rules.specs.Memory.{lent, store};
 ghost use Rattle.rules.specs.Refusals.{outcome};
 
-use limits::{Tested, first_tests};
-use rules::{Control, Plain, Refusal};
-use values::{good_word, look, nothing};
+use limits::{admit, first_tests};
+use rules::{Control, Lent, Refusal, Refused};
+use values::{Memory, good_word, look, nothing};
 
 // The value that a word points to, as a part of the heap or of the constants; an empty part where the call is refused.
-pub fn fetch<'a>(
-    heap: &'a [u32],
-    table: &'a [u32],
-    roots: &'a [u32],
-    consts: &'a [u32],
-    c: Control,
-    w: u32,
-) -> &'a [u32]
-    ensures { result.now ≡ fetch_of (lent heap.now table.now roots.now consts.now c) w }
+pub fn fetch<'a>(lent: Lent<'a>, w: u32) -> &'a [u32]
+    ensures { result.now ≡ fetch_of (store lent.entry) w }
 {
-    let tested = first_tests(heap.len(), table.len(), roots.len(), consts.len(), c);
-    if let Tested::Refused(_) = tested {
+    let Lent {
+        heap,
+        consts,
+        control: c,
+        ..
+    } = lent;
+    let Ok(_) = admit(lent) else {
         return nothing(heap);
-    }
-    look(heap, consts, c.n, c.regions, w)
+    };
+    look(Memory { heap, consts, c }, w)
 }
 
 // Whether a fetch is refused, and why.
-pub fn fetch_refusal<'a>(
-    heap: &'a [u32],
-    table: &'a [u32],
-    roots: &'a [u32],
-    consts: &'a [u32],
-    c: Control,
-    w: u32,
-) -> Plain
-    ensures { result ≡ fetch_refusal (lent heap.now table.now roots.now consts.now c) w }
+pub fn fetch_refusal(lent: Lent<'_>, w: u32) -> Result<Control, Refused>
+    ensures { result ≡ fetch_refusal (store lent.entry) w }
 {
-    let tested = first_tests(heap.len(), table.len(), roots.len(), consts.len(), c);
-    if let Tested::Refused(why) = tested {
-        return Plain::Refused(why, c);
-    }
-    let value = look(heap, consts, c.n, c.regions, w);
+    admit(lent)?;
+    let Lent {
+        heap,
+        consts,
+        control: c,
+        ..
+    } = lent;
+    let value = look(Memory { heap, consts, c }, w);
     if value.len() == 0 {
-        return Plain::Refused(Refusal::NotGood, c);
+        return Err(Refused {
+            why: Refusal::NotGood,
+            control: c,
+        });
     }
-    Plain::Done(c)
+    Ok(c)
 }
 
 // Root number `root` becomes the word w, which is a number or a good pointer.
@@ -60,20 +57,23 @@ pub fn set_root(
     c: Control,
     root: usize,
     w: u32,
-) -> Plain
+) -> Result<Control, Refused>
     ensures { outcome result heap.now table.now roots.new consts.now
         ≡ set_root (lent heap.now table.now roots.old consts.now c) root w }
 {
-    let tested = first_tests(heap.len(), table.len(), roots.len(), consts.len(), c);
-    if let Tested::Refused(why) = tested {
-        return Plain::Refused(why, c);
-    }
+    first_tests(heap.len(), table.len(), roots.len(), consts.len(), c)?;
     if roots.len() <= root {
-        return Plain::Refused(Refusal::NoSuch, c);
+        return Err(Refused {
+            why: Refusal::NoSuch,
+            control: c,
+        });
     }
-    if !good_word(heap, consts, c.n, c.regions, w) {
-        return Plain::Refused(Refusal::NotGood, c);
+    if !good_word(Memory { heap, consts, c }, w) {
+        return Err(Refused {
+            why: Refusal::NotGood,
+            control: c,
+        });
     }
     roots[root] = w;
-    Plain::Done(c)
+    Ok(c)
 }

@@ -29,8 +29,7 @@ use Rattle.working.proofs.Turn.{ScanAt}
 use Rattle.working.proofs.Leaving.{scanning, left, left_empty, left_next, entered}
 use Rattle.working.proofs.Work.{Finished, finished_from, log_bound, work_done_lem, left_finished, next_begins, work_leaves, left_enough, at_copy, work_lacks, next_copy, work_scans, scanned_enough}
 use Rattle.working.proofs.Roots.{begin, begins_at, begins_work, entered_enough, ends_work, ends_finished}
-use Rattle.motion.specs.declared.Step.{Step}
-use Rattle.motion.specs.Leaves.{Desk, desk, low, entry, depth, go_on, pop_on, pop}
+use Rattle.motion.specs.Leaves.{Desk, desk, low, entry, depth, go_on, all_scanned, page_lacks, pop_on, pop}
 use Rattle.motion.specs.Run as X
 use Rattle.motion.specs.Run.{step_on, step, work_on, work_turn}
 use Rattle.motion.specs.Whole as Y
@@ -48,7 +47,7 @@ abbrev pub popped : Desk → List Scan → Desk
 popped d ts = desk d.heap (set d.notes depth (length ts))
 
 module _ {s : Store} {S : Sound s} {own : ℕ → Owner} {free : List ℕ} {r : Run} {d : Desk} (M : Alike s S own free r d) where
-  pub pops_none : r.stack ≡ [] → pop d.notes ≡ after Step.Finished d.notes
+  pub pops_none : r.stack ≡ [] → pop d.notes ≡ after all_scanned d.notes
   unfolding pop_on
   pops_none e = let q : at d.notes depth ≡ 0 = M.deep ∙ ap length e in rw (q, pop_on)
 
@@ -98,7 +97,7 @@ module _ (s : Store) (S : Sound s) where
   Scanned g r d = (F : Finished s S g r) × Matching s S F.ghost r d
 
   abbrev pub Works : Ghost → Run → Desk → ℕ → ℕ → ℕ → Type 0
-  Works g r d f j a = Together s S lacks_page finished Step.NoPage Step.Finished (Scanned g) (work n f j a r) (X.work n f (X.scanning j a d))
+  Works g r d f j a = Together s S lacks_page finished page_lacks all_scanned (Scanned g) (work n f j a r) (X.work n f (X.scanning j a d))
 
   -- from wherever the scan is, with fuel f
   abbrev pub WorksOn : ℕ → Type 0
@@ -157,7 +156,7 @@ module _ (s : Store) (S : Sound s) where
   -- ---- from the top of the stack
 
   abbrev pub WorksStack : Ghost → Run → Desk → Type 0
-  WorksStack g r d = Together s S lacks_page finished Step.NoPage Step.Finished (Scanned g) (work_stack n r) (Y.work_stack n (2 * length r.heap) d)
+  WorksStack g r d = Together s S lacks_page finished page_lacks all_scanned (Scanned g) (work_stack n r) (Y.work_stack n (2 * length r.heap) d)
 
 pub works_stack : {s : Store} {S : Sound s} {g : Ghost} {r : Run} {d : Desk} → Inv s S g r → g.cur ≡ none → g.half ≡ none → total g.todo s.ctl.regions + length r.stack ≤ 2 * length g.log
     → Matching s S g r d → WorksStack s S g r d

@@ -10,12 +10,12 @@ ghost use Rattle.rules.specs.Refusals.{Paged, outcome};
 ghost use Rattle.rules.specs.Calls.{row_fits, header_for, words_fit, allocate as allocate_of};
 
 use conversions::{address_before, address_behind};
-use limits::{Tested, first_tests};
+use limits::first_tests;
 use pages::page_words;
 use placing::put_value;
 use rows::{end_of, top_of};
-use rules::{Control, Kind, Refusal, Region, Valued};
-use values::good_word;
+use rules::{Control, Kind, Refusal, Refused, Region};
+use values::{Memory, good_word};
 
 // Whether region j's e and a are fit for an allocation: e is a multiple of P from P to NP, a lies from e-P+2 to e.
 fn row_fits(heap: &[u32], table: &[u32], j: Region, n: u32) -> bool
@@ -42,18 +42,10 @@ fn row_fits(heap: &[u32], table: &[u32], j: Region, n: u32) -> bool
 }
 
 // Whether each word is a number or a good pointer.
-fn good_words(heap: &[u32], consts: &[u32], n: u32, regions: u32, words: &[u32]) -> bool
-    requires { (Paged n (length heap.now)) × (length consts.now ≤ 65535) }
-    ensures { result ≡ all (good_in n regions heap.now consts.now) words.now }
+fn good_words(memory: Memory<'_>, words: &[u32]) -> bool
+    ensures { let m = memory.entry in result ≡ all (good_in m.c.n m.c.regions m.heap.now m.consts.now) words.now }
 {
-    let mut i = 0;
-    while i < words.len() {
-        if !good_word(heap, consts, n, regions, words[i]) {
-            return false;
-        }
-        i += 1;
-    }
-    true
+    words.iter().all(|w| good_word(memory, *w))
 }
 
 // Whether the words may stand in a value of this kind.
@@ -62,7 +54,7 @@ fn words_fit(heap: &[u32], consts: &[u32], c: Control, kind: Kind, words: &[u32]
     ensures { (t r : List ℕ) → result ≡ words_fit (lent heap.now t r consts.now c) kind words.now }
 {
     match kind {
-        Kind::Record => good_words(heap, consts, c.n, c.regions, words),
+        Kind::Record => good_words(Memory { heap, consts, c }, words),
         Kind::Raw => true,
     }
 }
@@ -88,24 +80,33 @@ pub fn allocate(
     j: Region,
     kind: Kind,
     words: &[u32],
-) -> Valued
+) -> Result<(u32, Control), Refused>
     ensures { outcome result heap.new table.new roots.now consts.now ≡ allocate_of (lent heap.old table.old roots.now consts.now c) j.0 kind words.now }
 {
-    let tested = first_tests(heap.len(), table.len(), roots.len(), consts.len(), c);
-    if let Tested::Refused(why) = tested {
-        return Valued::Refused(why, c);
-    }
+    first_tests(heap.len(), table.len(), roots.len(), consts.len(), c)?;
     if c.regions as usize <= j.0 {
-        return Valued::Refused(Refusal::NoRegion, c);
+        return Err(Refused {
+            why: Refusal::NoRegion,
+            control: c,
+        });
     }
     if !row_fits(heap, table, j, c.n) {
-        return Valued::Refused(Refusal::Broken(0), c);
+        return Err(Refused {
+            why: Refusal::Broken(0),
+            control: c,
+        });
     }
     if page_words(c.n) - 3 < words.len() {
-        return Valued::Refused(Refusal::TooLong, c);
+        return Err(Refused {
+            why: Refusal::TooLong,
+            control: c,
+        });
     }
     if !words_fit(heap, consts, c, kind, words) {
-        return Valued::Refused(Refusal::NotGood, c);
+        return Err(Refused {
+            why: Refusal::NotGood,
+            control: c,
+        });
     }
     put_value(heap, table, c, j, header_for(kind, words.len()), words)
 }

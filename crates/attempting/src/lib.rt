@@ -2,113 +2,87 @@
 
 #![tactic(auto)]
 
-ghost use Rattle.std.specs.Prelude.{◌≡◌, ◌≤◌, ◌<◌};
+ghost use Rattle.std.specs.Prelude.{◌≡◌, ◌≤◌, ◌<◌, is_ok};
+ghost use Rattle.laws.specs.Each.{after};
 ghost use Rattle.motion.specs.Leaves.{desk, out};
-ghost use Rattle.motion.specs.Whole.{fresh as fresh_def, freshen as freshen_def, move_root, move_roots, work_stack, attempt as attempt_def, is_finished};
+ghost use Rattle.motion.specs.Desks.{laid, Same};
+ghost use Rattle.motion.specs.Whole.{fresh as fresh_def, freshen as freshen_def, move_root, move_roots, work_stack, attempt as attempt_def};
 
-use conversions::{address_behind, next_region, pointer_address, region_numbered};
+use conversions::{address_behind, pointer_address, region_numbered};
 use copying::{move_value, take_page};
-use leaves::{link_start, pop, set_end, set_first, set_status, set_top, word};
-use motion::Step;
+use leaves::{link_start, pop, set_end, set_first, set_status, set_top};
+use motion::{Desk, Entry, NoPage};
 use pages::page_words;
 use rules::Region;
 use scan_stack::work;
 
-// A fresh page for region j. Whether there was one.
-fn fresh(heap: &mut [u32], notes: &mut [u32], j: Region, n: u32) -> bool
-    requires { (4 ≤ n) × (n ≤ 8) × (j.0 < 4294967296) }
-    ensures { out result heap.new notes.new ≡ fresh_def n j.0 (desk heap.old notes.old) }
+// A fresh page for region j.
+#[tactic(auto, unfolding(motion::specs::Whole::fresh_at, motion::specs::Whole::fresh_on, motion::specs::Whole::fresh))]
+fn fresh(desk: &mut Desk<'_>, j: Region) -> Result<(), NoPage>
+    requires { j.0 < 4294967296 }
+    ensures fresh { after (is_ok result) (laid desk.new) ≡ fresh_def desk.old.n j.0 (laid desk.old) }
+    ensures same { Same desk.old desk.new }
 {
-    let link = take_page(heap, notes, n);
-    if link == 0 {
-        return false;
-    }
-    let p = page_words(n);
-    let start = link_start(link, n);
-    set_end(notes, j, address_behind(start, p));
-    set_first(notes, j, start);
-    set_top(notes, j, address_behind(start, 2));
-    set_status(notes, j, 0);
-    true
+    let link = take_page(desk)?;
+    let p = page_words(desk.n);
+    let start = link_start(link, desk.n);
+    set_end(desk.notes, j, address_behind(start, p));
+    set_first(desk.notes, j, start);
+    set_top(desk.notes, j, address_behind(start, 2));
+    set_status(desk.notes, j, 0);
+    Ok(())
 }
 
-// A fresh page for each region, bottom first. Whether there were enough.
-fn freshen(heap: &mut [u32], notes: &mut [u32], regions: u32, n: u32) -> bool
-    requires { (4 ≤ n) × (n ≤ 8) }
-    ensures { out result heap.new notes.new ≡ freshen_def n regions (desk heap.old notes.old) }
+// A fresh page for each region, bottom first.
+#[tactic(auto, using(crate::proofs::Turns::fresh_more, crate::proofs::Turns::fresh_over, crate::proofs::Turns::fresh_end))]
+fn freshen(desk: &mut Desk<'_>, regions: u32) -> Result<(), NoPage>
+    ensures fresh { after (is_ok result) (laid desk.new) ≡ freshen_def desk.old.n regions (laid desk.old) }
+    ensures same { Same desk.old desk.new }
 {
-    let mut j = region_numbered(0);
-    let mut left = regions as usize;
-    while 0 < left {
-        let ok = fresh(heap, notes, j, n);
-        if !ok {
-            return false;
-        }
-        j = next_region(j);
-        left -= 1;
+    for j in 0..regions {
+        fresh(desk, region_numbered(j as usize))?;
     }
-    true
+    Ok(())
 }
 
-// The value of the root w moved. Whether there was room.
-fn move_root(heap: &mut [u32], notes: &mut [u32], w: usize, n: u32) -> bool
-    requires { (4 ≤ n) × (n ≤ 8) × (w < 4294967296) }
-    ensures { out result heap.new notes.new ≡ move_root n w (desk heap.old notes.old) }
+// The value of the root w moved.
+#[tactic(auto, unfolding(motion::specs::Whole::move_root))]
+fn move_root(desk: &mut Desk<'_>, w: u32) -> Result<(), NoPage>
+    ensures moved { after (is_ok result) (laid desk.new) ≡ move_root desk.old.n w (laid desk.old) }
+    ensures same { Same desk.old desk.new }
 {
     if w % 4 != 0 {
-        return true;
+        return Ok(());
     }
-    move_value(heap, notes, pointer_address(w as u32), n)
+    move_value(desk, pointer_address(w))
 }
 
-// The values of the roots moved, in order. Whether there was room.
-fn move_roots(heap: &mut [u32], notes: &mut [u32], roots: &[u32], n: u32) -> bool
-    requires { (4 ≤ n) × (n ≤ 8) }
-    ensures { out result heap.new notes.new ≡ move_roots n roots.now (desk heap.old notes.old) }
+// The values of the roots moved, in order.
+#[tactic(auto, using(crate::proofs::Turns::root_more, crate::proofs::Turns::root_over, crate::proofs::Turns::root_end))]
+fn move_roots(desk: &mut Desk<'_>, roots: &[u32]) -> Result<(), NoPage>
+    ensures moved { after (is_ok result) (laid desk.new) ≡ move_roots desk.old.n roots.now (laid desk.old) }
+    ensures same { Same desk.old desk.new }
 {
-    let mut i: usize = 0;
-    while i < roots.len() {
-        let w = word(roots, i);
-        let ok = move_root(heap, notes, w, n);
-        if !ok {
-            return false;
-        }
-        i += 1;
+    for w in roots {
+        move_root(desk, *w)?;
     }
-    true
+    Ok(())
 }
 
-// The scan stack worked, by at most `fuel` steps.
-fn work_stack(heap: &mut [u32], notes: &mut [u32], fuel: usize, n: u32) -> Step
-    requires { (4 ≤ n) × (n ≤ 8) }
-    ensures { out result heap.new notes.new ≡ work_stack n fuel (desk heap.old notes.old) }
+// The scan stack worked, by at most `fuel` steps. The entry that is left, if they were not enough.
+#[tactic(auto, unfolding(motion::specs::Whole::work_from))]
+fn work_stack(desk: &mut Desk<'_>, fuel: usize) -> Result<Option<Entry>, NoPage>
+    ensures worked { after result (laid desk.new) ≡ work_stack desk.old.n fuel (laid desk.old) }
+    ensures same { Same desk.old desk.new }
 {
-    let t = pop(notes);
-    match t {
-        Step::Go(j, s) => {
-            return work(heap, notes, j, s, fuel, n);
-        }
-        Step::Finished => {
-            return Step::Finished;
-        }
-        Step::NoPage => {
-            return Step::NoPage;
-        }
+    match pop(desk.notes) {
+        Some(entry) => work(desk, entry, fuel),
+        None => Ok(None),
     }
 }
 
-// Whether all is scanned.
-fn finished(t: Step) -> bool
-    ensures { result ≡ is_finished t }
-{
-    match t {
-        Step::Go(_, _) => false,
-        Step::Finished => true,
-        Step::NoPage => false,
-    }
-}
-
-// Fresh pages, roots, scan stack. Whether there were pages enough.
+// Fresh pages, roots, scan stack. It fails where the pages are not enough.
+#[tactic(auto, unfolding(motion::specs::Whole::work_done, motion::specs::Whole::roots_done, motion::specs::Whole::fresh_done))]
 pub fn attempt(
     heap: &mut [u32],
     notes: &mut [u32],
@@ -116,15 +90,15 @@ pub fn attempt(
     regions: u32,
     fuel: usize,
     n: u32,
-) -> bool
+) -> Result<(), NoPage>
     requires { (4 ≤ n) × (n ≤ 8) }
-    ensures { out result heap.new notes.new ≡ attempt_def n regions fuel roots.now (desk heap.old notes.old) }
+    ensures { out (is_ok result) heap.new notes.new ≡ attempt_def n regions fuel roots.now (desk heap.old notes.old) }
 {
-    if !freshen(heap, notes, regions, n) {
-        return false;
+    let mut desk = Desk { heap, notes, n };
+    freshen(&mut desk, regions)?;
+    move_roots(&mut desk, roots)?;
+    match work_stack(&mut desk, fuel)? {
+        None => Ok(()),
+        Some(_) => Err(NoPage),
     }
-    if !move_roots(heap, notes, roots, n) {
-        return false;
-    }
-    finished(work_stack(heap, notes, fuel, n))
 }

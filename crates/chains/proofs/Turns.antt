@@ -7,6 +7,7 @@ use mathlib.Core.List.{List, [], ◌∷◌}
 use native.Mathlib.Omega.{arith}
 use native.Mathlib.Numerals.{sub-one, add-one}
 use borrow.Author.Tests.{eq-eqb, ne_eqb}
+use Rattle.std.specs.Prelude.{Some, None}
 use lib.Dec.{ltb, eqb}
 use lib.ListN.{length, get_or, length-append}
 use Rattle.laws.specs.Lists.{all_from, all_below, last_or}
@@ -17,8 +18,6 @@ use Rattle.rules.specs.Refusals.{Paged}
 use Rattle.rules.proofs.Limits.{pages_few}
 use Rattle.rules.proofs.Chains.{chain_by, Next, Over}
 use Rattle.rules.proofs.Nests.{pages_go, pages_over}
-use Rattle.chains.specs.declared.Chained.{Chained}
-use Rattle.chains.specs.declared.Listed.{Listed}
 use Rattle.chains.specs.Walked.{bear, region_chained, regions_chained, free_listed}
 
 -- ---- where a chain opens
@@ -107,21 +106,21 @@ length_none n h t (suc m) j b = absurd (omega arith)
 
 -- the answers
 module _ (n : ℕ) (h t : List ℕ) (R : ℕ) where
-  pub all_chained : (x : ℕ) → true ≡ all_below (region_chained n h t) R → x ≡ length (pages_from n h t R 0) → Chained.Pages x ≡ regions_chained n h t R
+  pub all_chained : (x : ℕ) → true ≡ all_below (region_chained n h t) R → x ≡ length (pages_from n h t R 0) → Some x ≡ regions_chained n h t R
   unfolding regions_chained
   all_chained x e q = rw (← e, q)
 
-  pub not_chained : false ≡ all_below (region_chained n h t) R → Chained.Broken ≡ regions_chained n h t R
+  pub not_chained : false ≡ all_below (region_chained n h t) R → None ≡ regions_chained n h t R
   unfolding regions_chained
   not_chained e = rw (← e)
 
 module _ (n : ℕ) (h : List ℕ) (first : ℕ) where
   pub all_listed : (x l : ℕ) → true ≡ (bear n h 0 (free_pages n h first) && ends_well n h first) → x ≡ length (free_pages n h first) → l ≡ last_link (free_pages n h first)
-      → Listed.Pages x l ≡ free_listed n h first
+      → Some (x, l) ≡ free_listed n h first
   unfolding free_listed
   all_listed x l e q p = rw (← e, q, p)
 
-  pub not_listed : false ≡ (bear n h 0 (free_pages n h first) && ends_well n h first) → Listed.Broken ≡ free_listed n h first
+  pub not_listed : false ≡ (bear n h 0 (free_pages n h first) && ends_well n h first) → None ≡ free_listed n h first
   unfolding free_listed
   not_listed e = rw (← e)
 

@@ -3,29 +3,16 @@
 #![tactic(auto)]
 
 ghost use Rattle.std.specs.Prelude.{◌≡◌, ◌≤◌, ◌<◌, length};
-ghost use Rattle.rules.specs.Memory.{lent};
-ghost use Rattle.rules.specs.Refusals.{Paged, Admitted};
+ghost use Rattle.rules.specs.Memory.{store};
+ghost use Rattle.rules.specs.Refusals.{Paged};
 ghost use Rattle.rules.specs.Audit.{opens as opens_of, rule3 as rule3_of};
 ghost use Rattle.chains.specs.Walked.{regions_chained, free_listed};
 
-use conversions::{address_page, next_region, region_numbered, region_origin};
+use conversions::{address_page, region_numbered, region_origin};
+use limits::Admitted;
 use pages::{page_count, page_words};
 use rows::{first_link, first_of, link_address};
-use rules::{Control, Region};
-
-// The pages of the regions' chains, or that one is broken.
-#[derive(Clone, Copy)]
-pub enum Chained {
-    Pages(usize),
-    Broken,
-}
-
-// The pages of the free list and the link to the last of them, or that it is broken.
-#[derive(Clone, Copy)]
-pub enum Listed {
-    Pages(usize, u32),
-    Broken,
-}
+use rules::{Lent, Region};
 
 // Whether a region's fp is the address of a page.
 fn opens(heap: &[u32], table: &[u32], j: Region, n: u32) -> bool
@@ -39,52 +26,46 @@ fn opens(heap: &[u32], table: &[u32], j: Region, n: u32) -> bool
     address_page(first, n).0 < page_count(heap.len(), n)
 }
 
-// The regions' chains: each opens at a page, bears its region's origin and ends with link 0.
-fn regions_chained(heap: &[u32], table: &[u32], n: u32, regions: usize) -> Chained
+// The pages of the regions' chains, where each opens at a page, bears its region's origin and ends with link 0.
+fn regions_chained(heap: &[u32], table: &[u32], n: u32, regions: usize) -> Option<usize>
     requires { Paged n (length heap.now) × (length table.now ≡ 256) × (regions ≤ 64) }
     ensures { result ≡ regions_chained n heap.now table.now regions }
 {
     let pages = page_count(heap.len(), n) as u32;
     let mut passed: usize = 0;
-    let mut j = region_numbered(0);
-    let mut regions_left = regions;
-    'regions: loop {
-        if regions_left == 0 {
-            return Chained::Pages(passed);
-        }
-        if !opens(heap, table, j, n) {
-            break 'regions;
-        }
-        let origin = region_origin(j);
-        let mut link = first_link(table, j, n);
-        let mut left = pages;
-        'pages: while 0 < left {
-            if link == 0 {
-                break 'pages;
+    'regions: {
+        for j in 0..regions {
+            let region = region_numbered(j);
+            if !opens(heap, table, region, n) {
+                break 'regions None;
             }
-            if pages < link {
-                break 'pages;
+            let origin = region_origin(region);
+            let mut link = first_link(table, region, n);
+            'pages: for _ in 0..pages {
+                if link == 0 {
+                    break 'pages;
+                }
+                if pages < link {
+                    break 'pages;
+                }
+                let base = link_address(link, n);
+                let i = base.0;
+                if heap[i + 1] != origin {
+                    break 'regions None;
+                }
+                passed += 1;
+                link = heap[i];
             }
-            let base = link_address(link, n);
-            let i = base.0;
-            if heap[i + 1] != origin {
-                break 'regions;
+            if link != 0 {
+                break 'regions None;
             }
-            passed += 1;
-            link = heap[i];
-            left -= 1;
         }
-        if link != 0 {
-            break 'regions;
-        }
-        j = next_region(j);
-        regions_left -= 1;
+        Some(passed)
     }
-    Chained::Broken
 }
 
-// The free list: its pages bear no origin, and it ends with link 0.
-fn free_listed(heap: &[u32], n: u32, first: u32) -> Listed
+// The pages of the free list and the link to the last of them, where they bear no origin and the list ends with link 0.
+fn free_listed(heap: &[u32], n: u32, first: u32) -> Option<(usize, u32)>
     requires { Paged n (length heap.now) }
     ensures { result ≡ free_listed n heap.now first }
 {
@@ -92,8 +73,7 @@ fn free_listed(heap: &[u32], n: u32, first: u32) -> Listed
     let mut passed: usize = 0;
     let mut last: u32 = 0;
     let mut link = first;
-    let mut left = pages;
-    'pages: while 0 < left {
+    'pages: for _ in 0..pages {
         if link == 0 {
             break 'pages;
         }
@@ -103,31 +83,28 @@ fn free_listed(heap: &[u32], n: u32, first: u32) -> Listed
         let base = link_address(link, n);
         let i = base.0;
         if heap[i + 1] != 0 {
-            return Listed::Broken;
+            return None;
         }
         passed += 1;
         last = link;
         link = heap[i];
-        left -= 1;
     }
     if link != 0 {
-        return Listed::Broken;
+        return None;
     }
-    Listed::Pages(passed, last)
+    Some((passed, last))
 }
 
 // Rule 3: every page is in exactly one chain, a region's or the free list's, and the record agrees. Chains that end, whose pages bear
 // their own origin, hold no page twice; so it is enough that their lengths add up to the pages that there are.
-pub fn rule3(heap: &[u32], table: &[u32], roots: &[u32], consts: &[u32], c: Control) -> bool
-    requires { Admitted (length heap.now) (length table.now) (length roots.now) (length consts.now) c }
-    ensures { result ≡ rule3_of (lent heap.now table.now roots.now consts.now c) }
+pub fn rule3(admitted: Admitted<'_>) -> bool
+    ensures { result ≡ rule3_of (store admitted.entry.lent) }
 {
-    let chained = regions_chained(heap, table, c.n, c.regions as usize);
-    let Chained::Pages(held) = chained else {
+    let Lent { heap, table, control: c, .. } = admitted.lent;
+    let Some(held) = regions_chained(heap, table, c.n, c.regions as usize) else {
         return false;
     };
-    let listed = free_listed(heap, c.n, c.first);
-    let Listed::Pages(free, last) = listed else {
+    let Some((free, last)) = free_listed(heap, c.n, c.first) else {
         return false;
     };
     if c.last != last {

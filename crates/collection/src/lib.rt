@@ -9,27 +9,27 @@ ghost use Rattle.rules.specs.Refusals.{outcome};
 
 use audit::audit;
 use collector::copy_living;
-use rules::{Control, Plain};
+use rules::{Control, Lent, Refused};
 
 // A finished collection leaves exactly the words of document 01. A refused one leaves every word and the record as they were, also where it
 // ran out of pages halfway.
+#[tactic(auto, using(crate::proofs::Judged::judged_broken, crate::proofs::Judged::judged_within, crate::proofs::Judged::judged_passing))]
 pub fn collect(
     heap: &mut [u32],
     table: &mut [u32],
     roots: &mut [u32],
     consts: &[u32],
     c: Control,
-) -> Plain
+) -> Result<Control, Refused>
     ensures { outcome result heap.new table.new roots.new consts.now
         ≡ collect_of (lent heap.old table.old roots.old consts.now c) }
 {
-    let judged = audit(heap, table, roots, consts, c);
-    match judged {
-        Plain::Refused(why, _) => {
-            return Plain::Refused(why, c);
-        }
-        Plain::Done(_) => {
-            return copy_living(heap, table, roots, c);
-        }
-    }
+    audit(Lent {
+        heap,
+        table,
+        roots,
+        consts,
+        control: c,
+    })?;
+    copy_living(heap, table, roots, c)
 }

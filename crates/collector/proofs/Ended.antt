@@ -2,7 +2,7 @@
 use Rattle.std.specs.Prelude.{Ok}
 use Rattle.rules.specs.Refusals.{outcome, refusing}
 use Prim.Native.Nat.{ℕ, ◌*◌, ◌/◌, ◌^◌}
-use mathlib.Core.Bool.{Bool, true, false}
+use mathlib.Core.Bool.{true, false}
 use mathlib.Core.Path.{◌≡◌}
 use mathlib.Core.List.{List}
 use lib.ListN.{length, set, replicate}
@@ -11,33 +11,34 @@ use Rattle.laws.specs.Lists.{at}
 use Rattle.rules.specs.declared.Control.{Control}
 use Rattle.rules.specs.declared.Refusal.{Refusal}
 use Rattle.rules.specs.Memory.{lent, page_count}
+use Rattle.leaves.specs.declared.size.Pages.{Pages}
+use Rattle.leaves.specs.Walks.{AllOf}
 use Rattle.motion.specs.Leaves.{desk, free_first, free_last, taken, begun_notes}
 use Rattle.motion.specs.Whole.{attempt, undo, own_all, give_all, written_roots, written_table, record_by, done_as, done, lacking, ended, working_collect}
 
-pub finished : (c c' : Control) (N : ℕ) (h t rs notes rs' h₁ h₂ notes₂ t' k : List ℕ) → N ≡ length h / 2 ^ c.n → rs' ≡ written_roots h rs
-    → h₁ ≡ own_all c.n N c.regions notes h → desk h₂ notes₂ ≡ give_all c.n N c.regions t (desk h₁ notes)
+pub finished : (c c' : Control) (p : Pages) (h t rs notes rs' h₁ h₂ notes₂ t' k : List ℕ) → p.n ≡ c.n → AllOf p h → rs' ≡ written_roots h rs
+    → h₁ ≡ own_all p.n p.count c.regions notes h → desk h₂ notes₂ ≡ give_all p.n p.count c.regions t (desk h₁ notes)
     → t' ≡ written_table c.regions notes₂ t → c' ≡ record_by c notes₂
     → outcome (Ok c') h₂ t' rs' k ≡ done (lent h t rs k c) (page_count c.n h) (desk h notes)
 unfolding done done_as
-finished c c' N h t rs notes rs' h₁ h₂ notes₂ t' k q a b d e f = rw (f, e, a, ← q, ← b, ← d)
-
--- the notes at the start
-pub begun_is : (first last : ℕ) (t t' : List ℕ) → t ≡ set (replicate 400 0) free_first first → t' ≡ set t free_last last → t' ≡ begun_notes first last
-unfolding begun_notes
-begun_is first last t t' e q = rw (q, e)
+finished c c' p h t rs notes rs' h₁ h₂ notes₂ t' k n g a b d e f =
+    let count : p.count ≡ length h / 2 ^ c.n = rw n at g.count in
+    let owned = rw (n, count) at b in
+    let given = rw (n, count) at d in
+    rw (f, e, a, ← owned, ← given)
 
 -- a page is lacking: h₁ and notes₂ are what the attempt left
-pub lacks : (c : Control) (h t rs notes h₁ notes₂ h₂ k : List ℕ) (m : ℕ) (ok : Bool) → notes ≡ begun_notes c.first c.last
-    → after ok (desk h₁ notes₂) ≡ attempt c.n c.regions (2 * length h) rs (desk h notes) → ok ≡ false → length h₁ ≡ length h → m ≡ at notes₂ taken
-    → h₂ ≡ undo c.n m (page_count c.n h₁) c.regions c.first t h₁
+pub lacks : (c : Control) (h t rs h₁ notes₂ h₂ k : List ℕ) (m : ℕ)
+    → after false (desk h₁ notes₂) ≡ attempt c.n c.regions (2 * length h) rs (desk h (set (set (replicate 400 0) free_first c.first) free_last c.last))
+    → length h₁ ≡ length h → m ≡ at notes₂ taken → h₂ ≡ undo c.n m (page_count c.n h₁) c.regions c.first t h₁
     → outcome (refusing Refusal.NoPage c) h₂ t rs k ≡ working_collect (lent h t rs k c)
-unfolding lacking ended working_collect
-lacks c h t rs notes h₁ notes₂ h₂ k m ok a b e l d f = rw (f, l, d, ← a, ← b, e)
+unfolding begun_notes lacking ended working_collect
+lacks c h t rs h₁ notes₂ h₂ k m b l d f = rw (f, l, d, ← b)
 
 -- the attempt has pages enough, and `finish` ends it
-pub ends : (c c' : Control) (h t rs notes h₁ notes₂ h₂ t' rs' k : List ℕ) (ok : Bool) → notes ≡ begun_notes c.first c.last
-    → after ok (desk h₁ notes₂) ≡ attempt c.n c.regions (2 * length h) rs (desk h notes) → ok ≡ true → length h₁ ≡ length h
-    → outcome (Ok c') h₂ t' rs' k ≡ done (lent h₁ t rs k c) (page_count c.n h₁) (desk h₁ notes₂)
+pub ends : (c c' : Control) (h t rs h₁ notes₂ h₂ t' rs' k : List ℕ)
+    → after true (desk h₁ notes₂) ≡ attempt c.n c.regions (2 * length h) rs (desk h (set (set (replicate 400 0) free_first c.first) free_last c.last))
+    → length h₁ ≡ length h → outcome (Ok c') h₂ t' rs' k ≡ done (lent h₁ t rs k c) (page_count c.n h₁) (desk h₁ notes₂)
     → outcome (Ok c') h₂ t' rs' k ≡ working_collect (lent h t rs k c)
-unfolding done_as done ended working_collect
-ends c c' h t rs notes h₁ notes₂ h₂ t' rs' k ok a b e l f = rw (← a, ← b, e, ← l) f
+unfolding begun_notes done_as done ended working_collect
+ends c c' h t rs h₁ notes₂ h₂ t' rs' k b l f = rw (← b, ← l) f

@@ -4,13 +4,13 @@
 
 ghost use Rattle.std.specs.Prelude.{◌≡◌, ◌≤◌, length};
 ghost use Rattle.laws.specs.Lists.{all};
-ghost use Rattle.rules.specs.Memory.{lent};
+ghost use Rattle.rules.specs.Memory.{store};
 ghost use Rattle.rules.specs.Words.{const_vals, fields_pass};
-ghost use Rattle.rules.specs.Refusals.{Admitted};
 ghost use Rattle.rules.specs.Audit.{filled, const_field, rule8 as rule8_of};
 
 use conversions::{address_behind, address_numbered, pointer_address};
-use rules::Control;
+use limits::Admitted;
+use rules::Lent;
 use table_words::zero_between;
 use values::{fits, good_const, is_record};
 
@@ -65,14 +65,12 @@ fn const_fields(consts: &[u32]) -> bool
             at = next;
             continue 'values;
         }
-        let mut field = address_behind(at, 1);
-        while field.0 < next.0 {
-            let i = field.0;
-            if !const_field(consts, consts[i]) {
+        let first = address_behind(at, 1);
+        for w in &consts[first.0..next.0] {
+            if !const_field(consts, *w) {
                 fine = false;
                 break 'values;
             }
-            field = address_behind(field, 1);
         }
         at = next;
     }
@@ -80,10 +78,10 @@ fn const_fields(consts: &[u32]) -> bool
 }
 
 // Rule 8: constants are values back to back, then zeros, and their fields are numbers or good constant pointers.
-pub fn rule8(heap: &[u32], table: &[u32], roots: &[u32], consts: &[u32], c: Control) -> bool
-    requires { Admitted (length heap.now) (length table.now) (length roots.now) (length consts.now) c }
-    ensures { result ≡ rule8_of (lent heap.now table.now roots.now consts.now c) }
+pub fn rule8(admitted: Admitted<'_>) -> bool
+    ensures { result ≡ rule8_of (store admitted.entry.lent) }
 {
+    let Lent { consts, .. } = admitted.lent;
     if !consts_filled(consts) {
         return false;
     }

@@ -3,34 +3,32 @@
 #![tactic(auto)]
 
 ghost use Rattle.std.specs.Prelude.{◌≡◌, length};
-ghost use Rattle.rules.specs.Memory.{lent};
-ghost use Rattle.rules.specs.Refusals.{Admitted};
+ghost use Rattle.rules.specs.Memory.{store};
 ghost use Rattle.rules.specs.Audit.{rule5 as rule5_of};
 
-use conversions::{address_behind, next_region, region_numbered};
+use conversions::{address_behind, region_numbered};
+use limits::Admitted;
 use pages::{page_count, page_words};
 use rows::{first_link, link_address, top_of};
-use rules::Control;
+use rules::Lent;
 use table_words::zero_between;
 use values::fits;
 
 // Rule 5: in each page of a region values stand back to back from the third word, then zeros; in the last page they end at a.
-pub fn rule5(heap: &[u32], table: &[u32], roots: &[u32], consts: &[u32], c: Control) -> bool
-    requires { Admitted (length heap.now) (length table.now) (length roots.now) (length consts.now) c }
-    ensures { result ≡ rule5_of (lent heap.now table.now roots.now consts.now c) }
+pub fn rule5(admitted: Admitted<'_>) -> bool
+    ensures { result ≡ rule5_of (store admitted.entry.lent) }
 {
+    let Lent { heap, table, control: c, .. } = admitted.lent;
     let n = c.n;
     let regions = c.regions as usize;
     let size = page_words(n);
     let pages = page_count(heap.len(), n) as u32;
     let mut fine = true;
-    let mut j = region_numbered(0);
-    let mut regions_left = regions;
-    'regions: while 0 < regions_left {
-        let top = top_of(table, j);
-        let mut link = first_link(table, j, n);
-        let mut left = pages;
-        'pages: while 0 < left {
+    'regions: for j in 0..regions {
+        let region = region_numbered(j);
+        let top = top_of(table, region);
+        let mut link = first_link(table, region, n);
+        'pages: for _ in 0..pages {
             if link == 0 {
                 break 'pages;
             }
@@ -54,7 +52,6 @@ pub fn rule5(heap: &[u32], table: &[u32], roots: &[u32], consts: &[u32], c: Cont
             }
             let i = base.0;
             link = heap[i];
-            left -= 1;
             if 0 < link {
                 continue 'pages;
             }
@@ -63,8 +60,6 @@ pub fn rule5(heap: &[u32], table: &[u32], roots: &[u32], consts: &[u32], c: Cont
                 break 'regions;
             }
         }
-        j = next_region(j);
-        regions_left -= 1;
     }
     fine
 }

@@ -3,14 +3,14 @@
 #![tactic(auto)]
 
 ghost use Rattle.std.specs.Prelude.{◌≡◌, ◌≤◌, ◌<◌, length};
-ghost use Rattle.rules.specs.Memory.{lent};
-ghost use Rattle.rules.specs.Refusals.{Admitted};
+ghost use Rattle.rules.specs.Memory.{store};
 ghost use Rattle.rules.specs.Audit.{top_fits, rule4 as rule4_of, rule9 as rule9_of};
 
-use conversions::{address_behind, next_region, region_numbered};
+use conversions::{address_behind, region_numbered};
+use limits::Admitted;
 use pages::{page_count, page_words};
 use rows::{end_of, first_link, link_address, top_of};
-use rules::{Control, Region};
+use rules::{Lent, Region};
 use table_words::zero_between;
 
 // Whether a region's a lies from e-P+2 to e.
@@ -27,26 +27,24 @@ fn top_fits(table: &[u32], j: Region, n: u32) -> bool
 }
 
 // Rule 4: the chain's last page starts at e-P, a lies from e-P+2 to e.
-pub fn rule4(heap: &[u32], table: &[u32], roots: &[u32], consts: &[u32], c: Control) -> bool
-    requires { Admitted (length heap.now) (length table.now) (length roots.now) (length consts.now) c }
-    ensures { result ≡ rule4_of (lent heap.now table.now roots.now consts.now c) }
+pub fn rule4(admitted: Admitted<'_>) -> bool
+    ensures { result ≡ rule4_of (store admitted.entry.lent) }
 {
+    let Lent { heap, table, control: c, .. } = admitted.lent;
     let n = c.n;
     let regions = c.regions as usize;
     let size = page_words(n);
     let pages = page_count(heap.len(), n) as u32;
     let mut fine = true;
-    let mut j = region_numbered(0);
-    let mut regions_left = regions;
-    'regions: while 0 < regions_left {
-        if !top_fits(table, j, n) {
+    'regions: for j in 0..regions {
+        let region = region_numbered(j);
+        if !top_fits(table, region, n) {
             fine = false;
             break 'regions;
         }
-        let end = end_of(table, j);
-        let mut link = first_link(table, j, n);
-        let mut left = pages;
-        'pages: while 0 < left {
+        let end = end_of(table, region);
+        let mut link = first_link(table, region, n);
+        'pages: for _ in 0..pages {
             if link == 0 {
                 break 'pages;
             }
@@ -56,7 +54,6 @@ pub fn rule4(heap: &[u32], table: &[u32], roots: &[u32], consts: &[u32], c: Cont
             let base = link_address(link, n);
             let i = base.0;
             link = heap[i];
-            left -= 1;
             if 0 < link {
                 continue 'pages;
             }
@@ -65,25 +62,22 @@ pub fn rule4(heap: &[u32], table: &[u32], roots: &[u32], consts: &[u32], c: Cont
                 break 'regions;
             }
         }
-        j = next_region(j);
-        regions_left -= 1;
     }
     fine
 }
 
 // Rule 9: a free page is all zero but its link.
-pub fn rule9(heap: &[u32], table: &[u32], roots: &[u32], consts: &[u32], c: Control) -> bool
-    requires { Admitted (length heap.now) (length table.now) (length roots.now) (length consts.now) c }
-    ensures { result ≡ rule9_of (lent heap.now table.now roots.now consts.now c) }
+pub fn rule9(admitted: Admitted<'_>) -> bool
+    ensures { result ≡ rule9_of (store admitted.entry.lent) }
 {
+    let Lent { heap, control: c, .. } = admitted.lent;
     let n = c.n;
     let first = c.first;
     let size = page_words(n);
     let pages = page_count(heap.len(), n) as u32;
     let mut fine = true;
     let mut link = first;
-    let mut left = pages;
-    'pages: while 0 < left {
+    'pages: for _ in 0..pages {
         if link == 0 {
             break 'pages;
         }
@@ -97,7 +91,6 @@ pub fn rule9(heap: &[u32], table: &[u32], roots: &[u32], consts: &[u32], c: Cont
         }
         let i = base.0;
         link = heap[i];
-        left -= 1;
     }
     fine
 }

@@ -1,16 +1,20 @@
 -- The turn laws of the tests of roots and fields: at each page and value what is left to test is what was left before; and how the code decides
 -- whether a word points into a region.
 use Prim.Native.Nat.{ℕ, zero, suc, ◌+◌, ◌-◌, ◌*◌, ◌%◌, ◌^◌, ◌≤◌}
-use mathlib.Core.Path.{◌≡◌, refl, ◌∙◌}
+use mathlib.Core.Path.{◌≡◌, refl, sym, ap, ◌∙◌}
 use mathlib.Core.Bool.{Bool, true, false, ◌&&◌, not}
-use mathlib.Core.List.{List}
+use mathlib.Core.List.{List, [], ◌∷◌}
 use native.Mathlib.Numerals.{sub-one}
 use lib.Dec.{eqb, eqb-zero-suc, eqb-suc-suc}
-use lib.ListN.{length, get_or}
+use native.Mathlib.Omega.{arith}
+use lib.ListN.{length, get_or, take, drop}
+use lib.Seq.{slice, take-length}
+use Rattle.laws.proofs.Lists.{drop_take}
+use Rattle.std.specs.List.{list_all}
 use Rattle.laws.specs.Lists.{all, all_from}
-use Rattle.rules.specs.declared.Region.{Region}
+use Rattle.laws.proofs.Tests.{then_and}
 use Rattle.rules.specs.Memory.{origin, origin_region, address_page, chain, region_pages}
-use Rattle.rules.specs.Words.{pointer_address, vals_in, fields_pass, good_in}
+use Rattle.rules.specs.Words.{pointer_address, vals_in, fields_pass}
 use Rattle.rules.specs.Refusals.{Paged}
 use Rattle.rules.specs.Audit.{page_pass, records_pass}
 use Rattle.rules.specs.Calls.{points_into, let_go}
@@ -18,13 +22,23 @@ use Rattle.rules.proofs.Chains.{page_vals_lem, Next}
 use Rattle.rules.proofs.Good.{origin_out}
 use Rattle.rules.proofs.Nests.{pages_go}
 use Rattle.rules.proofs.Pointers.{Is, heap_pointer, const_pointer, whole_number, word_is, heap_word}
-use Rattle.fields.specs.declared.Wanted.{Wanted}
-use Rattle.fields.specs.Passing.{passes}
+
+-- ---- a test of each word of a part, as an iterator makes it
+
+pub list_all_lem : (p : ℕ → Bool) (ws : List ℕ) → list_all p ws ≡ all p ws
+unfolding all
+list_all_lem p [] = refl
+list_all_lem p (w ∷ ws) = ap (λ b. p w && b) (list_all_lem p ws) ∙ sym (then_and (p w) (all p ws))
 
 -- ---- the fields of the records of the m regions from j on
 
 abbrev pub Records : (ℕ → Bool) → ℕ → List ℕ → List ℕ → ℕ → ℕ → Bool
 Records g n h t m j = all_from (λ i. all (page_pass g n h) (region_pages n h t i)) m j
+
+-- the fields from address f up to address e, lent as a part
+pub part_all : (p : ℕ → Bool) (h : List ℕ) (f e : ℕ) (r : Bool) → f ≤ e
+    → (all p (slice f e h) && r) ≡ (all p (slice 0 (length (take (e - f) (drop f h))) (take (e - f) (drop f h))) && r)
+part_all p h f e r b = let q : f + (e - f) ≡ e = omega arith in rw (take-length (take (e - f) (drop f h)), ← drop_take f (e - f) h, q)
 
 -- at a page; p is its size, its values begin at s, and it ends at d
 pub page_records : {n : ℕ} {h : List ℕ} {f k b : ℕ} → Next n h f k b → (g : ℕ → Bool) (p : ℕ) → p ≡ 2 ^ n → (r : Bool) (s d : ℕ) → s ≡ b + 2 → d ≡ b + p
@@ -66,24 +80,13 @@ module _ (n : ℕ) (h : List ℕ) (j w a : ℕ) (m : w % 4 ≡ 0) (qa : a ≡ po
         go zero ne q = absurd (ne refl)
         go (suc x) ne q = rw (q, sub-one (suc x)) (eqb-suc-suc x j)
 
--- ---- what is wanted
-
-module _ (n R : ℕ) (h k : List ℕ) (v : Wanted) (w : ℕ) where
-  pub pass_good : v ≡ Wanted.Good → passes n R h k v w ≡ good_in n R h k w
-  unfolding passes
-  pass_good e = rw e
-
-  pub pass_apart : {j : Region} → v ≡ Wanted.Apart j → passes n R h k v w ≡ not (points_into n h j.0 w)
-  unfolding passes
-  pass_apart e = rw e
-
 -- ---- held, or let go
 
-module _ (n R : ℕ) (h t r k : List ℕ) (j : Region) where
-  pub go_off : all (passes n R h k (Wanted.Apart j)) r ≡ false → let_go n h t r j.0 ≡ false
-  unfolding let_go passes
+module _ (n : ℕ) (h t r : List ℕ) (j : ℕ) where
+  pub go_off : all (λ w. not (points_into n h j w)) r ≡ false → let_go n h t r j ≡ false
+  unfolding let_go
   go_off e = rw e
 
-  pub go_at : all (passes n R h k (Wanted.Apart j)) r ≡ true → let_go n h t r j.0 ≡ records_pass (passes n R h k (Wanted.Apart j)) n h t j.0
-  unfolding let_go passes
+  pub go_at : all (λ w. not (points_into n h j w)) r ≡ true → let_go n h t r j ≡ records_pass (λ w. not (points_into n h j w)) n h t j
+  unfolding let_go
   go_at e = rw e

@@ -2,29 +2,21 @@
 
 #![tactic(auto)]
 
-ghost use Rattle.std.specs.Prelude.{◌≡◌, ◌≤◌, ◌<◌, length};
+ghost use Rattle.std.specs.Prelude.{◌≡◌, ◌≤◌, ◌<◌, length, ℕ, Bool};
 ghost use Rattle.laws.specs.Lists.{all};
-ghost use Rattle.rules.specs.Memory.{lent};
-ghost use Rattle.rules.specs.Refusals.{Paged, Admitted};
+ghost use Rattle.rules.specs.Memory.{store};
+ghost use Rattle.rules.specs.Refusals.{Paged};
 ghost use Rattle.rules.specs.Audit.{records_pass, rule6 as rule6_of, rule7 as rule7_of};
 ghost use Rattle.rules.specs.Calls.{points_into, let_go};
-ghost use Rattle.fields.specs.Passing.{passes};
 
 use conversions::{
-    address_behind, address_page, next_region, origin_region, page_address, pointer_address,
-    region_numbered,
+    address_behind, address_page, origin_region, page_address, pointer_address, region_numbered,
 };
+use limits::Admitted;
 use pages::{page_count, page_words};
 use rows::{first_link, link_address};
-use rules::{Control, Region};
-use values::{fits, good_word, is_record};
-
-// What a word is tested for: that it is a number or a good pointer, or that it does not point into a region.
-#[derive(Clone, Copy)]
-pub enum Wanted {
-    Good,
-    Apart(Region),
-}
+use rules::{Lent, Region};
+use values::{Memory, fits, good_word, is_record};
 
 // Whether a word points into a page of region j.
 fn points_into(heap: &[u32], n: u32, j: Region, w: u32) -> bool
@@ -46,62 +38,32 @@ fn points_into(heap: &[u32], n: u32, j: Region, w: u32) -> bool
     origin_region(origin).0 == j.0
 }
 
-// Whether a word passes the test.
-fn word_passes(heap: &[u32], consts: &[u32], n: u32, regions: u32, wanted: Wanted, w: u32) -> bool
-    requires { Paged n (length heap.now) × (length consts.now ≤ 65535) }
-    ensures { result ≡ passes n regions heap.now consts.now wanted w }
-{
-    match wanted {
-        Wanted::Good => good_word(heap, consts, n, regions, w),
-        Wanted::Apart(j) => !points_into(heap, n, j, w),
-    }
-}
-
 // Whether each of the words passes the test.
-fn words_pass(
-    heap: &[u32],
-    consts: &[u32],
-    n: u32,
-    regions: u32,
-    wanted: Wanted,
-    words: &[u32],
-) -> bool
-    requires { Paged n (length heap.now) × (length consts.now ≤ 65535) }
-    ensures { result ≡ all (passes n regions heap.now consts.now wanted) words.now }
+fn words_pass<F: Fn(u32) -> bool>(words: &[u32], test: &F) -> bool
+    ghost p: { ℕ → Bool }
+    requires asked { F.IsAlwaysCallable test.now }
+    requires told { (w : ℕ) (b : Bool) → F.post test.now w b → b ≡ p w }
+    ensures { result ≡ all p words.now }
 {
-    let end = words.len();
-    let mut i = 0;
-    while i < end {
-        if !word_passes(heap, consts, n, regions, wanted, words[i]) {
-            return false;
-        }
-        i += 1;
-    }
-    true
+    words.iter().all(|w| test(*w))
 }
 
 // Whether each field of each record of the regions below a bound passes the test.
-fn records_pass(
-    heap: &[u32],
-    table: &[u32],
-    consts: &[u32],
-    n: u32,
-    regions: u32,
-    wanted: Wanted,
-    below: usize,
-) -> bool
-    requires { Paged n (length heap.now) × (length table.now ≡ 256) × (length consts.now ≤ 65535) × (below ≤ 64) }
-    ensures { result ≡ records_pass (passes n regions heap.now consts.now wanted) n heap.now table.now below }
+fn records_pass<F: Fn(u32) -> bool>(admitted: Admitted<'_>, below: usize, test: &F) -> bool
+    ghost p: { ℕ → Bool }
+    requires below { below ≤ 64 }
+    requires asked { F.IsAlwaysCallable test.now }
+    requires told { (w : ℕ) (b : Bool) → F.post test.now w b → b ≡ p w }
+    ensures { let s = store admitted.entry.lent in result ≡ records_pass p s.ctl.n s.heap s.table below }
 {
+    let Lent { heap, table, control, .. } = admitted.lent;
+    let n = control.n;
     let size = page_words(n);
     let pages = page_count(heap.len(), n) as u32;
     let mut fine = true;
-    let mut j = region_numbered(0);
-    let mut regions_left = below;
-    'regions: while 0 < regions_left {
-        let mut link = first_link(table, j, n);
-        let mut left = pages;
-        'pages: while 0 < left {
+    'regions: for j in 0..below {
+        let mut link = first_link(table, region_numbered(j), n);
+        'pages: for _ in 0..pages {
             if link == 0 {
                 break 'pages;
             }
@@ -122,67 +84,49 @@ fn records_pass(
                     at = next;
                     continue 'values;
                 }
-                let mut field = address_behind(at, 1);
-                while field.0 < next.0 {
-                    let i = field.0;
-                    if !word_passes(heap, consts, n, regions, wanted, heap[i]) {
+                let first = address_behind(at, 1);
+                for w in &heap[first.0..next.0] {
+                    if !test(*w) {
                         fine = false;
                         break 'regions;
                     }
-                    field = address_behind(field, 1);
                 }
                 at = next;
             }
             let i = base.0;
             link = heap[i];
-            left -= 1;
         }
-        j = next_region(j);
-        regions_left -= 1;
     }
     fine
 }
 
 // Rule 6: each field of each record in the heap is a number or a good pointer.
-pub fn rule6(heap: &[u32], table: &[u32], roots: &[u32], consts: &[u32], c: Control) -> bool
-    requires { Admitted (length heap.now) (length table.now) (length roots.now) (length consts.now) c }
-    ensures { result ≡ rule6_of (lent heap.now table.now roots.now consts.now c) }
+pub fn rule6(admitted: Admitted<'_>) -> bool
+    ensures { result ≡ rule6_of (store admitted.entry.lent) }
 {
-    records_pass(
-        heap,
-        table,
-        consts,
-        c.n,
-        c.regions,
-        Wanted::Good,
-        c.regions as usize,
-    )
+    let Lent { heap, consts, control, .. } = admitted.lent;
+    let memory = Memory { heap, consts, c: control };
+    let good = move |w| good_word(memory, w);
+    records_pass(admitted, control.regions as usize, &good)
 }
 
 // Rule 7: each root is a number or a good pointer.
-pub fn rule7(heap: &[u32], table: &[u32], roots: &[u32], consts: &[u32], c: Control) -> bool
-    requires { Admitted (length heap.now) (length table.now) (length roots.now) (length consts.now) c }
-    ensures { result ≡ rule7_of (lent heap.now table.now roots.now consts.now c) }
+pub fn rule7(admitted: Admitted<'_>) -> bool
+    ensures { result ≡ rule7_of (store admitted.entry.lent) }
 {
-    words_pass(heap, consts, c.n, c.regions, Wanted::Good, roots)
+    let Lent { heap, roots, consts, control, .. } = admitted.lent;
+    let memory = Memory { heap, consts, c: control };
+    let good = move |w| good_word(memory, w);
+    words_pass(roots, &good)
 }
 
 // Whether no root, and no field of a record in a region below j, points into region j.
-pub fn let_go(
-    heap: &[u32],
-    table: &[u32],
-    roots: &[u32],
-    consts: &[u32],
-    c: Control,
-    j: Region,
-) -> bool
-    requires { Admitted (length heap.now) (length table.now) (length roots.now) (length consts.now) c × (j.0 ≤ 64) }
-    ensures { result ≡ let_go c.n heap.now table.now roots.now j.0 }
+pub fn let_go(admitted: Admitted<'_>, j: Region) -> bool
+    requires { j.0 ≤ 64 }
+    ensures { let s = store admitted.entry.lent in result ≡ let_go s.ctl.n s.heap s.table s.roots j.0 }
 {
-    if !words_pass(heap, consts, c.n, c.regions, Wanted::Apart(j), roots) {
-        return false;
-    }
+    let Lent { heap, roots, control, .. } = admitted.lent;
+    let apart = move |w| !points_into(heap, control.n, j, w);
     // as many regions lie below region j as its number says
-    let below = j.0;
-    records_pass(heap, table, consts, c.n, c.regions, Wanted::Apart(j), below)
+    words_pass(roots, &apart) && records_pass(admitted, j.0, &apart)
 }

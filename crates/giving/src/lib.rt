@@ -49,20 +49,18 @@ pub fn give_chain(heap: &mut [u32], first: u32, c: Control) -> Control
     let pages = page_count(heap.len(), c.n) as u32;
     let mut free = c;
     let mut link = first;
-    let mut left = pages;
-    while 0 < left {
+    'pages: for _ in 0..pages {
         if link == 0 {
-            return free;
+            break 'pages;
         }
         if pages < link {
-            return free;
+            break 'pages;
         }
         let k = link_page(link);
         let start = link_address(link, c.n);
         let i = start.0;
         link = heap[i];
         free = give_back(heap, k, free);
-        left -= 1;
     }
     free
 }

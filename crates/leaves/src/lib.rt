@@ -3,27 +3,27 @@
 
 #![tactic(auto)]
 
-ghost use Rattle.std.specs.Prelude.{◌≡◌, ◌-◌, ◌≤◌, ◌<◌, set};
+ghost use Rattle.std.specs.Prelude.{◌≡◌, ◌-◌, ◌≤◌, ◌<◌, set, IfSome};
 ghost use Rattle.laws.specs.Lists.{at};
 ghost use Rattle.laws.specs.Each.{after};
 ghost use Rattle.rules.specs.Memory.{address_page, link_page, end_of, first_of, top_of, status_of, set_end, set_first, set_top, set_status};
-ghost use Rattle.motion.specs.Leaves.{low as low_def, page_start, region_on, apart as apart_def, copied, forwarded, wake as wake_def, pop as pop_def, Narrow};
+ghost use Rattle.motion.specs.Leaves.{low as low_def, page_start, region_on, apart as apart_def, copied, forwarded, wake as wake_def, pop as pop_def, Fitting};
 
 use conversions::{
     address_numbered, address_page, address_pointer, link_page, origin_region, page_address,
     page_numbered, region_numbered,
 };
-use motion::{DEPTH, STACK, Step};
+use motion::{DEPTH, Desk, Entry, STACK};
 use rules::{Address, Page, Region};
+
+pub mod chain;
+pub mod size;
 
 // The word at i, 0 outside.
 pub fn word(s: &[u32], i: usize) -> usize
     ensures { (result ≡ at s.now i) × (result < 4294967296) }
 {
-    if s.len() <= i {
-        return 0;
-    }
-    s[i] as usize
+    s.get(i).map_or(0, |w| *w as usize)
 }
 
 // The word at i set, nothing outside.
@@ -31,20 +31,16 @@ pub fn write(s: &mut [u32], i: usize, v: usize)
     requires { v < 4294967296 }
     ensures { s.new ≡ set s.old i v }
 {
-    if s.len() <= i {
-        return;
+    if i < s.len() {
+        s[i] = v as u32;
     }
-    s[i] = v as u32;
 }
 
 // The difference, 0 where there is none.
 pub fn less(a: usize, b: usize) -> usize
     ensures { result ≡ a - b }
 {
-    if a < b {
-        return 0;
-    }
-    a - b
+    a.saturating_sub(b)
 }
 
 // A word's 32 bits.
@@ -85,12 +81,11 @@ pub fn start_at(a: Address, n: u32) -> Address
 }
 
 // The region of the page that an address lies in.
-pub fn region_at(heap: &[u32], a: Address, n: u32) -> Region
-    requires { n ≤ 8 }
-    ensures { (result.0 ≡ region_on n a.0 heap.now) × (result.0 < 4294967296) }
+pub fn region_at(desk: &Desk<'_>, a: Address) -> Region
+    ensures { (result.0 ≡ region_on desk.now.n a.0 desk.now.heap.now) × (result.0 < 4294967296) }
 {
-    let start = start_at(a, n);
-    let origin = word(heap, start.0 + 1);
+    let start = start_at(a, desk.n);
+    let origin = word(desk.heap, start.0 + 1);
     if origin == 0 {
         return region_numbered(0);
     }
@@ -166,18 +161,7 @@ fn apart(m: usize, a: Address, b: Address, size: usize) -> bool
     requires { (m ≤ 4294967296) × (a.0 < 4294967296) × (b.0 < 4294967296) }
     ensures { result ≡ apart_def m a.0 b.0 size }
 {
-    let from = a.0;
-    let to = b.0;
-    if size < from + m {
-        return false;
-    }
-    if size < to + m {
-        return false;
-    }
-    if from + m <= to {
-        return true;
-    }
-    to + m <= from
+    a.0 + m <= size && b.0 + m <= size && (a.0 + m <= b.0 || b.0 + m <= a.0)
 }
 
 // The m words at a, at b as well, where both lie in the heap and apart.
@@ -185,40 +169,34 @@ pub fn copy(heap: &mut [u32], a: Address, b: Address, m: usize)
     requires { (a.0 < 4294967296) × (b.0 < 4294967296) × (m ≤ 4294967296) }
     ensures { heap.new ≡ copied m a.0 b.0 heap.old }
 {
-    if !apart(m, a, b, heap.len()) {
-        return;
-    }
-    let from = a.0;
-    let to = b.0;
-    let mut i: usize = 0;
-    while i < m {
-        heap[to + i] = heap[from + i];
-        i += 1;
+    if apart(m, a, b, heap.len()) {
+        heap.copy_within(a.0..a.0 + m, b.0);
     }
 }
 
 // The pointer to b at a.
+#[tactic(auto, unfolding(motion::specs::Leaves::forwarded))]
 pub fn forward(heap: &mut [u32], a: Address, b: Address)
     ensures { heap.new ≡ forwarded a.0 b.0 heap.old }
 {
-    if 65536 < b.0 {
-        return;
+    if b.0 <= 65536 {
+        write(heap, a.0, address_pointer(b) as usize);
     }
-    write(heap, a.0, address_pointer(b) as usize);
 }
 
 // ---- The scan stack.
 
 // The copy at b is region j's first unscanned one, if the region has none yet.
+#[tactic(auto, unfolding(motion::specs::Leaves::wake_on))]
 pub fn wake(notes: &mut [u32], j: Region, b: Address)
     requires { (j.0 < 4294967296) × (b.0 < 4294967296) }
     ensures { notes.new ≡ wake_def j.0 b.0 notes.old }
 {
-    let d = word(notes, DEPTH);
     let status = status_of(notes, j);
     if status != 0 {
         return;
     }
+    let d = word(notes, DEPTH);
     set_status(notes, j, 1);
     write(notes, STACK + 2 * d, b.0);
     write(notes, STACK + 2 * d + 1, j.0);
@@ -226,16 +204,13 @@ pub fn wake(notes: &mut [u32], j: Region, b: Address)
 }
 
 // The entry that was pushed last.
-pub fn pop(notes: &mut [u32]) -> Step
-    ensures { (after result notes.new ≡ pop_def notes.old) × Narrow result }
+#[tactic(auto, unfolding(motion::specs::Leaves::pop_on))]
+pub fn pop(notes: &mut [u32]) -> Option<Entry>
+    ensures { (after (Ok result) notes.new ≡ pop_def notes.old) × (IfSome result Fitting) }
 {
-    let d = word(notes, DEPTH);
-    if d == 0 {
-        return Step::Finished;
-    }
-    let i = d - 1;
-    let s = address_numbered(word(notes, STACK + 2 * i));
-    let j = region_numbered(word(notes, STACK + 2 * i + 1));
+    let i = word(notes, DEPTH).checked_sub(1)?;
+    let address = address_numbered(word(notes, STACK + 2 * i));
+    let region = region_numbered(word(notes, STACK + 2 * i + 1));
     write(notes, DEPTH, i);
-    Step::Go(j, s)
+    Some(Entry { region, address })
 }

@@ -1,12 +1,13 @@
 -- The collection at work, its leaves: the heap and the notes, and what it reads and writes in them. Each is total by one test: what would leave
 -- the heap does nothing. So the work is defined for every heap, sound or not.
-use Rattle.std.specs.Prelude.{ℕ, ◌+◌, ◌-◌, ◌*◌, ◌%◌, ◌<◌, Bool, ◌&&◌, ◌||◌, List, length, take, drop, set, replicate, leb, eqb}
+use Rattle.std.specs.Prelude.{ℕ, ◌+◌, ◌-◌, ◌*◌, ◌%◌, ◌<◌, Bool, ◌&&◌, ◌||◌, List, length, take, drop, set, replicate, leb, eqb, Option, None, Some, Result, Ok, Err}
 use Rattle.rules.specs.Memory.{page_address, address_page, origin_region, status_of, set_status}
 use Rattle.rules.specs.Words.{address_pointer}
 use Rattle.laws.specs.Choice.{◌⇒◌∣◌}
 use Rattle.laws.specs.Lists.{at, put}
 use Rattle.laws.specs.Each.{After, after}
-use Rattle.motion.specs.declared.Step.{Step}
+use Rattle.motion.specs.declared.Entry.{Entry}
+use Rattle.motion.specs.declared.NoPage.{NoPage}
 
 -- ---- The notes: 400 words that hold all that a collection has to know besides the heap, so that table and roots stay as they are until it is done.
 --
@@ -96,24 +97,38 @@ wake_on j b i t =
 abbrev pub wake : ℕ → ℕ → List ℕ → List ℕ
 wake j b t = wake_on j b (at t depth) t
 
+-- what a step says: the entry that it goes on with, none where all is scanned; or that a page is wanted and none is free
+abbrev pub Step : Type 0
+Step = Result (Option Entry) NoPage
+
 abbrev pub go_on : ℕ → ℕ → Step
-go_on j s = Step.Go record { 0 = j } record { 0 = s }
+go_on j s = Ok (Some record { region = record { 0 = j }; address = record { 0 = s } })
+
+abbrev pub all_scanned : Step
+all_scanned = Ok None
+
+abbrev pub page_lacks : Step
+page_lacks = Err record {}
 
 abbrev pub on_step : {A : Type 0} → Step → (ℕ → ℕ → A) → A → A → A
-on_step (Step.Go j s) f a b = f j.0 s.0
-on_step Step.Finished f a b = a
-on_step Step.NoPage f a b = b
+on_step (Ok (Some e)) f a b = f e.region.0 e.address.0
+on_step (Ok None) f a b = a
+on_step (Err e) f a b = b
+
+-- an entry's numbers fit into words
+abbrev pub Fitting : Entry → Type 0
+Fitting e = (e.region.0 < 4294967296) × (e.address.0 < 4294967296)
 
 -- what a step goes on with fits into words
 abbrev pub Narrow : Step → Type 0
-Narrow (Step.Go j s) = (j.0 < 4294967296) × (s.0 < 4294967296)
-Narrow Step.Finished = Unit {0}
-Narrow Step.NoPage = Unit {0}
+Narrow (Ok (Some e)) = Fitting e
+Narrow (Ok None) = Unit {0}
+Narrow (Err e) = Unit {0}
 
 -- i is the depth
 unfoldable pub pop_on : ℕ → List ℕ → After Step (List ℕ)
 pop_on i t =
-    eqb i 0 ⇒ after Step.Finished t ∣
+    eqb i 0 ⇒ after all_scanned t ∣
     after (go_on (at t (entry (i - 1) + 1)) (at t (entry (i - 1)))) (set t depth (i - 1))
 
 -- "the last pushed is scanned first"

@@ -1,3 +1,4 @@
 pub mod Leaves
 pub mod Run
 pub mod Whole
+pub mod Desks

@@ -7,8 +7,7 @@ use Rattle.laws.specs.Choice.{◌⇒◌∣◌}
 use Rattle.laws.specs.Lists.{at}
 use Rattle.laws.specs.Loop.{Turn, more, over, loop}
 use Rattle.laws.specs.Each.{After, after, each}
-use Rattle.motion.specs.declared.Step.{Step}
-use Rattle.motion.specs.Leaves.{Desk, out, low, free_first, taken, page_start, region_on, copied, forwarded, wake, go_on, on_step, pop}
+use Rattle.motion.specs.Leaves.{Desk, out, low, free_first, taken, page_start, region_on, copied, forwarded, wake, Step, go_on, all_scanned, page_lacks, on_step, pop}
 
 -- ---- What knows nothing of the page size. An answer `false` is that a page is wanted and none is free.
 
@@ -44,7 +43,7 @@ scanning j s d = record { region = j; address = s; desk = d }
 
 unfoldable pub work_on : After Step Desk → Turn Scanning (After Step Desk)
 work_on o =
-    on_step o.answer (λ j s. more (scanning j s o.state)) (over (after Step.Finished o.state)) (over (after Step.NoPage o.state))
+    on_step o.answer (λ j s. more (scanning j s o.state)) (over (after all_scanned o.state)) (over (after page_lacks o.state))
 
 -- Below, n is the page exponent.
 module _ (n : ℕ) where
@@ -119,7 +118,7 @@ module _ (n : ℕ) where
   next_scan j s d = next_of s (s + (at d.heap s / 8 + 1)) (top_of d.notes j) d.heap
 
   unfoldable pub step_on : ℕ → ℕ → After Bool Desk → After Step Desk
-  step_on j s o = o.answer ⇒ after (go_on j (low (next_scan j s o.state))) o.state ∣ after Step.NoPage o.state
+  step_on j s o = o.answer ⇒ after (go_on j (low (next_scan j s o.state))) o.state ∣ after page_lacks o.state
 
   -- one step, region j being scanned at s: a value scanned, or the region left
   unfoldable pub step : ℕ → ℕ → Desk → After Step Desk
@@ -131,6 +130,6 @@ module _ (n : ℕ) where
   unfoldable pub work_turn : Scanning → Turn Scanning (After Step Desk)
   work_turn c = work_on (step c.region c.address c.desk)
 
-  -- at most f steps; `Go` is that they were not enough
+  -- at most f steps; an entry is left where they were not enough
   abbrev pub work : ℕ → Scanning → After Step Desk
   work f c = loop f work_turn (λ c'. after (go_on c'.region c'.address) c'.desk) c

@@ -1,5 +1,5 @@
 -- The collection at work, whole: fresh pages, roots, the scan stack; the end of a collection that is done; and the undoing of one that lacks a page.
-use Rattle.std.specs.Prelude.{ℕ, ◌+◌, ◌-◌, ◌*◌, ◌/◌, ◌%◌, ◌^◌, Bool, true, false, List, map, length, take, set, leb, eqb, Result, Ok}
+use Rattle.std.specs.Prelude.{ℕ, ◌+◌, ◌-◌, ◌*◌, ◌/◌, ◌%◌, ◌^◌, Bool, true, false, List, map, length, take, set, leb, eqb, None, Some, Result, Ok, Err}
 use Rattle.rules.specs.declared.Refused.{Refused}
 use Rattle.rules.specs.Refusals.{Outcome, outcome, refusing}
 use Rattle.rules.specs.declared.Control.{Control}
@@ -11,17 +11,16 @@ use Rattle.laws.specs.Choice.{◌⇒◌∣◌}
 use Rattle.laws.specs.Lists.{at, put}
 use Rattle.laws.specs.Loop.{Turn, more, over, loop}
 use Rattle.laws.specs.Each.{After, after, each, each_of, steps, along}
-use Rattle.motion.specs.declared.Step.{Step}
-use Rattle.motion.specs.Leaves.{Desk, desk, out, low, free_first, taken, free_last, given, begun_notes, page_start, on_step, pop}
+use Rattle.motion.specs.Leaves.{Desk, desk, out, low, free_first, taken, free_last, given, begun_notes, page_start, Step, all_scanned, page_lacks, on_step, pop}
 use Rattle.motion.specs.Run.{take_free, move, work, scanning}
 
 -- ---- What knows nothing of the page size.
 
 -- all is scanned
 abbrev pub is_finished : Step → Bool
-is_finished (Step.Go j s) = false
-is_finished Step.Finished = true
-is_finished Step.NoPage = false
+is_finished (Ok (Some e)) = false
+is_finished (Ok None) = true
+is_finished (Err e) = false
 
 unfoldable pub work_done : After Step Desk → After Bool Desk
 work_done o = after (is_finished o.answer) o.state
@@ -71,7 +70,7 @@ module _ (n : ℕ) where
 
   unfoldable pub work_from : ℕ → List ℕ → After Step (List ℕ) → After Step Desk
   work_from f h o =
-      on_step o.answer (λ j s. work n f (scanning j s (desk h o.state))) (out Step.Finished h o.state) (out Step.NoPage h o.state)
+      on_step o.answer (λ j s. work n f (scanning j s (desk h o.state))) (out all_scanned h o.state) (out page_lacks h o.state)
 
   -- at most f steps
   abbrev pub work_stack : ℕ → Desk → After Step Desk

@@ -5,38 +5,38 @@
 ghost use Rattle.std.specs.Prelude.{◌≡◌, nat_abs};
 ghost use Rattle.rules.specs.Calls.{word_of_number, number_of_word};
 
-use rules::{Numbered, Refusal, Worded};
+use rules::Refusal;
 
 // A whole number as a word. Below 0 the bits of i turned over are -1 - i, which is counted from 0 again.
-pub fn word_of_number(i: i32) -> Worded
+pub fn word_of_number(i: i32) -> Result<u32, Refusal>
     ensures { result ≡ word_of_number i }
 {
     if i < 0 {
         let below = !i as u32;
         if below < 1073741824 {
-            return Worded::Done(4294967295 - 2 * below);
+            return Ok(4294967295 - 2 * below);
         }
-        return Worded::Refused(Refusal::NoNumber);
+        return Err(Refusal::NoNumber);
     }
     let above = i as u32;
     if above < 1073741824 {
-        return Worded::Done(2 * above + 1);
+        return Ok(2 * above + 1);
     }
-    Worded::Refused(Refusal::NoNumber)
+    Err(Refusal::NoNumber)
 }
 
 // A word as a whole number.
-pub fn number_of_word(w: u32) -> Numbered
+pub fn number_of_word(w: u32) -> Result<i32, Refusal>
     ensures { result ≡ number_of_word w }
 {
     if w % 2 == 0 {
-        return Numbered::Refused(Refusal::NoNumber);
+        return Err(Refusal::NoNumber);
     }
     if w < 2147483648 {
-        return Numbered::Done((w / 2) as i32);
+        return Ok((w / 2) as i32);
     }
     let below = ((4294967295 - w) / 2) as i32;
-    Numbered::Done(!below)
+    Ok(!below)
 }
 
 // How far a number is from 0. Below 0 the bits of i turned over are -1 - i.

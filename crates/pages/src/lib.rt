@@ -3,11 +3,12 @@
 #![tactic(auto)]
 
 ghost use Rattle.std.specs.Prelude.{◌≡◌, ◌+◌, ◌-◌, ◌/◌, ◌^◌, ◌≤◌, ◌<◌, ℕ, List, length, replicate};
+ghost use Rattle.std.proofs.Math.Option.{some};
 ghost use Rattle.laws.specs.Lists.{zeros};
-ghost use Rattle.rules.specs.Memory.{lent, page_count, page_words, link, link_page, body_address, page_end};
+ghost use Rattle.rules.specs.Memory.{control, page_count, page_words, link, link_page, body_address, page_end};
 ghost use Rattle.rules.specs.Refusals.{Paged};
 ghost use Rattle.rules.specs.Pages.{last_if, link_fits, take_page, clear_page};
-ghost use Rattle.pages.specs.Taking.{PageFree, run_of, taken_as};
+ghost use Rattle.pages.specs.Taking.{PageFree, run_of};
 
 use conversions::{address_behind, page_address, region_origin};
 use rules::{Address, Control, Page, Region};
@@ -44,36 +45,18 @@ pub fn body_address(k: Page, n: u32) -> Address
     address_behind(page_address(k, n), 2)
 }
 
-// Each word becomes w.
-pub fn fill(part: &mut [u32], w: u32)
-    ensures { part.new ≡ replicate (length part.old) w }
-{
-    let mut i = 0;
-    while i < part.len() {
-        part[i] = w;
-        i += 1;
-    }
-}
-
 // Clears what it is lent.
 pub fn clear(part: &mut [u32])
     ensures { part.new ≡ replicate (length part.old) 0 }
 {
-    fill(part, 0);
+    part.fill(0);
 }
 
 // Whether all words of a part are 0.
 pub fn all_zero(words: &[u32]) -> bool
     ensures { result ≡ zeros words.now }
 {
-    let mut i: usize = 0;
-    while i < words.len() {
-        if words[i] != 0 {
-            return false;
-        }
-        i += 1;
-    }
-    true
+    words.iter().all(|w| *w == 0)
 }
 
 // The place just past the page that starts at `from`.
@@ -120,41 +103,28 @@ pub fn link_fits(heap: &[u32], k: Page, n: u32, count: u32) -> bool
     (link == 0) == (count == 1)
 }
 
-// The free list after a page is taken.
-#[derive(Clone, Copy)]
-pub struct Taken {
-    pub first: u32,
-    pub last: u32,
-    pub count: u32,
-}
-
-// The free list once page k, its first, is taken.
+// The record once page k, the first free one, is taken.
 #[tactic(auto, using(rules::proofs::Pages::last_none, rules::proofs::Pages::last_stays), unfolding(rules::specs::Memory::link))]
-pub fn free_after(heap: &[u32], k: Page, c: Control) -> Taken
+pub fn free_after(heap: &[u32], k: Page, c: Control) -> Control
     requires { (PageFree (length heap.now) c) × (k.0 ≡ link_page c.first) }
-    ensures { (result.first ≡ link c.n heap.now k.0) × (result.last ≡ last_if (c.count - 1) c.last) × (result.count ≡ c.count - 1) }
+    ensures { result ≡ control c.n c.regions (link c.n heap.now k.0) (last_if (c.count - 1) c.last) (c.count - 1) }
 {
     let start = page_address(k, c.n);
     let i = start.0;
-    let link = heap[i];
-    if c.count == 1 {
-        return Taken {
-            first: link,
-            last: 0,
-            count: 0,
-        };
-    }
-    Taken {
-        first: link,
-        last: c.last,
+    let last = if c.count == 1 { 0 } else { c.last };
+    Control {
+        first: heap[i],
+        last,
         count: c.count - 1,
+        ..c
     }
 }
 
 // Page k, the first free one, becomes one of region j: link 0, then its origin.
-pub fn take_page(heap: &mut [u32], k: Page, j: Region, c: Control) -> Taken
+pub fn take_page(heap: &mut [u32], k: Page, j: Region, c: Control) -> Control
     requires { (PageFree (length heap.old) c) × (k.0 ≡ link_page c.first) × (j.0 ≤ 64) }
-    ensures { (t : List ℕ) → taken_as k.0 result heap.new t ≡ take_page c.n j.0 (run_of heap.old t c) }
+    ensures run { (t : List ℕ) → some (k.0, run_of heap.new t result) ≡ take_page c.n j.0 (run_of heap.old t c) }
+    ensures same { (result.n ≡ c.n) × (result.regions ≡ c.regions) }
 {
     let rest = free_after(heap, k, c);
     let start = page_address(k, c.n);

@@ -1,24 +1,18 @@
 -- A path walked piece by piece. The word that a walk of a front ends on is where the walk of the rest begins, since what is asked of that word at
 -- its end is asked again at the next step; and where the front stops the whole stops.
-use Rattle.std.specs.Prelude.{Result, Ok}
-use Rattle.rules.specs.declared.Refused.{Refused}
-use Rattle.rules.specs.Refusals.{refusing}
-use Prim.Native.Nat.{ℕ, suc, ◌+◌, ◌-◌, ◌≤◌}
+use Prim.Native.Nat.{ℕ, suc}
 use mathlib.Core.Path.{◌≡◌, refl, sym, ap, ◌∙◌}
-use mathlib.Core.Bool.{Bool, true, false, not, false≢true}
+use mathlib.Core.Bool.{Bool, true, false, not}
 use mathlib.Core.List.{List, [], ◌∷◌, ◌++◌}
-use native.Mathlib.Omega.{arith}
 use lib.Dec.{leb}
-use lib.ListN.{length, take, drop, take-append-drop}
-use lib.Seq.{drop-drop}
+use lib.ListN.{take-append-drop}
+use Rattle.std.specs.List.{IsSplitAt}
 use Rattle.laws.specs.Choice.{◌⇒◌∣◌}
 use Rattle.laws.specs.Lists.{at}
 use Rattle.laws.proofs.Choices.{choices_agree}
-use Rattle.laws.proofs.Parts.{part_rest}
-use Rattle.rules.specs.declared.Control.{Control}
 use Rattle.rules.specs.declared.Refusal.{Refusal}
 use Rattle.rules.specs.Words.{word_of, is_record}
-use Rattle.rules.specs.Calls.{header_in, fields_in, is_there, is_number, Walked, ends, stops, step_into, walk_from, walk_says}
+use Rattle.rules.specs.Calls.{header_in, fields_in, is_there, is_number, Walked, ends, stops, step_into, walk_from}
 use Rattle.rules.proofs.Walks.{walk_stuck}
 
 -- a walk that goes on where another ends
@@ -49,43 +43,17 @@ module _ (view : ℕ → List ℕ) where
       refuse_or (λ x. walk_from view x q) (is_number (word_of w)) _ _ _
       (into (view w) f (λ x. walk_from view x (fs ++ q)) (λ x. walk_from view x fs) (λ x. walk_from view x q) (joined fs q (at (view w) (suc f))))
 
-  -- the walk of what lies behind i, by its piece up to e
-  split : (w i e : ℕ) (path : List ℕ) → i ≤ e
-      → walk_from view w (drop i path) ≡ onward (walk_from view w (take (e - i) (drop i path))) (λ x. walk_from view x (drop e path))
-  split w i e path h =
-      let k : i + (e - i) ≡ e = omega arith in
-      let rest : drop (e - i) (drop i path) ≡ drop e path = drop-drop (e - i) i path ∙ ap (λ (n : ℕ). drop n path) k in
-      ap (walk_from view w) (sym (take-append-drop (e - i) (drop i path)))
-      ∙ joined (take (e - i) (drop i path)) (drop (e - i) (drop i path)) w
-      ∙ ap (λ (l : List ℕ). onward (walk_from view w (take (e - i) (drop i path))) (λ x. walk_from view x l)) rest
+-- the path left is a piece and what is further on; v is what the walk of the piece answered
+module _ (view : ℕ → List ℕ) (w : ℕ) (left piece further : List ℕ) (cut : IsSplitAt left 256 piece further) where
+  onward_is : walk_from view w left ≡ onward (walk_from view w piece) (λ x. walk_from view x further)
+  onward_is =
+      ap (walk_from view w) (sym (take-append-drop 256 left))
+      ∙ rw (← cut.1, ← cut.2) (joined view piece further w)
 
-passed : (c : Control) {d : Control} {x : ℕ} (m : Walked) (go : ℕ → Walked) → Ok (x, d) ≡ walk_says c m → onward m go ≡ go x
-passed c {d} {x} (ends w) go e = let same : w ≡ x = cc in ap go same
-passed c (stops r) go e = absurd (false≢true cc)
-
-halted : (c : Control) {d : Control} {r : Refusal} (m : Walked) (go : ℕ → Walked) → refusing r d ≡ walk_says c m → walk_says c m ≡ walk_says c (onward m go)
-halted c (ends w) go e = absurd (false≢true cc)
-halted c (stops s) go e = refl
-
--- v is what the walk of the piece from i to e answered
-module _ (view : ℕ → List ℕ) (c : Control) (w i e : ℕ) (path : List ℕ) (h : i ≤ e) {v : Result (ℕ × Control) Refused}
-    (s : v ≡ walk_says c (walk_from view w (take (e - i) (drop i path)))) where
-  -- it ended: the walk of the whole path from o, which is what is left of it from w, goes on behind it
-  pub piece_ends : (o m : ℕ) {x : ℕ} {d : Control} → m ≡ e → e ≤ length path → v ≡ Ok (x, d) → walk_from view o path ≡ walk_from view w (drop i path)
-      → (m ≤ length path) × (walk_from view o path ≡ walk_from view x (drop m path))
-  piece_ends o m behind inside q left =
-      (omega arith, rw behind (left ∙ split view w i e path h ∙ passed c (walk_from view w (take (e - i) (drop i path))) (λ x. walk_from view x (drop e path)) (sym q ∙ s)))
+  -- it ended: the walk of what was left goes on behind it
+  pub piece_ends : {x : ℕ} → ends x ≡ walk_from view w piece → walk_from view w left ≡ walk_from view x further
+  piece_ends e = onward_is ∙ ap (λ m. onward m (λ x. walk_from view x further)) (sym e)
 
   -- it stopped: so does the walk
-  pub piece_stops : {r : Refusal} {d : Control} → v ≡ refusing r d → v ≡ walk_says c (walk_from view w (drop i path))
-  piece_stops q =
-      s
-      ∙ halted c (walk_from view w (take (e - i) (drop i path))) (λ x. walk_from view x (drop e path)) (sym q ∙ s)
-      ∙ ap (walk_says c) (sym (split view w i e path h))
-
--- the last piece is all that is left
-pub last_piece : (view : ℕ → List ℕ) (c : Control) (w i : ℕ) (path : List ℕ) {v : Result (ℕ × Control) Refused}
-    → v ≡ walk_says c (walk_from view w (take (length path - i) (drop i path)))
-    → v ≡ walk_says c (walk_from view w (drop i path))
-last_piece view c w i path s =
-    s ∙ ap (λ (p : List ℕ). walk_says c (walk_from view w p)) (part_rest path i)
+  pub piece_stops : {r : Refusal} → stops r ≡ walk_from view w piece → stops r ≡ walk_from view w left
+  piece_stops e = sym (onward_is ∙ ap (λ m. onward m (λ x. walk_from view x further)) (sym e))

@@ -2,43 +2,42 @@
 
 #![tactic(auto)]
 
-ghost use Rattle.std.specs.Prelude.{◌≡◌, ◌≤◌, length};
-ghost use Rattle.rules.specs.Calls.{walk_from, walk_says, walk as walk_of};
-ghost use Rattle.rules.specs.Memory.{lent};
-ghost use Rattle.rules.specs.Refusals.{Paged};
+ghost use Rattle.std.specs.Prelude.{◌≡◌};
+ghost use Rattle.rules.specs.Calls.{walk_from, walk as walk_of};
+ghost use Rattle.rules.specs.Memory.{store};
 ghost use Rattle.rules.specs.Words.{look as look_of};
+ghost use Rattle.paths.specs.Walking.{walked};
 
-use limits::{Tested, first_tests};
-use rules::{Control, Refusal, Valued};
-use values::{is_record, look};
+use limits::admit;
+use rules::{Control, Lent, Refusal, Refused};
+use values::{Memory, is_record, look};
 
 // The word that a path ends on from the word w: one step is walked, and then the rest of it.
-fn walk_from<'a>(heap: &'a [u32], consts: &'a [u32], c: Control, w: u32, path: &[u32]) -> Valued
-    requires { Paged c.n (length heap.now) × (length consts.now ≤ 65535) }
-    ensures { result ≡ walk_says c (walk_from (look_of c.n c.regions heap.now consts.now) w path.now) }
+fn walk_from(memory: Memory<'_>, w: u32, path: &[u32]) -> Result<u32, Refusal>
+    ensures { let m = memory.entry in walked result ≡ walk_from (look_of m.c.n m.c.regions m.heap.now m.consts.now) w path.now }
 {
     if w % 2 == 1 {
         if path.len() == 0 {
-            return Valued::Done(w, c);
+            return Ok(w);
         }
-        return Valued::Refused(Refusal::NoFields, c);
+        return Err(Refusal::NoFields);
     }
-    let met = look(heap, consts, c.n, c.regions, w);
+    let met = look(memory, w);
     if met.len() == 0 {
-        return Valued::Refused(Refusal::NotGood, c);
+        return Err(Refusal::NotGood);
     }
     if path.len() == 0 {
-        return Valued::Done(w, c);
+        return Ok(w);
     }
     if !is_record(met[0]) {
-        return Valued::Refused(Refusal::NoFields, c);
+        return Err(Refusal::NoFields);
     }
     let field = path[0] as usize;
     if met.len() - 1 <= field {
-        return Valued::Refused(Refusal::NoSuch, c);
+        return Err(Refusal::NoSuch);
     }
     let next = met[field + 1];
-    walk_from(heap, consts, c, next, &path[1..])
+    walk_from(memory, next, &path[1..])
 }
 
 // How many steps one run of the recursion takes.
@@ -46,42 +45,38 @@ const PIECE: usize = 256;
 
 // The word that a path ends on from the word w. A long path is walked piece by piece, each from where the last one ended: a walk then takes no
 // more of the stack than one piece does.
-fn walk_pieces<'a>(heap: &'a [u32], consts: &'a [u32], c: Control, w: u32, path: &[u32]) -> Valued
-    requires { Paged c.n (length heap.now) × (length consts.now ≤ 65535) }
-    ensures { result ≡ walk_says c (walk_from (look_of c.n c.regions heap.now consts.now) w path.now) }
+fn walk_pieces(memory: Memory<'_>, w: u32, path: &[u32]) -> Result<u32, Refusal>
+    ensures { let m = memory.entry in walked result ≡ walk_from (look_of m.c.n m.c.regions m.heap.now m.consts.now) w path.now }
 {
     let mut at = w;
-    let mut i = 0;
-    while PIECE < path.len() - i {
-        let walked = walk_from(heap, consts, c, at, &path[i..i + PIECE]);
-        let Valued::Done(next, _) = walked else {
-            return walked;
-        };
-        at = next;
-        i += PIECE;
+    let mut rest = path;
+    while let Some((piece, further)) = rest.split_at_checked(PIECE) {
+        at = walk_from(memory, at, piece)?;
+        rest = further;
     }
-    walk_from(heap, consts, c, at, &path[i..])
+    walk_from(memory, at, rest)
 }
 
 // The word that a path ends on: a root's number, and the field numbers.
-pub fn walk<'a>(
-    heap: &'a [u32],
-    table: &'a [u32],
-    roots: &'a [u32],
-    consts: &'a [u32],
-    c: Control,
-    root: usize,
-    path: &[u32],
-) -> Valued
-    ensures { result ≡ walk_of (lent heap.now table.now roots.now consts.now c) root path.now }
+pub fn walk(lent: Lent<'_>, root: usize, path: &[u32]) -> Result<(u32, Control), Refused>
+    ensures { result ≡ walk_of (store lent.entry) root path.now }
 {
-    let tested = first_tests(heap.len(), table.len(), roots.len(), consts.len(), c);
-    if let Tested::Refused(why) = tested {
-        return Valued::Refused(why, c);
-    }
+    admit(lent)?;
+    let Lent {
+        heap,
+        roots,
+        consts,
+        control: c,
+        ..
+    } = lent;
     if roots.len() <= root {
-        return Valued::Refused(Refusal::NoSuch, c);
+        return Err(Refused {
+            why: Refusal::NoSuch,
+            control: c,
+        });
     }
-    let start = roots[root];
-    walk_pieces(heap, consts, c, start, path)
+    match walk_pieces(Memory { heap, consts, c }, roots[root], path) {
+        Ok(word) => Ok((word, c)),
+        Err(why) => Err(Refused { why, control: c }),
+    }
 }

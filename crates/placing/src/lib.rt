@@ -15,7 +15,7 @@ use conversions::{
 };
 use pages::{body_address, free_after, link_fits, page_end, page_words};
 use rows::{end_of, set_end, set_top, top_of};
-use rules::{Address, Control, Page, Refusal, Region, Valued};
+use rules::{Address, Control, Page, Refusal, Refused, Region};
 
 // The words at address a.
 fn put_words(heap: &mut [u32], a: Address, words: &[u32])
@@ -23,11 +23,8 @@ fn put_words(heap: &mut [u32], a: Address, words: &[u32])
     ensures { heap.new ≡ put heap.old a.0 words.now }
 {
     let from = a.0;
-    let mut i = 0;
-    while i < words.len() {
-        heap[from + i] = words[i];
-        i += 1;
-    }
+    let to = from + words.len();
+    heap[from..to].copy_from_slice(words);
 }
 
 // A value at region j's a, which is given.
@@ -81,31 +78,28 @@ fn put_further(
     j: Region,
     header: u32,
     words: &[u32],
-) -> Valued
+) -> Result<(u32, Control), Refused>
     requires { (Fit heap.old table.old c j.0 (length words.now)) × (end_of table.old j.0 < top_of table.old j.0 + suc (length words.now)) }
     ensures { (r k : List ℕ) → outcome result heap.new table.new r k ≡ allocate_in (lent heap.old table.old r k c) j.0 (header ∷ words.now) }
 {
     if c.count == 0 {
-        return Valued::Refused(Refusal::NoPage, c);
+        return Err(Refused {
+            why: Refusal::NoPage,
+            control: c,
+        });
     }
     let k = link_page(c.first);
     if !link_fits(heap, k, c.n, c.count) {
-        return Valued::Refused(Refusal::Broken(0), c);
+        return Err(Refused {
+            why: Refusal::Broken(0),
+            control: c,
+        });
     }
     let rest = free_after(heap, k, c);
     join_page(heap, table, j, k, c.n);
     let body = body_address(k, c.n);
     store_value(heap, table, j, body, header, words);
-    Valued::Done(
-        address_pointer(body),
-        Control {
-            n: c.n,
-            regions: c.regions,
-            first: rest.first,
-            last: rest.last,
-            count: rest.count,
-        },
-    )
+    Ok((address_pointer(body), rest))
 }
 
 // A value into region j: at its a if it fits before e, else into a page more.
@@ -116,7 +110,7 @@ pub fn put_value(
     j: Region,
     header: u32,
     words: &[u32],
-) -> Valued
+) -> Result<(u32, Control), Refused>
     requires { Fit heap.old table.old c j.0 (length words.now) }
     ensures { (r k : List ℕ) → outcome result heap.new table.new r k ≡ allocate_in (lent heap.old table.old r k c) j.0 (header ∷ words.now) }
 {
@@ -127,5 +121,5 @@ pub fn put_value(
         return put_further(heap, table, c, j, header, words);
     }
     store_value(heap, table, j, a, header, words);
-    Valued::Done(address_pointer(a), c)
+    Ok((address_pointer(a), c))
 }

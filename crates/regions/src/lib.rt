@@ -8,28 +8,40 @@ ghost use Rattle.rules.specs.Refusals.{outcome};
 ghost use Rattle.rules.specs.Calls.{push as push_of};
 
 use conversions::{link_page, page_address, region_numbered};
-use limits::{Tested, first_tests};
+use limits::first_tests;
 use pages::{body_address, link_fits, page_end, take_page};
 use rows::set_row;
-use rules::{Control, Plain, Refusal};
+use rules::{Control, Refusal, Refused};
 
 // A region more, with one page.
-pub fn push(heap: &mut [u32], table: &mut [u32], roots: &[u32], consts: &[u32], c: Control) -> Plain
+pub fn push(
+    heap: &mut [u32],
+    table: &mut [u32],
+    roots: &[u32],
+    consts: &[u32],
+    c: Control,
+) -> Result<Control, Refused>
     ensures { outcome result heap.new table.new roots.now consts.now ≡ push_of (lent heap.old table.old roots.now consts.now c) }
 {
-    let tested = first_tests(heap.len(), table.len(), roots.len(), consts.len(), c);
-    if let Tested::Refused(why) = tested {
-        return Plain::Refused(why, c);
-    }
+    first_tests(heap.len(), table.len(), roots.len(), consts.len(), c)?;
     if 64 <= c.regions {
-        return Plain::Refused(Refusal::RegionsFull, c);
+        return Err(Refused {
+            why: Refusal::RegionsFull,
+            control: c,
+        });
     }
     if c.count == 0 {
-        return Plain::Refused(Refusal::NoPage, c);
+        return Err(Refused {
+            why: Refusal::NoPage,
+            control: c,
+        });
     }
     let k = link_page(c.first);
     if !link_fits(heap, k, c.n, c.count) {
-        return Plain::Refused(Refusal::Broken(0), c);
+        return Err(Refused {
+            why: Refusal::Broken(0),
+            control: c,
+        });
     }
     let j = region_numbered(c.regions as usize);
     let taken = take_page(heap, k, j, c);
@@ -42,11 +54,5 @@ pub fn push(heap: &mut [u32], table: &mut [u32], roots: &[u32], consts: &[u32], 
         0,
     );
     let regions = c.regions + 1;
-    Plain::Done(Control {
-        n: c.n,
-        regions: regions,
-        first: taken.first,
-        last: taken.last,
-        count: taken.count,
-    })
+    Ok(Control { regions, ..taken })
 }

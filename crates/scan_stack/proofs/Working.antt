@@ -1,28 +1,28 @@
 -- The work, a turn by what `one_step` ensures: `loop` runs one turn, and the step's answer says which way it goes.
-use Prim.Native.Nat.{ℕ, ◌-◌, ◌<◌}
+use Prim.Native.Nat.{ℕ, ◌+◌, ◌-◌, ◌≤◌, ◌<◌}
+use native.Mathlib.Omega.{arith}
 use mathlib.Core.Path.{◌≡◌}
-use Rattle.rules.specs.declared.Region.{Region}
-use Rattle.rules.specs.declared.Address.{Address}
+use Rattle.std.specs.Prelude.{Ok, Err, Some, None}
 use Rattle.laws.specs.Each.{after}
-use Rattle.laws.proofs.Loops.{loop_more, loop_over}
-use Rattle.motion.specs.declared.Step.{Step}
-use Rattle.motion.specs.Leaves.{Desk, Narrow}
+use Rattle.laws.proofs.Loops.{loop_more, loop_over, loop_end}
+use Rattle.motion.specs.declared.Entry.{Entry}
+use Rattle.motion.specs.declared.NoPage.{NoPage}
+use Rattle.motion.specs.Leaves.{Desk, all_scanned, page_lacks}
 use Rattle.motion.specs.Run.{step, scanning, work_on, work_turn, work}
 
-pub work_more : (n f j s : ℕ) (j' : Region) (s' : Address) (d d' : Desk) (r : Step) → 0 < f → r ≡ Step.Go j' s' → after r d' ≡ step n j s d
-    → work n f (scanning j s d) ≡ work n (f - 1) (scanning j'.0 s'.0 d')
+-- i turns of f are done
+pub work_more : (n f i j s : ℕ) (e : Entry) (d d' : Desk) → i < f → after (Ok (Some e)) d' ≡ step n j s d
+    → work n (f - i) (scanning j s d) ≡ work n (f - (i + 1)) (scanning e.region.0 e.address.0 d')
 unfolding work_turn work_on
-work_more n f j s j' s' d d' r l q e = loop_more _ _ _ _ _ l (rw (← e, q))
+work_more n f i j s e d d' l t = let p : f - (i + 1) ≡ f - i - 1 = omega arith in rw p (loop_more _ _ _ _ _ (omega arith) (rw (← t)))
 
-pub work_finished : (n f j s : ℕ) (d d' : Desk) (r : Step) → 0 < f → r ≡ Step.Finished → after r d' ≡ step n j s d
-    → work n f (scanning j s d) ≡ after Step.Finished d'
+pub work_finished : (n f i j s : ℕ) (d d' : Desk) → i < f → after (Ok None) d' ≡ step n j s d → work n (f - i) (scanning j s d) ≡ after all_scanned d'
 unfolding work_turn work_on
-work_finished n f j s d d' r l q e = loop_over _ _ _ _ _ l (rw (← e, q))
+work_finished n f i j s d d' l t = loop_over _ _ _ _ _ (omega arith) (rw (← t))
 
-pub work_no_page : (n f j s : ℕ) (d d' : Desk) (r : Step) → 0 < f → r ≡ Step.NoPage → after r d' ≡ step n j s d
-    → work n f (scanning j s d) ≡ after Step.NoPage d'
+pub work_lacks : (n f i j s : ℕ) (e : NoPage) (d d' : Desk) → i < f → after (Err e) d' ≡ step n j s d → work n (f - i) (scanning j s d) ≡ after page_lacks d'
 unfolding work_turn work_on
-work_no_page n f j s d d' r l q e = loop_over _ _ _ _ _ l (rw (← e, q))
+work_lacks n f i j s e d d' l t = loop_over _ _ _ _ _ (omega arith) (rw (← t))
 
-pub narrow_go : (r : Step) (j : Region) (s : Address) → r ≡ Step.Go j s → Narrow r → (j.0 < 4294967296) × (s.0 < 4294967296)
-narrow_go r j s e w = rw e at w
+pub work_end : (n f i : ℕ) (e : Entry) (d : Desk) → f ≤ i → work n (f - i) (scanning e.region.0 e.address.0 d) ≡ after (Ok (Some e)) d
+work_end n f i e d b = loop_end _ _ _ _ (omega arith)

@@ -5,14 +5,14 @@
 ghost use Rattle.std.specs.Prelude.{◌≡◌, ◌≤◌, length, eqb};
 ghost use Rattle.std.proofs.Math.Seq.{slice};
 ghost use Rattle.laws.specs.Lists.{zeros, all_below};
-ghost use Rattle.rules.specs.Memory.{lent, status_of};
-ghost use Rattle.rules.specs.Refusals.{Admitted};
+ghost use Rattle.rules.specs.Memory.{store, status_of};
 ghost use Rattle.rules.specs.Audit.{rule2 as rule2_of};
 
-use conversions::{next_region, region_numbered};
+use conversions::region_numbered;
+use limits::Admitted;
 use pages::all_zero;
 use rows::status_of;
-use rules::{Address, Control};
+use rules::{Address, Lent};
 
 // Whether the words from one address up to another are 0.
 pub fn zero_between(words: &[u32], from: Address, to: Address) -> bool
@@ -32,27 +32,15 @@ fn idle(table: &[u32], regions: usize) -> bool
     requires { (length table.now ≡ 256) × (regions ≤ 64) }
     ensures { result ≡ all_below (λ j. eqb (status_of table.now j) 0) regions }
 {
-    let mut j = region_numbered(0);
-    let mut left = regions;
-    while 0 < left {
-        if status_of(table, j) != 0 {
-            return false;
-        }
-        j = next_region(j);
-        left -= 1;
-    }
-    true
+    (0..regions).all(|j| status_of(table, region_numbered(j)) == 0)
 }
 
 // Rule 2: R at most 64, table words past 4R are 0, each b is 0.
-pub fn rule2(heap: &[u32], table: &[u32], roots: &[u32], consts: &[u32], c: Control) -> bool
-    requires { Admitted (length heap.now) (length table.now) (length roots.now) (length consts.now) c }
-    ensures { result ≡ rule2_of (lent heap.now table.now roots.now consts.now c) }
+pub fn rule2(admitted: Admitted<'_>) -> bool
+    ensures { result ≡ rule2_of (store admitted.entry.lent) }
 {
-    let regions = c.regions as usize;
+    let Lent { table, control, .. } = admitted.lent;
+    let regions = control.regions as usize;
     let rows = 4 * regions;
-    if !all_zero(&table[rows..]) {
-        return false;
-    }
-    idle(table, regions)
+    all_zero(&table[rows..]) && idle(table, regions)
 }

@@ -4,20 +4,20 @@
 
 ghost use Rattle.std.specs.Prelude.{◌≡◌, ◌≤◌, ◌<◌, length};
 ghost use Rattle.laws.specs.Each.{after};
-ghost use Rattle.rules.specs.Memory.{page_count, page_link, set_link};
+ghost use Rattle.rules.specs.Memory.{page_count};
 ghost use Rattle.rules.specs.Refusals.{Paged};
-ghost use Rattle.rules.specs.Pages.{clear_page};
-ghost use Rattle.motion.specs.Whole.{undo_value, undo_page, undo_chain, undo_headers, relink_all};
+ghost use Rattle.leaves.specs.Walks.{AllOf};
+ghost use Rattle.motion.specs.Whole.{undo_value, undo_page, undo_headers, relink, relink_all};
 
-use conversions::{
-    address_behind, address_page, link_page, next_region, page_address, pointer_address,
-    region_numbered,
-};
-use leaves::{first_of, word, write};
-use pages::{clear_page, page_words};
+use conversions::{address_behind, page_address, pointer_address, region_numbered};
+use leaves::chain::Chain;
+use leaves::size::Pages;
+use leaves::{word, write};
+use pages::{body_address, clear_page, page_end, page_words};
 use rules::{Address, Page};
 
 // A forward at x becomes the header that the copy has kept. The next value's address.
+#[tactic(auto, unfolding(motion::specs::Whole::undo_of))]
 fn undo_value(heap: &mut [u32], x: Address) -> Address
     requires { x.0 ≤ 4294967296 }
     ensures { after result.0 heap.new ≡ undo_value x.0 heap.old }
@@ -37,13 +37,10 @@ fn undo_page(heap: &mut [u32], k: Page, n: u32)
     requires { (4 ≤ n) × (n ≤ 8) × (k.0 ≤ 65536) }
     ensures { heap.new ≡ undo_page n k.0 heap.old }
 {
-    let start = page_address(k, n);
-    let p = page_words(n);
-    let e = address_behind(start, p);
-    let mut x = address_behind(start, 2);
-    let mut left = p;
-    while 0 < left {
-        if e.0 <= x.0 {
+    let past = page_end(k, n);
+    let mut x = body_address(k, n);
+    for _ in 0..page_words(n) {
+        if past.0 <= x.0 {
             return;
         }
         let w = word(heap, x.0);
@@ -51,76 +48,43 @@ fn undo_page(heap: &mut [u32], k: Page, n: u32)
             return;
         }
         x = undo_value(heap, x);
-        left -= 1;
-    }
-}
-
-// The headers of the chain of pages that starts with `first`.
-fn undo_chain(heap: &mut [u32], first: Page, pages: usize, n: u32)
-    requires { (4 ≤ n) × (n ≤ 8) × (pages ≤ 65536) }
-    ensures { heap.new ≡ undo_chain n pages (page_link first.0) heap.old }
-{
-    let mut k = first;
-    let mut left = pages;
-    while 0 < left {
-        if pages <= k.0 {
-            return;
-        }
-        let start = page_address(k, n);
-        let next = word(heap, start.0);
-        undo_page(heap, k, n);
-        if next == 0 {
-            return;
-        }
-        k = link_page(next as u32);
-        left -= 1;
     }
 }
 
 // The headers of all regions' pages.
-pub fn undo_headers(heap: &mut [u32], table: &[u32], regions: u32, pages: usize, n: u32)
-    requires { (4 ≤ n) × (n ≤ 8) × (pages ≤ 65536) }
-    ensures { heap.new ≡ undo_headers n pages regions table.now heap.old }
+#[tactic(auto, using(leaves::proofs::Walks::walked), unfolding(laws::specs::Each::steps))]
+pub fn undo_headers(heap: &mut [u32], table: &[u32], regions: u32, pages: Pages)
+    requires { 4 ≤ pages.n }
+    ensures { heap.new ≡ undo_headers pages.n pages.count regions table.now heap.old }
 {
-    let mut j = region_numbered(0);
-    let mut left = regions as usize;
-    while 0 < left {
-        let fp = first_of(table, j);
-        undo_chain(heap, address_page(fp, n), pages, n);
-        j = next_region(j);
-        left -= 1;
+    for i in 0..regions as usize {
+        let mut chain = Chain::of_region(table, region_numbered(i), pages);
+        while let Some(k) = chain.next(heap) {
+            undo_page(heap, k, pages.n);
+        }
     }
 }
 
-// Page k free again, with its link.
-fn relink(heap: &mut [u32], k: Page, link: usize, n: u32)
-    requires { (Paged n (length heap.old)) × (k.0 < page_count n heap.old) × (link < 4294967296) }
-    ensures { heap.new ≡ set_link n (clear_page n heap.old k.0) k.0 link }
+// Page k free again, with the link that its origin word has kept.
+#[tactic(auto, unfolding(motion::specs::Whole::relink, rules::specs::Memory::origin))]
+fn relink(heap: &mut [u32], k: Page, n: u32)
+    requires { (Paged n (length heap.old)) × (k.0 < page_count n heap.old) }
+    ensures { heap.new ≡ relink n k.0 heap.old }
 {
-    clear_page(heap, k, n);
     let start = page_address(k, n);
+    let link = word(heap, start.0 + 1);
+    clear_page(heap, k, n);
     write(heap, start.0, link);
 }
 
 // The pages that were taken, from the link `first` on, free again.
-pub fn relink_all(heap: &mut [u32], first: usize, taken: usize, pages: usize, n: u32)
-    requires { (Paged n (length heap.old)) × (pages ≡ page_count n heap.old) × (first < 4294967296) }
-    ensures { heap.new ≡ relink_all n taken pages first heap.old }
+#[tactic(auto, using(leaves::proofs::Walks::walked))]
+pub fn relink_all(heap: &mut [u32], first: u32, taken: usize, pages: Pages)
+    requires { AllOf pages heap.old }
+    ensures { heap.new ≡ relink_all pages.n taken pages.count first heap.old }
 {
-    let mut link = first;
-    let mut left = taken;
-    while 0 < left {
-        if link == 0 {
-            return;
-        }
-        if pages < link {
-            return;
-        }
-        let k = link_page(link as u32);
-        let start = page_address(k, n);
-        let next = word(heap, start.0 + 1);
-        relink(heap, k, next, n);
-        link = next;
-        left -= 1;
+    let mut chain = Chain::from_link(first, taken, pages);
+    while let Some(k) = chain.next_taken(heap) {
+        relink(heap, k, pages.n);
     }
 }

@@ -5,7 +5,7 @@
 ghost use Rattle.std.specs.Prelude.{◌≡◌, ◌+◌, ◌≤◌, ◌<◌, length};
 ghost use Rattle.rules.specs.Audit.{used_by};
 ghost use Rattle.rules.specs.Calls.{used_words};
-ghost use Rattle.rules.specs.Memory.{lent};
+ghost use Rattle.rules.specs.Memory.{store};
 ghost use Rattle.rules.specs.Refusals.{Paged};
 ghost use Rattle.rules.specs.Words.{vals_in, used_of};
 
@@ -13,7 +13,7 @@ use audit::audit;
 use conversions::{address_behind, link_page, page_address};
 use pages::{body_address, page_count, page_end};
 use rows::first_link;
-use rules::{Address, Control, Plain, Refusal, Region, Valued};
+use rules::{Address, Control, Lent, Refusal, Refused, Region};
 use values::fits;
 
 // The words that the values take that stand back to back from one address up to another.
@@ -44,8 +44,7 @@ fn region_used(heap: &[u32], table: &[u32], n: u32, j: Region) -> u32
     let pages = page_count(heap.len(), n) as u32;
     let mut used: u32 = 0;
     let mut link = first_link(table, j, n);
-    let mut left = pages;
-    'pages: while 0 < left {
+    'pages: for _ in 0..pages {
         if link == 0 {
             break 'pages;
         }
@@ -58,28 +57,21 @@ fn region_used(heap: &[u32], table: &[u32], n: u32, j: Region) -> u32
         let base = page_address(page, n);
         let i = base.0;
         link = heap[i];
-        left -= 1;
     }
     used
 }
 
 // The used words of region j, dead values too.
-pub fn used_words(
-    heap: &[u32],
-    table: &[u32],
-    roots: &[u32],
-    consts: &[u32],
-    c: Control,
-    j: Region,
-) -> Valued
-    ensures { result ≡ used_words (lent heap.now table.now roots.now consts.now c) j.0 }
+pub fn used_words(lent: Lent<'_>, j: Region) -> Result<(u32, Control), Refused>
+    ensures { result ≡ used_words (store lent.entry) j.0 }
 {
-    let judged = audit(heap, table, roots, consts, c);
-    if let Plain::Refused(why, _) = judged {
-        return Valued::Refused(why, c);
-    }
+    audit(lent)?;
+    let c = lent.control;
     if c.regions as usize <= j.0 {
-        return Valued::Refused(Refusal::NoRegion, c);
+        return Err(Refused {
+            why: Refusal::NoRegion,
+            control: c,
+        });
     }
-    Valued::Done(region_used(heap, table, c.n, j), c)
+    Ok((region_used(lent.heap, lent.table, c.n, j), c))
 }

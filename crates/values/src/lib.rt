@@ -9,7 +9,7 @@ ghost use Rattle.rules.specs.Words.{fits as fits_in, is_record, vals_in, stands_
 
 use conversions::{address_behind, address_numbered, address_page, page_address, pointer_address};
 use pages::{body_address, page_end};
-use rules::Address;
+use rules::{Address, Control};
 
 // Whether h is the header of a value that fits into the m words that follow it.
 pub fn fits(h: u32, m: usize) -> bool
@@ -86,16 +86,25 @@ pub fn good_const(consts: &[u32], a: Address) -> bool
     )
 }
 
+// What words are judged against: the heap and the constants, and the record that says the page exponent and the regions.
+#[derive(Clone, Copy)]
+pub struct Memory<'a> {
+    pub heap: &'a [u32],
+    pub consts: &'a [u32],
+    pub c: Control,
+    pub ghost paged: { Paged c.n (length heap.now) },
+    pub ghost few: { length consts.now ≤ 65535 },
+}
+
 // Whether a word is a number or a good pointer.
-pub fn good_word(heap: &[u32], consts: &[u32], n: u32, regions: u32, w: u32) -> bool
-    requires { Paged n (length heap.now) × (length consts.now ≤ 65535) }
-    ensures { result ≡ good_in n regions heap.now consts.now w }
+pub fn good_word(memory: Memory<'_>, w: u32) -> bool
+    ensures { let m = memory.entry in result ≡ good_in m.c.n m.c.regions m.heap.now m.consts.now w }
 {
     if w % 4 == 0 {
-        return good_heap(heap, n, regions, pointer_address(w));
+        return good_heap(memory.heap, memory.c.n, memory.c.regions, pointer_address(w));
     }
     if w % 4 == 2 {
-        return good_const(consts, pointer_address(w));
+        return good_const(memory.consts, pointer_address(w));
     }
     true
 }
@@ -126,22 +135,21 @@ fn value_at<'a>(memory: &'a [u32], a: Address) -> &'a [u32]
 }
 
 // The value that a word points to, in the heap or in the constants; no words where it is no good pointer.
-pub fn look<'a>(heap: &'a [u32], consts: &'a [u32], n: u32, regions: u32, w: u32) -> &'a [u32]
-    requires { Paged n (length heap.now) × (length consts.now ≤ 65535) }
-    ensures { result.now ≡ look_of n regions heap.now consts.now w }
+pub fn look<'a>(memory: Memory<'a>, w: u32) -> &'a [u32]
+    ensures { let m = memory.entry in result.now ≡ look_of m.c.n m.c.regions m.heap.now m.consts.now w }
 {
     let a = pointer_address(w);
     if w % 4 == 0 {
-        if !good_heap(heap, n, regions, a) {
-            return nothing(heap);
+        if !good_heap(memory.heap, memory.c.n, memory.c.regions, a) {
+            return nothing(memory.heap);
         }
-        return value_at(heap, a);
+        return value_at(memory.heap, a);
     }
     if w % 4 == 2 {
-        if !good_const(consts, a) {
-            return nothing(consts);
+        if !good_const(memory.consts, a) {
+            return nothing(memory.consts);
         }
-        return value_at(consts, a);
+        return value_at(memory.consts, a);
     }
-    nothing(heap)
+    nothing(memory.heap)
 }

@@ -2,16 +2,14 @@
 use mathlib.Core.Path.{◌∙◌}
 use mathlib.Core.List.{[]}
 use Rattle.rules.specs.Calls.{fetch}
-use Rattle.limits.proofs.First.{tests_refuse, tests_pass, tests_admit}
+use Rattle.rules.specs.Memory.{store}
+use Rattle.limits.proofs.First.{refused_first, admitted_first}
 use Rattle.access.proofs.fetch.Goals as goal
 
-pub returns-in-Refused : goal.returns-in-Refused
+pub returns-in_default : goal.returns-in_default
 unfolding fetch
-returns-in-Refused c = c.nothing.ensures ∙ tests_refuse _ _ _ _ _ c.first_tests-tested.ensures (λ r. []) _ c.in-Refused.is
-
-pub look-requires : goal.look-requires
-look-requires c = let a = tests_admit _ _ _ _ _ c.first_tests-tested.ensures c.in_default.is in (a.paged, a.consts)
+returns-in_default c = c.nothing.ensures ∙ refused_first (store c.args.lent) (λ e. []) _ c.in_default.ensures
 
 pub returns : goal.returns
 unfolding fetch
-returns c = let f = tests_pass _ _ _ _ _ c.first_tests-tested.ensures c.in_default.is in rw (f.0, f.1) c.look.ensures
+returns c = rw (admitted_first (store c.args.lent) _ _ c.in-Ok.ensures.1) c.look.ensures

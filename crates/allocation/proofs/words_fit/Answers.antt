@@ -1,9 +1,6 @@
 -- `allocation::words_fit` meets its contract: only the words of a record are judged.
 use Rattle.allocation.proofs.words_fit.Goals as goal
 
-pub good_words-requires : goal.good_words-requires
-good_words-requires c = c.requires
-
 pub returns-in-Record : goal.returns-in-Record
 returns-in-Record c = λ t r. rw c.in-Record.is c.good_words.ensures
 

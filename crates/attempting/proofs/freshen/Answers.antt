@@ -1,19 +1,11 @@
--- `attempting::freshen` meets its contract: the loop runs `each`, and a turn is what `fresh` does.
+-- `attempting::freshen` meets its contract: a region that finds no page ends `each`.
 use mathlib.Core.Path.{sym, ◌∙◌}
-use native.Mathlib.Omega.{arith}
-use Rattle.laws.proofs.Each.{each_more, each_over, each_end}
+use Rattle.std.proofs.lemmas.Result.{err_from_is_err_and}
+use Rattle.attempting.proofs.Turns.{fresh_over}
 use Rattle.attempting.proofs.freshen.Goals as goal
 
-pub returns-then-not-ok : goal.returns-then-not-ok
-returns-then-not-ok c = sym (each_over _ _ _ _ _ _ c.loop-left-test.true c.if-not-ok.true c.fresh-ok.ensures) ∙ c.loop-left.invariant.runs
-
-pub loop-left-preserved : goal.loop-left-preserved
-loop-left-preserved c =
-    let turn = each_more _ _ _ _ _ _ c.loop-left-test.true c.if-not-ok.false c.fresh-ok.ensures in
-    record {
-      runs = rw c.next_region-j.ensures (sym turn ∙ c.loop-left.invariant.runs);
-      counts = omega (arith, c.next_region-j.ensures);
-    }
-
-pub returns : goal.returns
-returns c = sym (each_end _ _ _ _ c.loop-left-test.false) ∙ c.loop-left.invariant.runs
+pub returns-in_err-fresh-clause-fresh : goal.returns-in_err-fresh-clause-fresh
+returns-in_err-fresh-clause-fresh c =
+    let p = err_from_is_err_and c.from_residual.result c.from_residual.ensures.1 in
+    let fresh = rw (c.region_numbered.ensures, c.loop-j.invariant.same.exponent) at c.in_err-fresh.ensures.fresh in
+    rw p.1 (sym (fresh_over _ _ _ _ _ c.loop-j-test.true fresh) ∙ c.loop-j.invariant.runs)

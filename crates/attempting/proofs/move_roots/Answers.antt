@@ -1,15 +1,11 @@
--- `attempting::move_roots` meets its contract: the roots from i on are still to be moved.
+-- `attempting::move_roots` meets its contract: a root whose value finds no page ends the definition's loop.
 use mathlib.Core.Path.{sym, ◌∙◌}
-use Rattle.laws.proofs.Each.{each_of_more, each_of_over, each_of_end}
+use Rattle.std.proofs.lemmas.Result.{err_from_is_err_and}
+use Rattle.attempting.proofs.Turns.{root_over}
 use Rattle.attempting.proofs.move_roots.Goals as goal
 
-pub returns-then-not-ok : goal.returns-then-not-ok
-returns-then-not-ok c =
-    sym (each_of_over _ _ _ _ _ _ _ c.loop-i-test.true c.word-w.ensures.0 c.if-not-ok.true c.move_root-ok.ensures) ∙ c.loop-i.invariant
-
-pub loop-i-preserved : goal.loop-i-preserved
-loop-i-preserved c =
-    sym (each_of_more _ _ _ _ _ _ _ c.loop-i-test.true c.word-w.ensures.0 c.if-not-ok.false c.move_root-ok.ensures) ∙ c.loop-i.invariant
-
-pub returns : goal.returns
-returns c = sym (each_of_end _ _ _ _ c.loop-i-test.false) ∙ c.loop-i.invariant
+pub returns-in_err-move_root-clause-moved : goal.returns-in_err-move_root-clause-moved
+returns-in_err-move_root-clause-moved c =
+    let p = err_from_is_err_and c.from_residual.result c.from_residual.ensures.1 in
+    let moved = rw c.loop-w.invariant.same.exponent at c.in_err-move_root.ensures.moved in
+    rw p.1 (sym (root_over _ _ _ _ _ c.loop-w-test.true moved) ∙ c.loop-w.invariant.runs)

@@ -1,21 +1,29 @@
 -- `audit::audit` meets its contract: the first tests, and then the first broken rule, if there is one.
-use Rattle.rules.specs.declared.Refused.{Refused}
-use Rattle.rules.specs.Refusals.{refusing}
+use Rattle.std.specs.Prelude.{Err}
+use Rattle.std.proofs.lemmas.Result.{err_from_is_err_and}
+use mathlib.Core.Path.{refl, ap, ◌∙◌}
 use native.Mathlib.Omega.{arith}
+use Rattle.rules.specs.Memory.{store}
+use Rattle.rules.specs.Audit.{broken_rule}
 use Rattle.rules.specs.Calls.{audit as auditOf}
-use Rattle.limits.proofs.First.{tests_refuse, tests_pass, tests_admit}
+use Rattle.limits.specs.First.{tests_of}
+use Rattle.limits.proofs.First.{refused_first, tests_pass}
 use Rattle.audit.proofs.Order.{audit_broken, audit_passes}
 use Rattle.audit.proofs.audit.Goals as goal
 
-pub returns-in-Refused : goal.returns-in-Refused
+pub returns-in_err-admit : goal.returns-in_err-admit
 unfolding auditOf
-returns-in-Refused c = tests_refuse _ _ _ _ _ c.first_tests-tested.ensures (λ r. refusing r c.args.c) _ c.in-Refused.is
+returns-in_err-admit c =
+    let p = err_from_is_err_and c.from_residual.result c.from_residual.ensures.1 in
+    rw (p.1, p.2) (refused_first (store c.args.lent) Err _ c.in_err-admit.ensures)
 
-pub broken_rule-rule-requires : goal.broken_rule-rule-requires
-broken_rule-rule-requires c = tests_admit _ _ _ _ _ c.first_tests-tested.ensures c.in_default.is
-
+-- the first tests are passed, and the rule is the first broken one
 pub returns-then-rule-gt0 : goal.returns-then-rule-gt0
-returns-then-rule-gt0 c = let f = tests_pass _ _ _ _ _ c.first_tests-tested.ensures c.in_default.is in audit_broken _ f.0 f.1 _ c.broken_rule-rule.ensures (omega arith)
+returns-then-rule-gt0 c =
+    let f = tests_pass _ _ _ _ _ {t = tests_of (store c.args.lent)} refl c.in_ok-admit.ensures.1 in
+    audit_broken (store c.args.lent) f.0 f.1 _ (c.broken_rule-rule.ensures ∙ ap (λ l. broken_rule (store l)) c.in_ok-admit.ensures.0) (omega arith)
 
 pub returns : goal.returns
-returns c = let f = tests_pass _ _ _ _ _ c.first_tests-tested.ensures c.in_default.is in audit_passes _ f.0 f.1 _ c.broken_rule-rule.ensures (omega arith)
+returns c =
+    let f = tests_pass _ _ _ _ _ {t = tests_of (store c.args.lent)} refl c.in_ok-admit.ensures.1 in
+    audit_passes (store c.args.lent) f.0 f.1 _ (c.broken_rule-rule.ensures ∙ ap (λ l. broken_rule (store l)) c.in_ok-admit.ensures.0) (omega arith)

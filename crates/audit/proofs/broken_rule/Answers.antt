@@ -33,9 +33,6 @@ pub returns-then-not-rule8 : goal.returns-then-not-rule8
 unfolding broken_rule
 returns-then-not-rule8 c = sym (broken_go _ _ _ _ (told_true c.rule2.ensures c.if-not-rule2.false) ∙ broken_go _ _ _ _ (told_true c.rule3.ensures c.if-not-rule3.false) ∙ broken_go _ _ _ _ (told_true c.rule4.ensures c.if-not-rule4.false) ∙ broken_go _ _ _ _ (told_true c.rule5.ensures c.if-not-rule5.false) ∙ broken_go _ _ _ _ (told_true c.rule6.ensures c.if-not-rule6.false) ∙ broken_go _ _ _ _ (told_true c.rule7.ensures c.if-not-rule7.false) ∙ broken_here _ _ _ _ (told_false c.rule8.ensures c.if-not-rule8.true))
 
-pub rule9-requires : goal.rule9-requires
-rule9-requires c = c.requires
-
 pub returns-then-not-rule9 : goal.returns-then-not-rule9
 unfolding broken_rule
 returns-then-not-rule9 c = sym (broken_go _ _ _ _ (told_true c.rule2.ensures c.if-not-rule2.false) ∙ broken_go _ _ _ _ (told_true c.rule3.ensures c.if-not-rule3.false) ∙ broken_go _ _ _ _ (told_true c.rule4.ensures c.if-not-rule4.false) ∙ broken_go _ _ _ _ (told_true c.rule5.ensures c.if-not-rule5.false) ∙ broken_go _ _ _ _ (told_true c.rule6.ensures c.if-not-rule6.false) ∙ broken_go _ _ _ _ (told_true c.rule7.ensures c.if-not-rule7.false) ∙ broken_go _ _ _ _ (told_true c.rule8.ensures c.if-not-rule8.false) ∙ broken_here _ _ _ _ (told_false c.rule9.ensures c.if-not-rule9.true))

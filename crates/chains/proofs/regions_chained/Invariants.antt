@@ -11,13 +11,7 @@ use Rattle.chains.specs.Walked.{bear, region_chained}
 use Rattle.chains.proofs.regions_chained.Given as goal
 
 abbrev pub invariant-pages : goal.invariant-pages
-invariant-pages l = ((bear l.n l.heap (suc l.j.0) (chain l.left l.n l.heap l.link) && (eqb (chain_end l.left l.n l.heap l.link) 0 && all_from (region_chained l.n l.heap l.table) (l.regions_left - 1) (l.j.0 + 1))) ≡ all_from (region_chained l.n l.heap l.table) l.regions 0) × (l.passed + (length (chain l.left l.n l.heap l.link) + length (pages_from l.n l.heap l.table (l.regions_left - 1) (l.j.0 + 1))) ≡ length (pages_from l.n l.heap l.table l.regions 0))
+invariant-pages l = ((bear l.n l.heap (suc l.j) (chain (l.pages - l.counter) l.n l.heap l.link) && (eqb (chain_end (l.pages - l.counter) l.n l.heap l.link) 0 && all_from (region_chained l.n l.heap l.table) (l.regions - l.j - 1) (l.j + 1))) ≡ all_from (region_chained l.n l.heap l.table) l.regions 0) × (l.passed + (length (chain (l.pages - l.counter) l.n l.heap l.link) + length (pages_from l.n l.heap l.table (l.regions - l.j - 1) (l.j + 1))) ≡ length (pages_from l.n l.heap l.table l.regions 0))
 
-abbrev pub decreases-pages : goal.decreases-pages
-decreases-pages l = l.left
-
-abbrev pub invariant-regions : goal.invariant-regions
-invariant-regions l = (all_from (region_chained l.n l.heap l.table) l.regions_left l.j.0 ≡ all_from (region_chained l.n l.heap l.table) l.regions 0) × (l.j.0 + l.regions_left ≡ l.regions) × (l.passed + length (pages_from l.n l.heap l.table l.regions_left l.j.0) ≡ length (pages_from l.n l.heap l.table l.regions 0))
-
-abbrev pub decreases-regions : goal.decreases-regions
-decreases-regions l = l.regions_left
+abbrev pub invariant-loop-j : goal.invariant-loop-j
+invariant-loop-j l = (all_from (region_chained l.n l.heap l.table) (l.regions - l.j) l.j ≡ all_from (region_chained l.n l.heap l.table) l.regions 0) × (l.passed + length (pages_from l.n l.heap l.table (l.regions - l.j) l.j) ≡ length (pages_from l.n l.heap l.table l.regions 0))

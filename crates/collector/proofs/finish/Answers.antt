@@ -5,7 +5,8 @@ use Rattle.collector.proofs.finish.Goals as goal
 pub returns : goal.returns
 returns c =
     λ k. finished _ _ _ _ _ _ _ _ _ _ _ _ k
-    c.page_count-pages.ensures
+    c.pages_of-pages.ensures.0
+    c.pages_of-pages.ensures.1
     c.write_roots.ensures
     c.own_all.ensures
     (search c.give_all.ensures)

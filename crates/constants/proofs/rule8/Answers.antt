@@ -5,13 +5,13 @@ use Rattle.constants.proofs.Constants.{eight_off, eight_at}
 use Rattle.constants.proofs.rule8.Goals as goal
 
 pub consts_filled-requires : goal.consts_filled-requires
-consts_filled-requires c = c.requires.consts
+consts_filled-requires c = c.args.admitted.fits.consts
 
 pub returns-then-not-consts_filled : goal.returns-then-not-consts_filled
 returns-then-not-consts_filled c = sym (eight_off _ _ _ _ _ (told_false c.consts_filled.ensures c.if-not-consts_filled.true))
 
 pub const_fields-requires : goal.const_fields-requires
-const_fields-requires c = c.requires.consts
+const_fields-requires c = c.args.admitted.fits.consts
 
 pub returns : goal.returns
 returns c = c.const_fields.ensures ∙ sym (eight_at _ _ _ _ _ (told_true c.consts_filled.ensures c.if-not-consts_filled.false))

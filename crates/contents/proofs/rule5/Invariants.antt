@@ -10,19 +10,13 @@ use Rattle.contents.proofs.Turns.{Rest}
 use Rattle.contents.proofs.rule5.Given as goal
 
 abbrev pub invariant-values : goal.invariant-values
-invariant-values l = Rest l.heap l.at.0 l.end.0 (get_or l.heap l.base.0 0) l.top.0 (all (page_filled l.n l.heap l.table l.j.0) (chain (l.left - 1) l.n l.heap (get_or l.heap l.base.0 0)) && all_from (λ i. all (page_filled l.n l.heap l.table i) (region_pages l.n l.heap l.table i)) (l.regions_left - 1) (l.j.0 + 1)) ≡ all_from (λ i. all (page_filled l.n l.heap l.table i) (region_pages l.n l.heap l.table i)) l.regions 0
+invariant-values l = Rest l.heap l.at.0 l.end.0 (get_or l.heap l.base.0 0) l.top.0 (all (page_filled l.n l.heap l.table l.j) (chain (l.pages - l.counter - 1) l.n l.heap (get_or l.heap l.base.0 0)) && all_from (λ i. all (page_filled l.n l.heap l.table i) (region_pages l.n l.heap l.table i)) (l.regions - l.j - 1) (l.j + 1)) ≡ all_from (λ i. all (page_filled l.n l.heap l.table i) (region_pages l.n l.heap l.table i)) l.regions 0
 
 abbrev pub decreases-values : goal.decreases-values
 decreases-values l = l.end.0 - l.at.0
 
 abbrev pub invariant-pages : goal.invariant-pages
-invariant-pages l = ((all (page_filled l.n l.heap l.table l.j.0) (chain l.left l.n l.heap l.link) && all_from (λ i. all (page_filled l.n l.heap l.table i) (region_pages l.n l.heap l.table i)) (l.regions_left - 1) (l.j.0 + 1)) ≡ all_from (λ i. all (page_filled l.n l.heap l.table i) (region_pages l.n l.heap l.table i)) l.regions 0) × (l.fine ≡ true)
-
-abbrev pub decreases-pages : goal.decreases-pages
-decreases-pages l = l.left
+invariant-pages l = ((all (page_filled l.n l.heap l.table l.j) (chain (l.pages - l.counter) l.n l.heap l.link) && all_from (λ i. all (page_filled l.n l.heap l.table i) (region_pages l.n l.heap l.table i)) (l.regions - l.j - 1) (l.j + 1)) ≡ all_from (λ i. all (page_filled l.n l.heap l.table i) (region_pages l.n l.heap l.table i)) l.regions 0) × (l.fine ≡ true)
 
 abbrev pub invariant-regions : goal.invariant-regions
-invariant-regions l = (all_from (λ i. all (page_filled l.n l.heap l.table i) (region_pages l.n l.heap l.table i)) l.regions_left l.j.0 ≡ all_from (λ i. all (page_filled l.n l.heap l.table i) (region_pages l.n l.heap l.table i)) l.regions 0) × (l.fine ≡ true) × (l.j.0 + l.regions_left ≡ l.regions)
-
-abbrev pub decreases-regions : goal.decreases-regions
-decreases-regions l = l.regions_left
+invariant-regions l = (all_from (λ i. all (page_filled l.n l.heap l.table i) (region_pages l.n l.heap l.table i)) (l.regions - l.j) l.j ≡ all_from (λ i. all (page_filled l.n l.heap l.table i) (region_pages l.n l.heap l.table i)) l.regions 0) × (l.fine ≡ true)

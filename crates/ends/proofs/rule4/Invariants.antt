@@ -9,13 +9,7 @@ use Rattle.ends.proofs.Turns.{region_ends}
 use Rattle.ends.proofs.rule4.Given as goal
 
 abbrev pub invariant-pages : goal.invariant-pages
-invariant-pages l = ((all (ends_at l.n l.heap l.table l.j.0) (chain l.left l.n l.heap l.link) && all_from (region_ends l.n l.heap l.table) (l.regions_left - 1) (l.j.0 + 1)) ≡ all_from (region_ends l.n l.heap l.table) l.regions 0) × (l.fine ≡ true)
-
-abbrev pub decreases-pages : goal.decreases-pages
-decreases-pages l = l.left
+invariant-pages l = ((all (ends_at l.n l.heap l.table l.j) (chain (l.pages - l.counter) l.n l.heap l.link) && all_from (region_ends l.n l.heap l.table) (l.regions - l.j - 1) (l.j + 1)) ≡ all_from (region_ends l.n l.heap l.table) l.regions 0) × (l.fine ≡ true)
 
 abbrev pub invariant-regions : goal.invariant-regions
-invariant-regions l = (all_from (region_ends l.n l.heap l.table) l.regions_left l.j.0 ≡ all_from (region_ends l.n l.heap l.table) l.regions 0) × (l.fine ≡ true) × (l.j.0 + l.regions_left ≡ l.regions)
-
-abbrev pub decreases-regions : goal.decreases-regions
-decreases-regions l = l.regions_left
+invariant-regions l = (all_from (region_ends l.n l.heap l.table) (l.regions - l.j) l.j ≡ all_from (region_ends l.n l.heap l.table) l.regions 0) × (l.fine ≡ true)

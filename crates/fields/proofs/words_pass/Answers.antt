@@ -1,18 +1,10 @@
--- `fields::words_pass` meets its contract: what is left to test, from the present word on, is the whole test.
-use mathlib.Core.Path.{sym, ◌∙◌}
-use native.Mathlib.Nat.{le_refl}
-use Rattle.laws.proofs.Tests.{fields_all, fields_end, fields_go, fields_stop}
-use Rattle.laws.proofs.Turned.{told_true, told_false}
+-- `fields::words_pass` meets its contract: the words are tested one by one, as the definition tests them.
+use mathlib.Core.Path.{◌∙◌}
+use borrow.Author.Rules.{rules}
+use Rattle.std.proofs.lemmas.Iterator.{YieldsList-from_slice}
+use Rattle.std.proofs.lemmas.Iterator.Search.{all_from_yields_List}
+use Rattle.fields.proofs.Turns.{list_all_lem}
 use Rattle.fields.proofs.words_pass.Goals as goal
 
-pub word_passes-requires : goal.word_passes-requires
-word_passes-requires c = c.requires
-
-pub returns-then-not-word_passes : goal.returns-then-not-word_passes
-returns-then-not-word_passes c = sym (fields_stop _ _ _ _ _ c.loop-i-test.true (le_refl _) (told_false c.word_passes.ensures c.if-not-word_passes.true)) ∙ c.loop-i.invariant ∙ fields_all _ _
-
-pub loop-i-preserved : goal.loop-i-preserved
-loop-i-preserved c = sym (fields_go _ _ _ _ _ c.loop-i-test.true (le_refl _) (told_true c.word_passes.ensures c.if-not-word_passes.false)) ∙ c.loop-i.invariant
-
 pub returns : goal.returns
-returns c = sym (fields_end _ _ _ _ _ c.loop-i-test.false) ∙ c.loop-i.invariant ∙ fields_all _ _
+returns g c = all_from_yields_List g.p _ _ _ c.all.ensures.ran (YieldsList-from_slice _ c.iter.ensures.rest) (λ x b q k. search (rules, c.requires.1.1)) ∙ list_all_lem _ _

@@ -1,17 +1,12 @@
--- `pages::all_zero` meets its contract: what is left from place i on is all zero exactly if the whole is, as long as each word was 0.
-use mathlib.Core.Path.{refl, sym, ◌∙◌}
-use native.Mathlib.Omega.{arith}
-use Rattle.laws.proofs.Tests.{zeros_none, zeros_next, zeros_found}
+-- `pages::all_zero` meets its contract: the chain tests each word, as the definition does.
+use mathlib.Core.Path.{◌∙◌}
+use lib.Dec.{eqb}
+use Rattle.std.proofs.Common.{rules}
+use Rattle.std.proofs.lemmas.Iterator.{YieldsList-from_slice}
+use Rattle.std.proofs.lemmas.Iterator.Search.{all_from_yields_List}
+use Rattle.pages.proofs.Zeros.{zeros_tested}
 use Rattle.pages.proofs.all_zero.Goals as goal
 
-pub loop-i-init : goal.loop-i-init
-loop-i-init c = (refl, omega arith)
-
-pub returns-then-words-i-ne0 : goal.returns-then-words-i-ne0
-returns-then-words-i-ne0 c = sym (zeros_found _ _ c.loop-i-test.true c.if-words-i-ne0.true) ∙ c.loop-i.invariant.0
-
-pub loop-i-preserved : goal.loop-i-preserved
-loop-i-preserved c = (sym (zeros_next _ _ c.loop-i-test.true c.if-words-i-ne0.false) ∙ c.loop-i.invariant.0, omega arith)
-
 pub returns : goal.returns
-returns c = sym (zeros_none _ _ c.loop-i-test.false) ∙ c.loop-i.invariant.0
+returns c =
+    all_from_yields_List (λ w. eqb w 0) _ _ _ c.all.ensures.ran (YieldsList-from_slice c.args.words.now cc) (λ x b q k. search rules) ∙ zeros_tested _

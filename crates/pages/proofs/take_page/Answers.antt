@@ -1,4 +1,5 @@
 -- `pages::take_page` meets its contract: page k lies inside the heap, and its two words are written in the order of `take_page`.
+use mathlib.Core.Path.{refl}
 use native.Mathlib.Omega.{arith}
 use lib.ListN.{length-set}
 use Rattle.rules.proofs.Limits.{page_number}
@@ -23,5 +24,5 @@ offset_bounds-heap-i-2 c = let i = free_inside _ _ _ c.requires.0 c.requires.1 i
 pub bounds-heap-i-2 : goal.bounds-heap-i-2
 bounds-heap-i-2 c = let i = free_inside _ _ _ c.requires.0 c.requires.1 in simp length-set (omega (arith, c.page_address-start.ensures))
 
-pub returns : goal.returns
-returns c = λ t. rw (c.page_address-start.ensures, c.region_origin.ensures) (took _ _ c.args.c _ _ _ _ _ c.requires.0.some_first c.requires.1 c.free_after-rest.ensures.0 c.free_after-rest.ensures.1 c.free_after-rest.ensures.2)
+pub returns-clause-run : goal.returns-clause-run
+returns-clause-run c = λ t. rw (c.free_after-rest.ensures, c.page_address-start.ensures, c.region_origin.ensures) (took _ _ c.args.c _ _ _ _ _ c.requires.0.some_first c.requires.1 refl refl refl)

@@ -1,22 +1,27 @@
--- `paths::walk` meets its contract: the first tests, the root's number, and then the walk from that root's word.
-use Rattle.rules.specs.declared.Refused.{Refused}
-use Rattle.rules.specs.Refusals.{refusing}
+-- `paths::walk` meets its contract: the first tests, the root's number, and then the walk from the root's word.
+use mathlib.Core.Path.{◌≡◌, ap, ◌∙◌}
 use borrow.Author.Tests.{le-leb, lt-leb}
-use Rattle.rules.specs.Calls.{walk}
-use Rattle.limits.proofs.First.{tests_refuse, tests_pass, tests_admit}
+use Rattle.std.specs.Prelude.{Err}
+use Rattle.std.proofs.lemmas.Result.{err_from_is_err_and}
+use Rattle.rules.specs.Calls.{walk, walk_says}
+use Rattle.rules.specs.Memory.{store}
+use Rattle.limits.proofs.First.{refused_first, admitted_first}
 use Rattle.paths.proofs.walk.Goals as goal
 
-pub returns-in-Refused : goal.returns-in-Refused
+pub returns-in_err-admit : goal.returns-in_err-admit
 unfolding walk
-returns-in-Refused c = tests_refuse _ _ _ _ _ c.first_tests-tested.ensures (λ r. refusing r c.args.c) _ c.in-Refused.is
+returns-in_err-admit c =
+    let p = err_from_is_err_and c.from_residual.result c.from_residual.ensures.1 in
+    rw (p.1, p.2) (refused_first (store c.args.lent) Err _ c.in_err-admit.ensures)
 
 pub returns-then-roots-root : goal.returns-then-roots-root
 unfolding walk
-returns-then-roots-root c = let f = tests_pass _ _ _ _ _ c.first_tests-tested.ensures c.in_default.is in rw (f.0, f.1, le-leb _ _ c.if-roots-root.true)
+returns-then-roots-root c = rw (admitted_first (store c.args.lent) _ _ c.in_ok-admit.ensures.1, le-leb _ _ c.if-roots-root.true)
 
-pub walk_pieces-requires : goal.walk_pieces-requires
-walk_pieces-requires c = let a = tests_admit _ _ _ _ _ c.first_tests-tested.ensures c.in_default.is in (a.paged, a.consts)
-
-pub returns : goal.returns
+pub returns-in-Ok : goal.returns-in-Ok
 unfolding walk
-returns c = let f = tests_pass _ _ _ _ _ c.first_tests-tested.ensures c.in_default.is in rw (f.0, f.1, lt-leb _ _ c.if-roots-root.false) c.walk_pieces.ensures
+returns-in-Ok c = rw (admitted_first (store c.args.lent) _ _ c.in_ok-admit.ensures.1, lt-leb _ _ c.if-roots-root.false, ← c.in-Ok.ensures)
+
+pub returns-in-Err : goal.returns-in-Err
+unfolding walk
+returns-in-Err c = rw (admitted_first (store c.args.lent) _ _ c.in_ok-admit.ensures.1, lt-leb _ _ c.if-roots-root.false, ← c.in-Err.ensures)

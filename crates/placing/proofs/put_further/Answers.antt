@@ -1,6 +1,6 @@
 -- `placing::put_further` meets its contract: there is no page, or one with a link that does not fit; or the page is taken, joined and filled.
 use Prim.Native.Nat.{◌-◌}
-use mathlib.Core.Path.{◌≡◌, sym, ap, ◌∙◌}
+use mathlib.Core.Path.{◌≡◌, refl, sym, ap, ◌∙◌}
 use mathlib.Core.List.{◌∷◌}
 use native.Mathlib.Omega.{arith}
 use lib.ListN.{length}
@@ -49,5 +49,5 @@ address_pointer-requires c = let i = free_inside _ _ _ (free (goal.at.address_po
 pub returns : goal.returns
 returns c =
     λ r k.
-    rw (c.address_pointer.ensures, c.store_value.ensures.0, c.store_value.ensures.1, c.join_page.ensures.0, c.join_page.ensures.1, c.body_address-body.ensures)
-    (sym (value_grown (lent c.args.heap.now c.args.table.now r k c.args.c) c.args.j.0 (c.args.header ∷ c.args.words.now) c.requires.1 _ _ _ _ _ c.if-c-eq0.false (link-is (goal.at.returns c).After-link_fits ∙ c.if-not-link_fits.false) (took c.args.heap.now c.args.table.now c.args.c c.args.j.0 _ _ _ _ (free (goal.at.returns c).Else-c-eq0).some_first c.link_page-k.ensures c.free_after-rest.ensures.0 c.free_after-rest.ensures.1 c.free_after-rest.ensures.2) c.requires.0.rows c.requires.0.region))
+    rw (c.free_after-rest.ensures, c.address_pointer.ensures, c.store_value.ensures.0, c.store_value.ensures.1, c.join_page.ensures.0, c.join_page.ensures.1, c.body_address-body.ensures)
+    (sym (value_grown (lent c.args.heap.now c.args.table.now r k c.args.c) c.args.j.0 (c.args.header ∷ c.args.words.now) c.requires.1 _ _ _ _ _ c.if-c-eq0.false (link-is (goal.at.returns c).After-link_fits ∙ c.if-not-link_fits.false) (took c.args.heap.now c.args.table.now c.args.c c.args.j.0 _ _ _ _ (free (goal.at.returns c).Else-c-eq0).some_first c.link_page-k.ensures refl refl refl) c.requires.0.rows c.requires.0.region))

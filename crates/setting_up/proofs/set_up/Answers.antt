@@ -36,4 +36,4 @@ unfolding set_up
 returns c =
     let b = two_pages _ _ (inside (goal.at.returns c).Else-not-within_limits).paged (inside (goal.at.returns c).Else-not-within_limits).two in
     let n : suc (length c.args.heap.now / 2 ^ c.args.n - 1) ≡ length c.args.heap.now / 2 ^ c.args.n = omega arith in
-    rw (← c.within_limits.ensures, c.if-not-within_limits.false, c.list_pages.ensures, c.clear.auto.part, c.clear-2.ensures, c.fill.ensures, c.page_link-last.ensures, c.page_numbered.ensures, c.page_link.ensures, c.page_numbered-2.ensures, c.page_count-pages.ensures, n)
+    rw (← c.within_limits.ensures, c.if-not-within_limits.false, c.list_pages.ensures, c.clear.auto.part, c.clear-2.ensures, c.fill.ensures.after (λ y e. e), c.page_link-last.ensures, c.page_numbered.ensures, c.page_link.ensures, c.page_numbered-2.ensures, c.page_count-pages.ensures, n)

@@ -1,14 +1,11 @@
--- `undoing::relink_all` meets its contract: the loop runs `along` over the links that the origin words have kept.
-use Prim.Native.Nat.{◌<◌}
-use mathlib.Core.Path.{◌≡◌}
-use Rattle.motion.specs.Whole.{relink_all}
+-- `undoing::relink_all` meets its contract: what is left of the walk along the links that the origin words have kept leaves what the whole leaves.
+use Rattle.leaves.proofs.Walks.{Walking}
+use Rattle.rules.specs.Memory.{origin}
+use Rattle.motion.specs.Whole.{relink}
 use Rattle.undoing.proofs.relink_all.Given as goal
 
-abbrev pub invariant-loop-left : goal.invariant-loop-left
-invariant-loop-left l = record {
-  runs : relink_all l.n l.left l.pages l.link l.heap ≡ relink_all l.n l.taken l.pages l.first l.initial.heap;
-  link_fits : l.link < 4294967296;
-}
+abbrev pub invariant-loop-k : goal.invariant-loop-k
+invariant-loop-k l = Walking origin (relink l.pages.n) l.pages l.taken l.first l.initial.heap l.heap l.chain
 
-abbrev pub decreases-loop-left : goal.decreases-loop-left
-decreases-loop-left l = l.left
+abbrev pub decreases-loop-k : goal.decreases-loop-k
+decreases-loop-k l = l.chain.left

@@ -1,18 +1,17 @@
--- `undoing::undo_headers` meets its contract: the loop runs `steps`, and a turn is what `undo_chain` does.
-use Prim.Native.Nat.{◌+◌}
+-- `undoing::undo_headers` meets its contract: the regions below i are done, and what is left of the walk along region i's chain leaves what the whole leaves.
 use mathlib.Core.Path.{◌≡◌}
-use Rattle.laws.specs.Each.{steps}
-use Rattle.rules.specs.Memory.{first_link}
-use Rattle.motion.specs.Whole.{undo_chain}
+use Rattle.leaves.proofs.Walks.{Walking}
+use Rattle.rules.specs.Memory.{link, first_link}
+use Rattle.motion.specs.Whole.{undo_page, undo_headers}
 use Rattle.undoing.proofs.undo_headers.Given as goal
 
-abbrev pub invariant-loop-left : goal.invariant-loop-left
-invariant-loop-left l = record {
-  runs :
-      steps l.left (λ i. undo_chain l.n l.pages (first_link l.n l.table i)) l.j.0 l.heap ≡
-      steps l.regions (λ i. undo_chain l.n l.pages (first_link l.n l.table i)) 0 l.initial.heap;
-  counts : l.j.0 + l.left ≡ l.regions;
-}
+abbrev pub invariant-loop-i : goal.invariant-loop-i
+invariant-loop-i l = l.heap ≡ undo_headers l.pages.n l.pages.count l.i l.table l.initial.heap
 
-abbrev pub decreases-loop-left : goal.decreases-loop-left
-decreases-loop-left l = l.left
+abbrev pub invariant-loop-k : goal.invariant-loop-k
+invariant-loop-k l =
+    Walking link (undo_page l.pages.n) l.pages l.pages.count (first_link l.pages.n l.table l.i) l.initial.heap
+    l.heap l.chain
+
+abbrev pub decreases-loop-k : goal.decreases-loop-k
+decreases-loop-k l = l.chain.left

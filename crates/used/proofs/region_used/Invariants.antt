@@ -1,13 +1,10 @@
 -- `used::region_used` meets its contract. The invariant: the words counted and those of the pages that are left are the region's, and at most 256
--- were counted for each page passed, so that a sum never wraps. The measure is the pages that may still be passed.
+-- were counted for each page passed, so that a sum never wraps.
 use mathlib.Core.Path.{◌≡◌}
-use Prim.Native.Nat.{◌+◌, ◌*◌, ◌≤◌}
+use Prim.Native.Nat.{◌+◌, ◌-◌, ◌*◌, ◌≤◌}
 use Rattle.rules.specs.Memory.{chain}
 use Rattle.rules.specs.Audit.{used_on}
 use Rattle.used.proofs.region_used.Given as goal
 
 abbrev pub invariant-pages : goal.invariant-pages
-invariant-pages l = (l.used + used_on l.n l.heap (chain l.left l.n l.heap l.link) ≡ used_on l.n l.heap (chain l.pages l.n l.heap l.initial.link)) × (l.used + 256 * l.left ≤ 256 * l.pages)
-
-abbrev pub decreases-pages : goal.decreases-pages
-decreases-pages l = l.left
+invariant-pages l = (l.used + used_on l.n l.heap (chain (l.pages - l.counter) l.n l.heap l.link) ≡ used_on l.n l.heap (chain l.pages l.n l.heap l.initial.link)) × (l.used + 256 * (l.pages - l.counter) ≤ 256 * l.pages)

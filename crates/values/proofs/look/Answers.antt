@@ -9,7 +9,7 @@ returns-then-not-good_heap c = c.nothing.ensures
     ∙ sym (look_no_heap _ _ _ _ _ _ c.pointer_address-a.ensures c.if-w-eq0.true (told_false c.good_heap.ensures c.if-not-good_heap.true))
 
 pub value_at-requires : goal.value_at-requires
-value_at-requires c = good_fits _ _ _ _ c.requires.0 (told_true c.good_heap.ensures c.if-not-good_heap.false)
+value_at-requires c = good_fits _ _ _ _ c.args.memory.paged (told_true c.good_heap.ensures c.if-not-good_heap.false)
 
 pub returns-then-w-eq0 : goal.returns-then-w-eq0
 returns-then-w-eq0 c = c.value_at.ensures
