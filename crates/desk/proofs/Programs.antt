@@ -133,7 +133,7 @@ module _ (text heap table roots consts : List ℕ) (fits : lengths_fit (head_fro
     answers_done fs q = ap (λ (x : Outcome (Result Control Refusal)). x.answer) (e ∙ read_frames_lem fs q)
 
     answers_refused : (line : ℕ) → read_text text ≡ malformed line → o.answer ≡ Err (Refusal.Malformed line)
-    answers_refused line q = ap (λ (x : Outcome (Result Control Refusal)). x.answer) (e ∙ sym (read_malformed text heap table roots consts line (ap judged_as q)))
+    answers_refused line q = ap (λ (x : Outcome (Result Control Refusal)). x.answer) (e ∙ sym (read_malformed text heap table roots consts (Refusal.Malformed line) (ap judged_as q)))
 
     pub read_refused : (why : Refusal) → o.answer ≡ Err why → refusal_text why ≡ program_on (read_text text)
     read_refused why r = go (read_text text) refl

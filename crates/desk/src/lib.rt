@@ -12,7 +12,7 @@ ghost use Rattle.desk.specs.Taking.{takes_head};
 use image::read_image;
 use printing::{print_collected, print_refusal};
 use reading::{Head, heap_words, read_head};
-use rules::{Opened, Refusal};
+use rules::Refusal;
 
 // Reads the image into parts of the lengths that its first frame says, collects, and prints.
 fn print_read(
@@ -30,8 +30,8 @@ fn print_read(
     ensures { Printed (program_on (read_text text.now)) out.old out.new result }
 {
     match read_image(text, heap, table, roots, consts) {
-        Opened::Refused(why) => print_refusal(why, out),
-        Opened::Done(c) => print_collected(heap, table, roots, consts, c, out),
+        Err(why) => print_refusal(why, out),
+        Ok(c) => print_collected(heap, table, roots, consts, c, out),
     }
 }
 
@@ -40,16 +40,7 @@ fn print_read(
 fn takes_head(h: Head) -> bool
     ensures { result ≡ takes_head h }
 {
-    if 8 < h.n {
-        return false;
-    }
-    if 4096 < heap_words(h.pages, h.n) {
-        return false;
-    }
-    if 1024 < h.roots {
-        return false;
-    }
-    h.consts <= 1024
+    h.n <= 8 && heap_words(h.pages, h.n) <= 4096 && h.roots <= 1024 && h.consts <= 1024
 }
 
 // Cuts the parts to the lengths that the first frame says, and goes on with them.

@@ -3,14 +3,14 @@
 #![tactic(auto)]
 
 ghost use Rattle.std.specs.Prelude.{◌≤◌, length};
-ghost use Rattle.rules.specs.Memory.{lent};
-ghost use Rattle.rules.specs.Refusals.{Admitted};
+ghost use Rattle.rules.specs.Memory.{lent, store};
 ghost use Rattle.rules.specs.Image.{image_text, refusal_text};
 ghost use Rattle.printing.specs.Printed.{longest, Printed, collected_from};
 
 use collection::collect;
 use conversions::{refusal_number, refusal_place};
-use rules::{Control, Plain, Refusal};
+use limits::Admitted;
+use rules::{Control, Lent, Refusal};
 use writing::{text_length, write_frame, write_text};
 
 // The frame of a refusal, its number and its place.
@@ -25,28 +25,15 @@ pub fn print_refusal(why: Refusal, out: &mut [u8]) -> usize
     23
 }
 
-// The image of a heap that the tests of writing pass.
-fn print_image(
-    heap: &[u32],
-    table: &[u32],
-    roots: &[u32],
-    consts: &[u32],
-    c: Control,
-    out: &mut [u8],
-) -> usize
-    requires { Admitted (length heap.now) (length table.now) (length roots.now) (length consts.now) c
-        × (length heap.now ≤ 4096)
-        × (length consts.now ≤ 1024)
+// The image of a heap that the tests of every call pass.
+fn print_image(heap: Admitted<'_>, out: &mut [u8]) -> usize
+    requires { (length heap.lent.heap.now ≤ 4096)
+        × (length heap.lent.consts.now ≤ 1024)
         × (longest ≤ length out.old) }
-    ensures { Printed
-        (image_text (lent heap.now table.now roots.now consts.now c))
-        out.old
-        out.new
-        result }
+    ensures { Printed (image_text (store heap.entry.lent)) out.old out.new result }
 {
-    let length = text_length(heap, table, roots, consts, c);
-    write_text(out, heap, table, roots, consts, c);
-    length
+    write_text(out, heap);
+    text_length(heap)
 }
 
 // Collects, and prints the heap or the refusal.
@@ -66,7 +53,16 @@ pub fn print_collected(
         result }
 {
     match collect(heap, table, roots, consts, c) {
-        Plain::Refused(why, _) => print_refusal(why, out),
-        Plain::Done(after) => print_image(heap, table, roots, consts, after, out),
+        Err(refused) => print_refusal(refused.why, out),
+        Ok(after) => {
+            let lent = Lent {
+                heap,
+                table,
+                roots,
+                consts,
+                control: after,
+            };
+            print_image(Admitted { lent }, out)
+        }
     }
 }

@@ -4,11 +4,11 @@ use Rattle.printing.proofs.Lengths.{printed_as}
 use Rattle.printing.proofs.Collected.{left_admitted, collected_image, collected_refused}
 use Rattle.printing.proofs.print_collected.Goals as goal
 
-pub print_image-requires : goal.print_image-requires
-print_image-requires c = (left_admitted _ _ _ c.in-Done.is c.collect.ensures, omega arith, omega arith, omega arith)
+pub invariant_of-print_image : goal.invariant_of-print_image
+invariant_of-print_image c = record { fits = left_admitted _ _ _ c.in-Ok.is c.collect.ensures }
 
-pub returns-in-Refused : goal.returns-in-Refused
-returns-in-Refused c = printed_as (collected_refused _ _ _ _ c.in-Refused.is c.collect.ensures) c.print_refusal.ensures
+pub returns-in-Err : goal.returns-in-Err
+returns-in-Err c = printed_as (collected_refused _ _ _ c.in-Err.is c.collect.ensures) c.print_refusal.ensures
 
-pub returns-in-Done : goal.returns-in-Done
-returns-in-Done c = printed_as (collected_image _ _ _ c.in-Done.is c.collect.ensures) c.print_image.ensures
+pub returns-in-Ok : goal.returns-in-Ok
+returns-in-Ok c = printed_as (collected_image _ _ _ c.in-Ok.is c.collect.ensures) c.print_image.ensures
