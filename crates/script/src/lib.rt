@@ -9,5 +9,4 @@ pub mod lines;
 pub mod lists;
 pub mod numbers;
 pub mod output;
-pub mod parts;
 pub mod tokens;
