@@ -2,14 +2,18 @@
 
 #![tactic(auto)]
 
+ghost use Rattle.std.specs.Prelude.{◌≡◌, [], ◌∷◌};
+ghost use Rattle.script.specs.Hash.{hash_words};
+
 pub mod memory;
 
-use memory::Memory;
-use rules::{Control, Numbered, Opened, Page, Plain, Refusal, Told, Valued, Worded};
+use conversions::{refusal_number, refusal_place};
+use rules::{Control, Lent, Page, Refusal, Refused};
+use script::hash;
 use std::io;
 use std::io::Write;
 
-// What an operation answers.
+// What an operation answers. A value and a page are read when the answer is written.
 #[derive(Clone, Copy)]
 pub enum Answer {
     Unknown,
@@ -22,79 +26,35 @@ pub enum Answer {
     Value(u32),
     Page(Page),
     Image(u32, u64),
-    Refused(Refusal),
 }
 
-// An answer, and the record from then on.
-#[derive(Clone, Copy)]
-pub struct Outcome {
-    pub answer: Answer,
-    pub control: Control,
+// An answer and the record from then on, or why the call was refused and the record as it was given.
+pub type Outcome = Result<(Answer, Control), Refused>;
+
+// The refusal of a call that is given no record: the old one stays.
+pub fn refused(why: Refusal, control: Control) -> Refused
+    ensures why { result.why ≡ why }
+    ensures control { result.control ≡ control }
+{
+    Refused { why, control }
 }
 
-pub fn saying(answer: Answer, control: Control) -> Outcome {
-    Outcome { answer, control }
-}
-
-// A line that is no operation.
-pub fn unknown(control: Control) -> Outcome {
-    saying(Answer::Unknown, control)
-}
-
-pub fn plain(p: Plain) -> Outcome {
-    match p {
-        Plain::Done(c) => saying(Answer::Done, c),
-        Plain::Refused(why, c) => saying(Answer::Refused(why), c),
-    }
-}
-
-pub fn word(v: Valued) -> Outcome {
-    match v {
-        Valued::Done(w, c) => saying(Answer::Word(w), c),
-        Valued::Refused(why, c) => saying(Answer::Refused(why), c),
-    }
-}
-
-pub fn count(v: Valued) -> Outcome {
-    match v {
-        Valued::Done(k, c) => saying(Answer::Count(k), c),
-        Valued::Refused(why, c) => saying(Answer::Refused(why), c),
-    }
-}
-
-pub fn told(t: Told) -> Outcome {
-    match t {
-        Told::Done(yes, c) => saying(Answer::Told(yes), c),
-        Told::Refused(why, c) => saying(Answer::Refused(why), c),
-    }
-}
-
-// A call that is given no record leaves the old one where it is refused.
-pub fn opened(o: Opened, control: Control) -> Outcome {
-    match o {
-        Opened::Done(c) => saying(Answer::Done, c),
-        Opened::Refused(why) => saying(Answer::Refused(why), control),
-    }
-}
-
-pub fn worded(w: Worded, control: Control) -> Outcome {
-    match w {
-        Worded::Done(w) => saying(Answer::Word(w), control),
-        Worded::Refused(why) => saying(Answer::Refused(why), control),
-    }
-}
-
-pub fn numbered(i: Numbered, control: Control) -> Outcome {
-    match i {
-        Numbered::Done(i) => saying(Answer::Number(i), control),
-        Numbered::Refused(why) => saying(Answer::Refused(why), control),
-    }
-}
-
-fn write_refusal(to: &mut impl Write, why: Refusal) -> io::Result<()> {
-    let number = conversions::refusal_number(why);
-    let place = conversions::refusal_place(why);
-    write!(to, "no {number} {place}")
+// The hash of the lent words and the record.
+fn hash_of(lent: Lent<'_>) -> u64
+    ensures { let m = lent.entry in
+        let c = m.control in
+        let heap = hash_words 14695981039346656037 m.heap.now in
+        let table = hash_words heap m.table.now in
+        let roots = hash_words table m.roots.now in
+        let consts = hash_words roots m.consts.now in
+        result ≡ hash_words consts (c.n ∷ c.regions ∷ c.first ∷ c.last ∷ c.count ∷ []) }
+{
+    let c = lent.control;
+    let heap = hash::words(hash::EMPTY, lent.heap);
+    let table = hash::words(heap, lent.table);
+    let roots = hash::words(table, lent.roots);
+    let consts = hash::words(roots, lent.consts);
+    hash::words(consts, &[c.n, c.regions, c.first, c.last, c.count])
 }
 
 // The words of a part, each after a space.
@@ -106,49 +66,48 @@ fn write_part(to: &mut impl Write, part: &[u32]) -> io::Result<()> {
     Ok(())
 }
 
-fn write_value(to: &mut impl Write, w: u32, m: &Memory<'_>) -> io::Result<()> {
-    write_part(
-        to,
-        access::fetch(m.heap, m.table, m.roots, m.consts, m.control, w),
-    )
-}
-
-fn write_page(to: &mut impl Write, k: Page, m: &Memory<'_>) -> io::Result<()> {
-    write_part(
-        to,
-        page_views::page_by_number(m.heap, m.table, m.roots, m.consts, m.control, k),
-    )
-}
-
 // What a call answers, before the hash.
-fn write_answer(to: &mut impl Write, answer: Answer, m: &Memory<'_>) -> io::Result<()> {
+fn write_answer(to: &mut impl Write, answer: Answer, lent: Lent<'_>) -> io::Result<()> {
     match answer {
         Answer::Word(w) => write!(to, "ok {w:x}"),
         Answer::Count(k) => write!(to, "ok {k}"),
         Answer::Told(yes) => write!(to, "ok {}", u8::from(yes)),
         Answer::Number(i) => write!(to, "ok {i}"),
-        Answer::Value(w) => write_value(to, w, m),
-        Answer::Page(k) => write_page(to, k, m),
+        Answer::Value(w) => write_part(to, access::fetch(lent, w)),
+        Answer::Page(k) => write_part(to, page_views::page_by_number(lent, k)),
         Answer::Image(length, sum) => write!(to, "ok {length} {sum:016x}"),
-        Answer::Refused(why) => write_refusal(to, why),
         Answer::Done => write!(to, "ok"),
         Answer::Quiet | Answer::Unknown => Ok(()),
     }
 }
 
-// Writes the line of a call's answer, which ends with the hash.
-fn tell_call(to: &mut impl Write, answer: Answer, m: &Memory<'_>) -> io::Result<()> {
-    let sum = m.hash();
-    write_answer(to, answer, m)?;
+// The end of a call's line.
+fn write_hash(to: &mut impl Write, lent: Lent<'_>) -> io::Result<()> {
+    let sum = hash_of(lent);
     writeln!(to, " #{sum:016x}")
 }
 
-// Writes an answer's line.
-pub fn tell(to: &mut impl Write, answer: Answer, m: &Memory<'_>) -> io::Result<()> {
-    match answer {
-        Answer::Quiet => writeln!(to, ".")?,
-        Answer::Unknown => writeln!(to, "?")?,
-        _ => tell_call(to, answer, m)?,
+// Writes the line of a call's answer.
+fn tell_call(to: &mut impl Write, answer: Answer, lent: Lent<'_>) -> io::Result<()> {
+    write_answer(to, answer, lent)?;
+    write_hash(to, lent)
+}
+
+// Writes the line of a refusal.
+fn tell_refusal(to: &mut impl Write, why: Refusal, lent: Lent<'_>) -> io::Result<()> {
+    let number = refusal_number(why);
+    let place = refusal_place(why);
+    write!(to, "no {number} {place}")?;
+    write_hash(to, lent)
+}
+
+// Writes the line of what an operation answers, or of why it was refused.
+pub fn tell(to: &mut impl Write, told: Result<Answer, Refusal>, lent: Lent<'_>) -> io::Result<()> {
+    match told {
+        Ok(Answer::Quiet) => writeln!(to, ".")?,
+        Ok(Answer::Unknown) => writeln!(to, "?")?,
+        Ok(answer) => tell_call(to, answer, lent)?,
+        Err(why) => tell_refusal(to, why, lent)?,
     }
     to.flush()
 }

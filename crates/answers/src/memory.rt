@@ -1,9 +1,8 @@
 // What operations are lent, and the record that they are given.
-ghost use Rattle.std.specs.Prelude.{◌≡◌, [], ◌∷◌, length, replicate};
-ghost use Rattle.script.specs.Hash.{hash_words};
+ghost use Rattle.std.specs.Prelude.{◌≡◌, length, replicate};
 
-use rules::Control;
-use script::hash;
+use crate::{Answer, Outcome};
+use rules::{Control, Lent, Refusal, Refused};
 
 // The four parts and the control record.
 #[derive(Drop)]
@@ -30,21 +29,34 @@ impl Memory<'_> {
         self.consts.fill(0);
     }
 
-    // The hash of the lent words and the record.
-    pub fn hash(&self) -> u64
-        ensures { let m = self.now in
-            let c = m.control in
-            let heap = hash_words 14695981039346656037 m.heap.now in
-            let table = hash_words heap m.table.now in
-            let roots = hash_words table m.roots.now in
-            let consts = hash_words roots m.consts.now in
-            result ≡ hash_words consts (c.n ∷ c.regions ∷ c.first ∷ c.last ∷ c.count ∷ []) }
+    // What a call that only reads is lent.
+    pub fn lent(&self) -> Lent<'_>
+        ensures heap { result.heap.now ≡ self.now.heap.now }
+        ensures table { result.table.now ≡ self.now.table.now }
+        ensures roots { result.roots.now ≡ self.now.roots.now }
+        ensures consts { result.consts.now ≡ self.now.consts.now }
+        ensures record { result.control ≡ self.now.control }
     {
-        let c = self.control;
-        let heap = hash::words(hash::EMPTY, self.heap);
-        let table = hash::words(heap, self.table);
-        let roots = hash::words(table, self.roots);
-        let consts = hash::words(roots, self.consts);
-        hash::words(consts, &[c.n, c.regions, c.first, c.last, c.count])
+        Lent {
+            heap: self.heap,
+            table: self.table,
+            roots: self.roots,
+            consts: self.consts,
+            control: self.control,
+        }
+    }
+
+    // Keeps the record that an operation leaves; what it answers, or why it was refused.
+    pub fn keep(&mut self, done: Outcome) -> Result<Answer, Refusal> {
+        match done {
+            Ok((answer, control)) => {
+                self.control = control;
+                Ok(answer)
+            }
+            Err(Refused { why, control }) => {
+                self.control = control;
+                Err(why)
+            }
+        }
     }
 }

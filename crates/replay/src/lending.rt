@@ -2,7 +2,7 @@
 ghost use Rattle.std.specs.Prelude.{◌≤◌, IfSome, IfOk};
 
 use answers::memory::Memory;
-use answers::{Outcome, tell, unknown};
+use answers::{Answer, Outcome, tell};
 use asking::ask;
 use carrying_out::{change, make};
 use requests::{Lengths, Request, read_lend, read_request};
@@ -33,16 +33,16 @@ fn perform(line: &[u8], m: &mut Memory<'_>) -> Outcome {
     match read_request(line) {
         Some(Request::Make(asked)) => make(asked, m),
         Some(Request::Change(asked)) => change(asked, m),
-        Some(Request::Ask(asked)) => ask(asked, m),
-        None => unknown(m.control),
+        Some(Request::Ask(asked)) => ask(asked, m.lent()),
+        None => Ok((Answer::Unknown, m.control)),
     }
 }
 
 // Carries out what a line asks for and writes its answer.
 fn answer(to: &mut impl Write, line: &[u8], m: &mut Memory<'_>) -> io::Result<()> {
     let done = perform(line, m);
-    m.control = done.control;
-    tell(to, done.answer, m)
+    let told = m.keep(done);
+    tell(to, told, m.lent())
 }
 
 // Carries out lines on lent memory, up to one that asks to lend anew or to the input's end; what that line asks for.
