@@ -1,13 +1,11 @@
 -- Rule 8 by its parts: the constants from their first word to their last, a field by its remainder, and the two tests. Each part is one of the
 -- tests that rule 8 joins.
-use Prim.Native.Nat.{ℕ, ◌+◌, ◌-◌, ◌/◌, ◌%◌, ◌≤◌}
+use Prim.Native.Nat.{ℕ, ◌/◌, ◌%◌}
 use mathlib.Core.Path.{◌≡◌}
 use mathlib.Core.Bool.{Bool, true, false, ◌&&◌, and-true}
 use mathlib.Core.List.{List}
-use native.Mathlib.Omega.{arith}
-use lib.ListN.{length, take, drop}
-use lib.Seq.{slice, take-length}
-use Rattle.laws.proofs.Lists.{drop_take}
+use lib.ListN.{length}
+use lib.Seq.{take-length}
 use Rattle.laws.specs.Lists.{all}
 use Rattle.rules.specs.declared.Control.{Control}
 use Rattle.rules.specs.Memory.{lent}
@@ -25,11 +23,6 @@ module _ (h : List ℕ) (a e : ℕ) (qa : a ≡ 0) (qe : e ≡ length h) where
   pub consts_all : (p : ℕ → Bool) → (all (fields_pass p) (vals_in h a e) && true) ≡ all (fields_pass p) (const_vals h)
   unfolding vals_in
   consts_all p = rw (qa, qe, take-length h) (and-true _)
-
--- the fields from address f up to address e, lent as a part
-pub part_all : (p : ℕ → Bool) (h : List ℕ) (f e : ℕ) (r : Bool) → f ≤ e
-    → (all p (slice f e h) && r) ≡ (all p (slice 0 (length (take (e - f) (drop f h))) (take (e - f) (drop f h))) && r)
-part_all p h f e r b = let q : f + (e - f) ≡ e = omega arith in rw (take-length (take (e - f) (drop f h)), ← drop_take f (e - f) h, q)
 
 module _ (k : List ℕ) (w : ℕ) where
   pub field_heap : w % 4 ≡ 0 → const_field k w ≡ false

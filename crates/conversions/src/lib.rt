@@ -32,14 +32,6 @@ pub fn region_numbered(j: usize) -> Region
     Region(j)
 }
 
-// The region above region j.
-pub fn next_region(j: Region) -> Region
-    requires { j.0 < 4294967296 }
-    ensures { result.0 ≡ j.0 + 1 }
-{
-    Region(j.0 + 1)
-}
-
 // The address of a number.
 pub fn address_numbered(i: usize) -> Address
     ensures { result.0 ≡ i }

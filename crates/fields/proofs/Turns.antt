@@ -6,10 +6,7 @@ use mathlib.Core.Bool.{Bool, true, false, ◌&&◌, not}
 use mathlib.Core.List.{List, [], ◌∷◌}
 use native.Mathlib.Numerals.{sub-one}
 use lib.Dec.{eqb, eqb-zero-suc, eqb-suc-suc}
-use native.Mathlib.Omega.{arith}
-use lib.ListN.{length, get_or, take, drop}
-use lib.Seq.{slice, take-length}
-use Rattle.laws.proofs.Lists.{drop_take}
+use lib.ListN.{length, get_or}
 use Rattle.std.specs.List.{list_all}
 use Rattle.laws.specs.Lists.{all, all_from}
 use Rattle.laws.proofs.Tests.{then_and}
@@ -34,11 +31,6 @@ list_all_lem p (w ∷ ws) = ap (λ b. p w && b) (list_all_lem p ws) ∙ sym (the
 
 abbrev pub Records : (ℕ → Bool) → ℕ → List ℕ → List ℕ → ℕ → ℕ → Bool
 Records g n h t m j = all_from (λ i. all (page_pass g n h) (region_pages n h t i)) m j
-
--- the fields from address f up to address e, lent as a part
-pub part_all : (p : ℕ → Bool) (h : List ℕ) (f e : ℕ) (r : Bool) → f ≤ e
-    → (all p (slice f e h) && r) ≡ (all p (slice 0 (length (take (e - f) (drop f h))) (take (e - f) (drop f h))) && r)
-part_all p h f e r b = let q : f + (e - f) ≡ e = omega arith in rw (take-length (take (e - f) (drop f h)), ← drop_take f (e - f) h, q)
 
 -- at a page; p is its size, its values begin at s, and it ends at d
 pub page_records : {n : ℕ} {h : List ℕ} {f k b : ℕ} → Next n h f k b → (g : ℕ → Bool) (p : ℕ) → p ≡ 2 ^ n → (r : Bool) (s d : ℕ) → s ≡ b + 2 → d ≡ b + p

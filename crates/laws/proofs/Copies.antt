@@ -2,12 +2,12 @@
 -- i words of s. A word that is read from the same list lies outside the words written so far, because the two parts lie apart.
 use Prim.Native.Nat.{ℕ, zero, suc, ◌+◌, ◌-◌, ◌≤◌, ◌<◌}
 use mathlib.Core.Path.{◌≡◌, refl, sym, ap, ◌∙◌}
-use mathlib.Core.Logic.{◌⊎◌, inl, inr, ⊎_elim}
+use mathlib.Core.Logic.{◌⊎◌, inr, ⊎_elim}
 use mathlib.Core.List.{List, [], ◌∷◌, map}
 use native.Mathlib.Omega.{arith}
 use native.Mathlib.Numerals.{add-one}
 use lib.ListN.{length, take, drop, set, length-drop, length-map}
-use lib.Seq.{paste, paste-suc, length-take-le, get_or-drop, take_all}
+use lib.Seq.{paste, paste-suc, length-take-le}
 use Rattle.laws.specs.Lists.{at, put}
 use Rattle.laws.proofs.Lists.{at_put_below, at_put_above}
 use Rattle.laws.proofs.Writes.{sets_whole, put_sets}
@@ -28,25 +28,12 @@ pub paste_more : (d : List ℕ) (b : ℕ) (s : List ℕ) (i v : ℕ) → b + i <
     → set (paste d b s i) (b + i) v ≡ paste d b s (i + 1)
 paste_more d b s i v m l e = rw (e, add-one i) (paste-suc d b s i 0 m l)
 
--- one word more, from the same list: m words at a go to b, which lies apart
-pub copy_more : (h : List ℕ) (a b m i v : ℕ) → i < m → a + m ≤ length h → b + m ≤ length h → (a + m ≤ b) ⊎ (b + m ≤ a)
-    → v ≡ at (paste h b (drop a h) i) (a + i) → set (paste h b (drop a h) i) (b + i) v ≡ paste h b (drop a h) (i + 1)
-copy_more h a b m i v l p q w e =
-    let k : length (drop a h) ≡ length h - a = length-drop a h in
-    let out : (a + i < b) ⊎ (b + i ≤ a + i) = ⊎_elim (λ u. inl (omega arith)) (λ u. inr (omega arith)) w in
-    paste_more h b (drop a h) i v (omega arith) (omega arith)
-    (e ∙ at_paste h b (drop a h) i (a + i) (omega arith) (omega arith) out ∙ sym (get_or-drop a h i 0))
-
 -- all m words are there
 pub paste_done : (d : List ℕ) (b : ℕ) (s : List ℕ) (m i : ℕ) → i ≤ m → m ≤ i → m ≤ length s → paste d b s i ≡ put d b (take m s)
 paste_done d b s m i l l' k = let e : i ≡ m = omega arith in rw e (paste_put d b s m k)
 
 pub copy_done : (h : List ℕ) (a b m i : ℕ) → i ≤ m → m ≤ i → a + m ≤ length h → paste h b (drop a h) i ≡ put h b (take m (drop a h))
 copy_done h a b m i l l' p = let k : length (drop a h) ≡ length h - a = length-drop a h in paste_done h b (drop a h) m i l l' (omega arith)
-
--- all that s has
-pub paste_all : (d : List ℕ) (b : ℕ) (s : List ℕ) (i : ℕ) → i ≤ length s → length s ≤ i → paste d b s i ≡ put d b s
-paste_all d b s i l l' = paste_put d b s i l ∙ ap (put d b) (take_all i s l')
 
 -- the whole list replaced
 put_whole : (h ws : List ℕ) → length ws ≡ length h → put h 0 ws ≡ ws
@@ -69,9 +56,3 @@ map_more f d t i w v e b p q =
     let l : length (map f d) ≡ length d = length-map d f in
     let old : w ≡ at d i = p ∙ ap (λ x. at x i) e ∙ at_paste d 0 (map f d) i i (omega arith) (omega arith) (inr (omega arith)) in
     front_more d (map f d) t i v e b (omega arith) (q ∙ ap f old ∙ sym (at_map f d i b))
-
--- all of it
-pub map_done : (f : ℕ → ℕ) (d : List ℕ) (i : ℕ) → i ≤ length d → length d ≤ i → paste d 0 (map f d) i ≡ map f d
-map_done f d i l l' =
-    let q : length (map f d) ≡ length d = length-map d f in
-    paste_all d 0 (map f d) i (omega arith) (omega arith) ∙ put_whole d (map f d) q

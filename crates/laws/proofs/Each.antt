@@ -1,7 +1,7 @@
 -- The laws of these loops: one turn more, the turn that ends it, nothing left; and what they keep. Each is one recursion, on its fuel or on its list.
 use Prim.Native.Nat.{ℕ, zero, suc, ◌+◌, ◌-◌, ◌<◌, ◌≤◌}
 use mathlib.Core.Bool.{Bool, true, false}
-use mathlib.Core.Path.{◌≡◌, refl, ◌∙◌}
+use mathlib.Core.Path.{◌≡◌, refl}
 use mathlib.Core.List.{List, [], ◌∷◌, ◌++◌, append-nil, Memᴰ}
 use native.Mathlib.Omega.{arith}
 use native.Mathlib.Numerals.{sub-one, add-one}
@@ -45,11 +45,6 @@ module _ {S : Type 0} where
   unfolding each_of
   each_of_end g ws i s l = rw (drop_of_length-le ws l)
 
-  pub steps_more : (f : ℕ) (g : ℕ → S → S) (x : ℕ) (s s' : S) → 0 < f → s' ≡ g x s → steps f g x s ≡ steps (f - 1) g (x + 1) s'
-  unfolding steps
-  steps_more zero g x s s' l e = absurd (omega arith)
-  steps_more (suc f) g x s s' l e = rw (sub-one (suc f), add-one x, e)
-
   pub steps_end : (f : ℕ) (g : ℕ → S → S) (x : ℕ) (s : S) → f ≤ 0 → steps f g x s ≡ s
   unfolding steps
   steps_end zero g x s l = refl
@@ -78,11 +73,6 @@ module _ {S : Type 0} where
   unfolding along
   along_end zero m next g l s b = refl
   along_end (suc f) m next g l s b = absurd (omega arith)
-
-  -- the last page: its link is 0
-  pub along_last : (f m : ℕ) (next : S → ℕ → ℕ) (g : ℕ → S → S) (l l' k : ℕ) (s s' : S)
-      → 0 < f → l ≡ suc k → k < m → l' ≡ next s k → l' ≡ 0 → s' ≡ g k s → along f m next g l s ≡ s'
-  along_last f m next g l l' k s s' b e i q z r = along_more f m next g l l' k s s' b e i q r ∙ along_none (f - 1) m next g l' s' z
 
   -- ---- what a loop keeps: if each turn keeps a fact about what is left to do, then the fact holds at the end, with nothing left
 

@@ -6,14 +6,14 @@ use native.Mathlib.Nat.{zero-add, add-zero}
 use native.Mathlib.Omega.{arith}
 use native.Mathlib.Decide.{ℕ_discrete}
 use mathlib.Core.Path.{◌≡◌, refl, sym, ap, ◌∙◌}
-use mathlib.Core.Bool.{Bool, true, false, ◌&&◌, and-true, and_assoc, and-eq-true_iff}
+use mathlib.Core.Bool.{Bool, true, false, ◌&&◌, and_assoc, and-eq-true_iff}
 use mathlib.Core.List.{List, [], ◌∷◌, Memᴰ}
-use lib.ListN.{length, get_or, drop, drop_of_length-le}
-use lib.Seq.{slice, slice-cons, drop-cons, take-length}
+use lib.ListN.{length, get_or, take, drop}
+use lib.Seq.{slice, slice-cons, take-length}
 use lib.Dec.{eqb}
 use borrow.Author.Tests.{lt-ltb, le-ltb, le-leb, lt-leb, eq-eqb, ne_eqb}
-use Rattle.laws.specs.Lists.{all, all_from, all_below, zeros}
-use Rattle.laws.proofs.Lists.{slice_none}
+use Rattle.laws.specs.Lists.{all, all_from, all_below}
+use Rattle.laws.proofs.Lists.{slice_none, drop_take}
 
 -- what turns the tests of a definition into the tests that the code made
 pub ruleset tests = (lt-ltb, le-ltb, le-leb, lt-leb, eq-eqb, ne_eqb)
@@ -86,9 +86,6 @@ from_in p (suc m) j t i a b = go (ℕ_discrete i j) (both {a = p j} (sym (from_s
 pub below_in : (p : ℕ → Bool) (n : ℕ) → all_below p n ≡ true → (i : ℕ) → i < n → p i ≡ true
 below_in p n t i b = from_in p n 0 t i zero-le (omega arith)
 
-pub from_next : (p : ℕ → Bool) (m j : ℕ) → 0 < m → p j ≡ true → all_from p m j ≡ all_from p (m - 1) (j + 1)
-from_next p m j l e = from_go p m j l ∙ ap (λ b. b && all_from p (m - 1) (j + 1)) e
-
 pub from_stop : (p : ℕ → Bool) (m j : ℕ) → 0 < m → p j ≡ false → all_from p m j ≡ false
 from_stop p m j l e = from_go p m j l ∙ ap (λ b. b && all_from p (m - 1) (j + 1)) e
 
@@ -119,20 +116,7 @@ module _ (p : ℕ → Bool) (h : List ℕ) (f e : ℕ) (r : Bool) where
   pub fields_stop : f < e → e ≤ length h → p (get_or h f 0) ≡ false → (all p (slice f e h) && r) ≡ false
   fields_stop b c t = rw (slice-cons f e h 0 b c, all_turn p, t)
 
--- all of a list's words
-pub fields_all : (p : ℕ → Bool) (h : List ℕ) → (all p (slice 0 (length h) h) && true) ≡ all p h
-fields_all p h = rw (take-length h, and-true)
-
--- zeros, from place i to the end
-module _ (ws : List ℕ) (i : ℕ) where
-  pub zeros_none : length ws ≤ i → zeros (drop i ws) ≡ true
-  unfolding zeros
-  zeros_none b = rw (drop_of_length-le ws b)
-
-  pub zeros_next : i < length ws → get_or ws i 0 ≡ 0 → zeros (drop i ws) ≡ zeros (drop (i + 1) ws)
-  unfolding zeros
-  zeros_next b z = rw (drop-cons ws i 0 b, zeros, eq-eqb _ _ z, add-one i)
-
-  pub zeros_found : i < length ws → (get_or ws i 0 ≡ 0 → ⊥) → zeros (drop i ws) ≡ false
-  unfolding zeros
-  zeros_found b ne = rw (drop-cons ws i 0 b, zeros, ne_eqb _ _ ne)
+-- the words from place f up to place e, taken as a part
+pub part_all : (p : ℕ → Bool) (h : List ℕ) (f e : ℕ) (r : Bool) → f ≤ e
+    → (all p (slice f e h) && r) ≡ (all p (slice 0 (length (take (e - f) (drop f h))) (take (e - f) (drop f h))) && r)
+part_all p h f e r b = let q : f + (e - f) ≡ e = omega arith in rw (take-length (take (e - f) (drop f h)), ← drop_take f (e - f) h, q)

@@ -36,13 +36,6 @@ pub fn write(s: &mut [u32], i: usize, v: usize)
     }
 }
 
-// The difference, 0 where there is none.
-pub fn less(a: usize, b: usize) -> usize
-    ensures { result ≡ a - b }
-{
-    a.saturating_sub(b)
-}
-
 // A word's 32 bits.
 pub fn low(v: usize) -> usize
     ensures { (result ≡ low_def v) × (result < 4294967296) }

@@ -7,10 +7,10 @@ use mathlib.Core.List.{List, [], ◌∷◌, ◌++◌}
 use native.Mathlib.Nat.{pow-succ', sub-zero}
 use native.Mathlib.Numerals.{add-one}
 use native.Mathlib.Omega.{arith}
-use borrow.Author.Tests.{lt-ltb, le-ltb, ne_eqb, eqb-true}
+use borrow.Author.Tests.{lt-ltb, le-ltb, eqb-true}
 use lib.Dec.{eqb}
 use lib.ListN.{length, take, drop, get_or, set, length-append, length-take, drop_of_length-le}
-use lib.Seq.{sets, take-suc, drop-cons}
+use lib.Seq.{sets, drop-cons}
 use Rattle.laws.specs.Lists.{at, padded}
 use Rattle.laws.proofs.Writes.{sets_append, sets_next, sets_front}
 use Rattle.rules.specs.declared.Control.{Control}
@@ -56,34 +56,6 @@ length_frame kind ws =
     (let a = length_hex 2 kind in let b = length_hex 4 (length ws) in let c = length_words ws in omega arith)
 
 -- ---- trimming
-
--- a zero at the end goes
-pub trim_zero : (ws : List ℕ) → trim (ws ++ (0 ∷ [])) ≡ trim ws
-unfolding trim
-trim_zero [] = refl
-trim_zero (w ∷ ws) = rw (trim, trim_zero ws)
-
--- any other word stays, and all before it
-pub trim_word : (ws : List ℕ) (w : ℕ) → (w ≡ 0 → ⊥) → trim (ws ++ (w ∷ [])) ≡ ws ++ (w ∷ [])
-unfolding trim
-trim_word [] w ne = rw (ne_eqb w 0 ne)
-trim_word (v ∷ []) w ne = rw (trim, trim_word [] w ne)
-trim_word (v ∷ u ∷ ws) w ne = rw (trim, trim_word (u ∷ ws) w ne)
-
--- the same of the first m words
-module _ (ws : List ℕ) (m : ℕ) (some : 0 < m) (inside : m ≤ length ws) where
-  abbrev last_of : take m ws ≡ take (m - 1) ws ++ (get_or ws (m - 1) 0 ∷ [])
-  last_of = let q : m ≡ suc (m - 1) = omega arith in ap (λ k. take k ws) q ∙ take-suc ws (m - 1) 0 (omega arith)
-
-  pub trim_less : get_or ws (m - 1) 0 ≡ 0 → trim (take m ws) ≡ trim (take (m - 1) ws)
-  trim_less z = rw (last_of, z, trim_zero)
-
-  pub trim_ends : (get_or ws (m - 1) 0 ≡ 0 → ⊥) → trim (take m ws) ≡ take m ws
-  trim_ends ne = rw last_of (trim_word (take (m - 1) ws) (get_or ws (m - 1) 0) ne)
-
-pub trim_none : (ws : List ℕ) (m : ℕ) → m ≤ 0 → m ≡ length (trim (take m ws))
-unfolding trim
-trim_none ws m b = let q : m ≡ 0 = omega arith in rw q
 
 -- a word before others goes where it is 0 and none of them is left, and else stays before what is left of them
 trim_by : (P : List ℕ → Type 0) (w : ℕ) (ws : List ℕ) → (w ≡ 0 → trim ws ≡ [] → P []) → ((trimmed (trim ws) ≡ true → trimmed (w ∷ trim ws) ≡ true) → P (w ∷ trim ws)) → P (trim (w ∷ ws))

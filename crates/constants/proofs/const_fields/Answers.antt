@@ -4,11 +4,11 @@ use Prim.Native.Nat.{◌≤◌}
 use native.Mathlib.Nat.{le_refl}
 use native.Mathlib.Omega.{arith}
 use lib.ListN.{length}
-use Rattle.laws.proofs.Tests.{fields_end, fields_go, fields_stop}
+use Rattle.laws.proofs.Tests.{part_all, fields_end, fields_go, fields_stop}
 use Rattle.laws.proofs.Turned.{told_true, told_false}
 use Rattle.rules.proofs.Headers.{fit_of}
 use Rattle.rules.proofs.Stepping.{vals_none, vals_stop, values_over, raw_go, record_go}
-use Rattle.constants.proofs.Constants.{consts_all, part_all}
+use Rattle.constants.proofs.Constants.{consts_all}
 use Rattle.constants.proofs.const_fields.Goals as goal
 use Rattle.constants.proofs.const_fields.Goals.{After-address_behind-next, After-address_numbered-end}
 

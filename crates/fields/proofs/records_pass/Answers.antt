@@ -5,7 +5,7 @@ use Prim.Native.Nat.{◌+◌, ◌-◌, ◌^◌, ◌≤◌}
 use native.Mathlib.Nat.{le_refl}
 use native.Mathlib.Omega.{arith}
 use lib.ListN.{length}
-use Rattle.laws.proofs.Tests.{from_end, fields_end, fields_go, fields_stop}
+use Rattle.laws.proofs.Tests.{part_all, from_end, fields_end, fields_go, fields_stop}
 use Rattle.laws.proofs.Turned.{told_true, told_false}
 use Rattle.rules.specs.Words.{vals_in}
 use Rattle.rules.proofs.Headers.{fit_of}
@@ -13,7 +13,7 @@ use Rattle.rules.proofs.Limits.{Inside, page_here}
 use Rattle.rules.proofs.Stepping.{vals_none, vals_stop, values_over, raw_go, record_go}
 use Rattle.rules.proofs.Chains.{Over, Next, next_page_lem, over_fuel, over_none, over_bad}
 use Rattle.rules.proofs.Nests.{pages_over, regions_go}
-use Rattle.fields.proofs.Turns.{page_records, part_all}
+use Rattle.fields.proofs.Turns.{page_records}
 use Rattle.fields.proofs.records_pass.Given.{Over as Bound}
 use Rattle.fields.proofs.records_pass.Goals as goal
 use Rattle.fields.proofs.records_pass.Goals.{Left-values, else-values-test, then-values-test+then-not-fits, After-address_behind-end, After-address_behind-next, After-link_address-base, Left-pages, else-pages-test, then-pages-test+else-link-eq0+then-pages-link, then-pages-test+then-link-eq0}
