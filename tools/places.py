@@ -87,8 +87,8 @@ def point_2(top):
 
 
 def point_3(top):
-    """loops that are no `for`, and a `for` over the indices of a slice"""
-    return by_line(top, r"\b(while|loop)\b[^;]*\{$|^\s*for \w+ in 0\.\.\w+\.len\(\) \{")
+    """loops that are no `for` and take no `Some` of a call, and a `for` over the indices of a slice"""
+    return by_line(top, r"\b(while|loop)\b(?! let)[^;]*\{$|^\s*for \w+ in 0\.\.\w+\.len\(\) \{")
 
 
 def point_4(top):

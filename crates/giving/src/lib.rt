@@ -18,27 +18,22 @@ fn give_back(heap: &mut [u32], k: Page, c: Control) -> Control
     ensures { Left (give_back c.n k.0) heap.old c heap.new result }
 {
     let link = page_link(k);
-    let count = c.count + 1;
+    let given = Control {
+        last: link,
+        count: c.count + 1,
+        ..c
+    };
     clear_page(heap, k, c.n);
     if c.last == 0 {
         return Control {
-            n: c.n,
-            regions: c.regions,
             first: link,
-            last: link,
-            count: count,
+            ..given
         };
     }
     let start = link_address(c.last, c.n);
     let i = start.0;
     heap[i] = link;
-    Control {
-        n: c.n,
-        regions: c.regions,
-        first: c.first,
-        last: link,
-        count: count,
-    }
+    given
 }
 
 // The pages from a link on, given back in the order of their chain. A page's link is read before the page is cleared.

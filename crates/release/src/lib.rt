@@ -54,10 +54,10 @@ pub fn pop(
     let free = give_chain(heap, first, c);
     clear_row(table, j);
     Ok(Control {
-        n: c.n,
         regions: below,
         first: free.first,
         last: free.last,
         count: free.count,
+        ..c
     })
 }
