@@ -1,2 +1,3 @@
 pub mod Hash
+pub mod Numbers
 pub mod Tokens
