@@ -1,5 +1,5 @@
 -- Numbers digit by digit: one turn of reading a number, and where it stops. Each is one step of the definition, at the byte that comes next.
-use Rattle.std.specs.Prelude.{◌≡◌, ◌==◌, ◌&&◌, Bool, true, false, ℕ, ℤ, pos, neg_ℤ, eqb, take, ◌+◌, ◌*◌, ◌<◌, ◌≤◌, min, List, [], ◌∷◌, length, drop, get_or, Option, Some, None, IsTrue}
+use Rattle.std.specs.Prelude.{◌≡◌, ◌==◌, ◌&&◌, Bool, true, false, ℕ, pos, neg_ℤ, eqb, take, ◌+◌, ◌*◌, ◌<◌, ◌≤◌, min, List, [], ◌∷◌, length, drop, get_or, Some, None}
 use Rattle.std.proofs.Common.{refl, ap, sym, ◌∙◌, drop-cons, add-one, arith}
 use mathlib.Core.Bool.{true≢false, false≢true, and-eq-true_iff}
 use Rattle.std.proofs.lemmas.List.{drop_all}

@@ -1,7 +1,5 @@
 -- `script::numbers::number` meets its contract: what is left of the token gives, after the number so far, what the whole token gives from 0.
-use Rattle.std.specs.Prelude.{◌≡◌, ◌<◌, None, Option, ℕ}
-use Rattle.std.proofs.Common.{sym, ap, ◌∙◌, arith, rules}
-use Rattle.script.specs.Numbers.{number_from, number_of}
+use Rattle.std.proofs.Common.{sym, ◌∙◌, arith, rules}
 use Rattle.script.proofs.Digits.{number_turn, number_without, number_beyond, number_of_none, number_of_some, number_end}
 use Rattle.script.proofs.numbers.number.Goals as goal
 

@@ -6,5 +6,5 @@ use Rattle.script.proofs.numbers.number.Given as goal
 abbrev pub invariant-loop-b : goal.invariant-loop-b
 invariant-loop-b l = record {
   told : number_from l.base l.x (drop l.b-index l.token) ≡ number_from l.base 0 l.token;
-  bounded : l.x ≤ 4294967296
+  bounded : l.x ≤ 4294967296;
 }
