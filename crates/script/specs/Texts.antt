@@ -9,7 +9,7 @@ unfoldable pub bytes_from : List ℕ → List (List ℕ) → Option (List ℕ)
 bytes_from done [] = Some done
 bytes_from done (pair ∷ rest) = elim (byte_of (get_or pair 0 0) (get_or pair 1 0)) [ None ↦ None | Some b ↦ bytes_from (done ++ (b ∷ [])) rest ]
 
--- the pairs of a token, which has at least one and no byte besides, and no more than there is room for
+-- what the pairs of a token spell: it has at least one pair, no byte besides, and no more pairs than there is room for
 unfoldable pub pairs_of : ℕ → List ℕ → Option (List ℕ)
 pairs_of room token =
     if length token / 2 == 0 then None else if not (length token % 2 == 0) then None else if nat_lt room (length token / 2) then None
