@@ -2,8 +2,10 @@
 
 #![tactic(auto)]
 
-ghost use Rattle.std.specs.Prelude.{◌≡◌, [], ◌∷◌};
+ghost use Rattle.std.specs.Prelude.{◌≡◌, [], ◌∷◌, OnOk, IfSome};
+ghost use Rattle.std.specs.Io.KnownBytes.{Appends};
 ghost use Rattle.script.specs.Hash.{hash_words};
+ghost use Rattle.answers.specs.Outcomes.{short_line};
 
 pub mod memory;
 
@@ -102,7 +104,9 @@ fn tell_refusal(to: &mut impl Write, why: Refusal, lent: Lent<'_>) -> io::Result
 }
 
 // Writes the line of what an operation answers, or of why it was refused.
-pub fn tell(to: &mut impl Write, told: Result<Answer, Refusal>, lent: Lent<'_>) -> io::Result<()> {
+pub fn tell<W: Write>(to: &mut W, told: Result<Answer, Refusal>, lent: Lent<'_>) -> io::Result<()>
+    ensures { OnOk result (IfSome (short_line told) (Appends (W.contents to.old) (W.contents to.new))) }
+{
     match told {
         Ok(Answer::Quiet) => writeln!(to, ".")?,
         Ok(Answer::Unknown) => writeln!(to, "?")?,

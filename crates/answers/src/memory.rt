@@ -1,5 +1,6 @@
 // What operations are lent, and the record that they are given.
 ghost use Rattle.std.specs.Prelude.{◌≡◌, length, replicate};
+ghost use Rattle.answers.specs.Outcomes.{answer_of, record_of};
 
 use crate::{Answer, Outcome};
 use rules::{Control, Lent, Refusal, Refused};
@@ -47,7 +48,14 @@ impl Memory<'_> {
     }
 
     // Keeps the record that an operation leaves; what it answers, or why it was refused.
-    pub fn keep(&mut self, done: Outcome) -> Result<Answer, Refusal> {
+    pub fn keep(&mut self, done: Outcome) -> Result<Answer, Refusal>
+        ensures answer { result ≡ answer_of done }
+        ensures record { self.new.control ≡ record_of done }
+        ensures heap { self.new.heap.now ≡ self.old.heap.now }
+        ensures table { self.new.table.now ≡ self.old.table.now }
+        ensures roots { self.new.roots.now ≡ self.old.roots.now }
+        ensures consts { self.new.consts.now ≡ self.old.consts.now }
+    {
         match done {
             Ok((answer, control)) => {
                 self.control = control;

@@ -1,2 +1,4 @@
 pub mod Hash
+pub mod Numbers
+pub mod Texts
 pub mod Tokens

@@ -1,5 +1,5 @@
 // Lines of a reader, whose bytes come in chunks.
-ghost use Rattle.std.specs.Prelude.{◌≤◌, length};
+ghost use Rattle.std.specs.Prelude.{◌≡◌, ◌≤◌, length, max, IfOk, IfSome};
 
 use std::io;
 use std::io::Read;
@@ -15,7 +15,12 @@ pub struct Lines<'a, R> {
 }
 
 impl<'a, R: Read> Lines<'a, R> {
-    pub fn new(source: &'a mut R, chunk: &'a mut [u8]) -> Lines<'a, R> {
+    pub fn new(source: &'a mut R, chunk: &'a mut [u8]) -> Lines<'a, R>
+        ensures source { result.source.now ≡ source.old }
+        ensures chunk { result.chunk.now ≡ chunk.old }
+        ensures from { result.from ≡ 0 }
+        ensures end { result.end ≡ 0 }
+    {
         Lines {
             source,
             chunk,
@@ -25,7 +30,10 @@ impl<'a, R: Read> Lines<'a, R> {
     }
 
     // The next line without its newline, in a lent part, and nothing at the input's end.
-    pub fn next_line<'l>(&mut self, line: &'l mut [u8]) -> io::Result<Option<&'l [u8]>> {
+    pub fn next_line<'l>(&mut self, line: &'l mut [u8]) -> io::Result<Option<&'l [u8]>>
+        ensures line { IfOk result (λ told. IfSome told (λ text. length text.now ≤ max (length line.old) 1)) }
+        ensures chunk { length self.new.chunk.now ≡ length self.old.chunk.now }
+    {
         let mut used = 0;
         for _ in 0..u64::MAX {
             if self.end <= self.from {
@@ -63,7 +71,9 @@ fn keep(bytes: &[u8], line: &mut [u8], used: usize) -> usize
 }
 
 // A line that fills its part was cut, and is a comment or no operation by its first byte.
-fn closed(line: &[u8], used: usize) -> &[u8] {
+fn closed(line: &[u8], used: usize) -> &[u8]
+    ensures { length result.now ≤ max (length line.now) 1 }
+{
     if used < line.len() {
         return &line[..used];
     }

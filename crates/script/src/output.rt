@@ -1,5 +1,5 @@
 // Output, gathered in a lent buffer and written to a writer when that is full.
-ghost use Rattle.std.specs.Prelude.{◌≤◌, length};
+ghost use Rattle.std.specs.Prelude.{◌≡◌, ◌≤◌, length, IfOk};
 
 use std::io;
 use std::io::Write;
@@ -14,7 +14,11 @@ pub struct Gathered<'a, W> {
 }
 
 impl<'a, W: Write> Gathered<'a, W> {
-    pub fn new(to: &'a mut W, buffer: &'a mut [u8]) -> Gathered<'a, W> {
+    pub fn new(to: &'a mut W, buffer: &'a mut [u8]) -> Gathered<'a, W>
+        ensures to { result.to.now ≡ to.old }
+        ensures buffer { result.buffer.now ≡ buffer.old }
+        ensures at { result.at ≡ 0 }
+    {
         Gathered { to, buffer, at: 0 }
     }
 }
