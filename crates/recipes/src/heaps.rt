@@ -11,6 +11,9 @@
 // and what is done behind the calls:
 //   heap 6 12;  table 3 1;  spoil 0 12;      a word of the heap, of the table, of the roots
 //   control 1 2 2 1;                         R, free first, free last and free count of the record
+ghost use Rattle.std.specs.Prelude.{◌≡◌, length, Ok, Err, IfOk, IfErr};
+ghost use Rattle.recipes.specs.Heaps.{lengths};
+
 use crate::cutting::{name_of, numbers_of};
 use access::set_root;
 use allocation::allocate;
@@ -56,7 +59,13 @@ fn poke(part: &mut [u32], i: u32, w: u32) {
 
 impl Parts<'_, '_, '_, '_> {
     // What a call is lent that only reads.
-    pub fn lent(&self) -> Lent<'_> {
+    pub fn lent(&self) -> Lent<'_>
+        ensures heap { result.heap.now ≡ self.now.heap.now }
+        ensures table { result.table.now ≡ self.now.table.now }
+        ensures roots { result.roots.now ≡ self.now.roots.now }
+        ensures consts { result.consts.now ≡ self.now.consts.now }
+        ensures record { result.control ≡ self.now.control }
+    {
         Lent {
             heap: self.heap,
             table: self.table,
@@ -67,7 +76,10 @@ impl Parts<'_, '_, '_, '_> {
     }
 
     // The record that a call hands back is the one that stands; what the call gave.
-    pub fn kept(&mut self, answer: Result<(Given, Control), Refused>) -> Result<Given, Refusal> {
+    fn kept(&mut self, answer: Result<(Given, Control), Refused>) -> Result<Given, Refusal>
+        ensures ok { IfOk answer (λ a. (result ≡ Ok a.0) × (self.new ≡ record self.old { control = a.1 })) }
+        ensures err { IfErr answer (λ r. (result ≡ Err r.why) × (self.new ≡ record self.old { control = r.control })) }
+    {
         match answer {
             Ok((given, control)) => {
                 self.control = control;
@@ -81,26 +93,36 @@ impl Parts<'_, '_, '_, '_> {
     }
 
     // A call that gives nothing but the record.
-    pub fn done(&mut self, answer: Result<Control, Refused>) -> Result<Given, Refusal> {
+    pub fn done(&mut self, answer: Result<Control, Refused>) -> Result<Given, Refusal>
+        ensures ok { IfOk answer (λ c. (result ≡ Ok Given.Done) × (self.new ≡ record self.old { control = c })) }
+        ensures err { IfErr answer (λ r. (result ≡ Err r.why) × (self.new ≡ record self.old { control = r.control })) }
+    {
         self.kept(answer.map(|control| (Given::Done, control)))
     }
 
     // A call that is given no record. A refused one leaves none.
-    pub fn opened(&mut self, answer: Result<Control, Refusal>) -> Result<Given, Refusal> {
+    pub fn opened(&mut self, answer: Result<Control, Refusal>) -> Result<Given, Refusal>
+        ensures ok { IfOk answer (λ c. (result ≡ Ok Given.Done) × (self.new ≡ record self.old { control = c })) }
+        ensures err { IfErr answer (λ why. (result ≡ Err why) × (self.new ≡ record self.old { control = NO_RECORD })) }
+    {
         self.done(answer.map_err(|why| Refused {
             why,
             control: NO_RECORD,
         }))
     }
 
-    fn open(&mut self, n: u32) -> Result<Given, Refusal> {
+    fn open(&mut self, n: u32) -> Result<Given, Refusal>
+        ensures { lengths self.new ≡ lengths self.old }
+    {
         let consts = &mut *self.consts;
         let answer = set_up(self.heap, self.table, self.roots, consts, n);
         self.opened(answer)
     }
 
     // So many regions more, as far as there are pages.
-    fn push(&mut self, regions: u32) -> Result<Given, Refusal> {
+    fn push(&mut self, regions: u32) -> Result<Given, Refusal>
+        ensures { lengths self.new ≡ lengths self.old }
+    {
         for _ in 0..regions {
             let c = self.control;
             let (roots, consts) = (&mut *self.roots, &mut *self.consts);
@@ -111,7 +133,9 @@ impl Parts<'_, '_, '_, '_> {
     }
 
     // A value more in region j.
-    fn store(&mut self, kind: Kind, j: u32, words: &[u32]) -> Result<Given, Refusal> {
+    fn store(&mut self, kind: Kind, j: u32, words: &[u32]) -> Result<Given, Refusal>
+        ensures { lengths self.new ≡ lengths self.old }
+    {
         let c = self.control;
         let j = region_numbered(j as usize);
         let (roots, consts) = (&mut *self.roots, &mut *self.consts);
@@ -120,7 +144,9 @@ impl Parts<'_, '_, '_, '_> {
     }
 
     // A field of the record that a word points to becomes a word.
-    fn assign(&mut self, target: u32, field: u32, w: u32) -> Result<Given, Refusal> {
+    fn assign(&mut self, target: u32, field: u32, w: u32) -> Result<Given, Refusal>
+        ensures { lengths self.new ≡ lengths self.old }
+    {
         let c = self.control;
         let (table, roots, consts) = (&mut *self.table, &mut *self.roots, &mut *self.consts);
         let field = field as usize;
@@ -129,7 +155,9 @@ impl Parts<'_, '_, '_, '_> {
     }
 
     // A root becomes a word.
-    fn name(&mut self, root: u32, w: u32) -> Result<Given, Refusal> {
+    fn name(&mut self, root: u32, w: u32) -> Result<Given, Refusal>
+        ensures { lengths self.new ≡ lengths self.old }
+    {
         let c = self.control;
         let (heap, table, consts) = (&mut *self.heap, &mut *self.table, &mut *self.consts);
         let answer = set_root(heap, table, self.roots, consts, c, root as usize, w);
@@ -137,7 +165,9 @@ impl Parts<'_, '_, '_, '_> {
     }
 
     // The record with another R, free first, free last and free count.
-    fn set_control(&mut self, regions: u32, first: u32, last: u32, count: u32) {
+    fn set_control(&mut self, regions: u32, first: u32, last: u32, count: u32)
+        ensures { lengths self.new ≡ lengths self.old }
+    {
         let n = self.control.n;
         self.control = Control {
             n,
@@ -149,7 +179,9 @@ impl Parts<'_, '_, '_, '_> {
     }
 
     // What is done behind the calls. A name that stands for no such step does nothing.
-    fn spoil(&mut self, name: &str, numbers: &[u32]) {
+    fn spoil(&mut self, name: &str, numbers: &[u32])
+        ensures { lengths self.new ≡ lengths self.old }
+    {
         match (name, numbers) {
             ("heap", [i, w]) => poke(self.heap, *i, *w),
             ("table", [i, w]) => poke(self.table, *i, *w),
@@ -162,7 +194,9 @@ impl Parts<'_, '_, '_, '_> {
     }
 
     // The step that a text is, and what its call gave.
-    pub fn step(&mut self, text: &str) -> Result<Given, Refusal> {
+    pub fn step(&mut self, text: &str) -> Result<Given, Refusal>
+        ensures { lengths self.new ≡ lengths self.old }
+    {
         let mut row = [0; 16];
         let name = name_of(text);
         let numbers = numbers_of(text, &mut row);
@@ -181,14 +215,18 @@ impl Parts<'_, '_, '_, '_> {
     }
 
     // The steps of a recipe, in their order. One that is refused changes nothing.
-    fn follow(&mut self, recipe: &str) {
+    fn follow(&mut self, recipe: &str)
+        ensures { lengths self.new ≡ lengths self.old }
+    {
         for step in recipe.split(';') {
             let _ = self.step(step);
         }
     }
 
     // The heap that a recipe makes, in pages of 16 words.
-    pub fn make(&mut self, recipe: &str) {
+    pub fn make(&mut self, recipe: &str)
+        ensures { lengths self.new ≡ lengths self.old }
+    {
         let _ = self.open(4);
         if recipe.starts_with("label;") {
             self.follow(LABEL);

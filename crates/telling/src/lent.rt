@@ -1,5 +1,6 @@
 // The lent parts as they stand after a call.
-ghost use Rattle.std.specs.Prelude.{◌<◌};
+ghost use Rattle.std.specs.Prelude.{◌<◌, ◌≡◌};
+ghost use Rattle.telling.specs.Sums.{sum_of};
 
 use crate::say::{Record, Words};
 use rules::{Control, Lent};
@@ -28,7 +29,8 @@ pub fn only_roots(out: &mut impl Write, roots: &[u32]) -> io::Result<()> {
 
 // A sum of the words in their order: what stood before a call is told from what stands after it.
 pub fn sum(lent: Lent<'_>) -> u64
-    ensures { result < 4294967291 }
+    ensures below { result < 4294967291 }
+    ensures words { result ≡ sum_of lent.entry }
 {
     let mut sum = 1;
     for w in lent.heap.iter().chain(lent.table).chain(lent.roots) {
