@@ -70,3 +70,6 @@ module _ (h t r k : List ℕ) (c : Control) where
           let a = pages_short n h t c.regions 0 g in
           let b = free_short n h c.first g in
           omega arith
+
+-- what turns rule 3 into what the walks answered
+pub ruleset three = (three_chained, three_listed, three_sums, sums_fit)

@@ -1,6 +1,6 @@
 -- The turn laws of rule 3's walks: at each region, at each page and at the end of a chain, what is left to test is what was left before, and
 -- the pages that are left are one fewer. Each follows the definition's own turn.
-use Prim.Native.Nat.{ℕ, zero, suc, ◌+◌, ◌-◌, ◌*◌, ◌/◌, ◌%◌, ◌^◌, ◌≤◌, ◌<◌, zero-le, suc-le-suc}
+use Prim.Native.Nat.{ℕ, zero, suc, ◌+◌, ◌-◌, ◌*◌, ◌/◌, ◌^◌, ◌≤◌, ◌<◌, zero-le, suc-le-suc}
 use mathlib.Core.Path.{◌≡◌, refl, ap, ◌∙◌}
 use mathlib.Core.Bool.{Bool, true, false, ◌&&◌, and-true, and_assoc}
 use mathlib.Core.List.{List, [], ◌∷◌}
@@ -8,11 +8,11 @@ use native.Mathlib.Omega.{arith}
 use native.Mathlib.Numerals.{sub-one, add-one}
 use borrow.Author.Tests.{eq-eqb, ne_eqb}
 use Rattle.std.specs.Prelude.{Some, None}
-use lib.Dec.{ltb, eqb}
+use lib.Dec.{eqb}
 use lib.ListN.{length, get_or, length-append}
 use Rattle.laws.specs.Lists.{all_from, all_below, last_or}
 use Rattle.laws.proofs.Tests.{from_go, from_stop}
-use Rattle.rules.specs.Memory.{address_page, origin, first_of, first_link, chain, chain_end, region_pages, free_pages, pages_from}
+use Rattle.rules.specs.Memory.{origin, first_link, chain, chain_end, region_pages, free_pages, pages_from}
 use Rattle.rules.specs.Audit.{opens, ends_well, last_link}
 use Rattle.rules.specs.Refusals.{Paged}
 use Rattle.rules.proofs.Limits.{pages_few}
@@ -20,16 +20,7 @@ use Rattle.rules.proofs.Chains.{chain_by, Next, Over}
 use Rattle.rules.proofs.Nests.{pages_go, pages_over}
 use Rattle.chains.specs.Walked.{bear, region_chained, regions_chained, free_listed}
 
--- ---- where a chain opens
-
-module _ (n : ℕ) (h t : List ℕ) (j first p : ℕ) (q : first ≡ first_of t j) (e : p ≡ 2 ^ n) where
-  pub opens_off : (first % p ≡ 0 → ⊥) → opens n h t j ≡ false
-  unfolding opens
-  opens_off ne = rw (← q, ← e, ne_eqb _ _ ne)
-
-  pub opens_at : (a N : ℕ) → first % p ≡ 0 → a ≡ address_page n first → N ≡ length h / 2 ^ n → opens n h t j ≡ ltb a N
-  unfolding opens
-  opens_at a N z qa q_n = rw (qa, q_n, ← q, ← e, eq-eqb _ _ z)
+-- ---- a region whose chain opens, and one whose chain does not
 
 module _ (n N : ℕ) (h t : List ℕ) (e : N ≡ length h / 2 ^ n) (m j : ℕ) (b : 0 < m) where
   pub chained_open : (l : ℕ) → opens n h t j ≡ true → l ≡ first_link n t j

@@ -15,15 +15,13 @@ use rows::{first_link, first_of, link_address};
 use rules::{Lent, Region};
 
 // Whether a region's fp is the address of a page.
+#[tactic(auto, using(laws::proofs::Tests::tests, rules::proofs::Limits::paged_size), unfolding(rules::specs::Audit::opens))]
 fn opens(heap: &[u32], table: &[u32], j: Region, n: u32) -> bool
     requires { Paged n (length heap.now) × (length table.now ≡ 256) × (j.0 < 64) }
     ensures { result ≡ opens_of n heap.now table.now j.0 }
 {
     let first = first_of(table, j);
-    if first.0 % page_words(n) != 0 {
-        return false;
-    }
-    address_page(first, n).0 < page_count(heap.len(), n)
+    first.0 % page_words(n) == 0 && address_page(first, n).0 < page_count(heap.len(), n)
 }
 
 // The pages of the regions' chains, where each opens at a page, bears its region's origin and ends with link 0.
@@ -97,6 +95,7 @@ fn free_listed(heap: &[u32], n: u32, first: u32) -> Option<(usize, u32)>
 
 // Rule 3: every page is in exactly one chain, a region's or the free list's, and the record agrees. Chains that end, whose pages bear
 // their own origin, hold no page twice; so it is enough that their lengths add up to the pages that there are.
+#[tactic(auto, using(laws::proofs::Tests::tests, crate::proofs::Three::three))]
 pub fn rule3(admitted: Admitted<'_>) -> bool
     ensures { result ≡ rule3_of (store admitted.entry.lent) }
 {
@@ -112,11 +111,5 @@ pub fn rule3(admitted: Admitted<'_>) -> bool
     let Some((free, last)) = free_listed(heap, c.n, c.first) else {
         return false;
     };
-    if c.last != last {
-        return false;
-    }
-    if c.count as usize != free {
-        return false;
-    }
-    held + free == page_count(heap.len(), c.n)
+    c.last == last && c.count as usize == free && held + free == page_count(heap.len(), c.n)
 }

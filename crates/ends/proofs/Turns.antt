@@ -3,29 +3,18 @@ use Prim.Native.Nat.{ℕ, ◌+◌, ◌-◌, ◌/◌, ◌^◌, ◌≤◌, ◌<◌
 use mathlib.Core.Path.{◌≡◌, ◌∙◌}
 use mathlib.Core.Bool.{Bool, true, false, ◌&&◌, and-true, and_comm}
 use mathlib.Core.List.{List}
-use borrow.Author.Tests.{le-leb, lt-leb, eq-eqb, ne_eqb}
-use lib.Dec.{leb, eqb}
+use borrow.Author.Tests.{eq-eqb, ne_eqb}
+use lib.Dec.{eqb}
 use lib.ListN.{length, get_or}
 use lib.Seq.{slice}
 use Rattle.laws.specs.Lists.{all, all_from, all_below, zeros}
 use Rattle.laws.proofs.Tests.{from_go, from_stop}
 use Rattle.laws.proofs.Facts.{below_and}
 use Rattle.rules.specs.declared.Control.{Control}
-use Rattle.rules.specs.Memory.{lent, link, end_of, top_of, first_link, chain, region_pages, free_pages}
+use Rattle.rules.specs.Memory.{lent, link, end_of, first_link, chain, region_pages, free_pages}
 use Rattle.rules.specs.Audit.{if_last, ends_at, top_fits, clean, rule4, rule9}
 use Rattle.rules.proofs.Chains.{page_from, Next}
 use Rattle.rules.proofs.Nests.{pages_go, last_not, last_is}
-
--- ---- a
-
-module _ (n : ℕ) (t : List ℕ) (j e a p : ℕ) (qe : e ≡ end_of t j) (qa : a ≡ top_of t j) (qp : p ≡ 2 ^ n) where
-  pub top_low : a + p < e + 2 → top_fits n t j ≡ false
-  unfolding top_fits
-  top_low b = rw (← qe, ← qa, ← qp, lt-leb _ _ b)
-
-  pub top_is : e + 2 ≤ a + p → top_fits n t j ≡ leb a e
-  unfolding top_fits
-  top_is b = rw (← qe, ← qa, ← qp, le-leb _ _ b)
 
 -- ---- rule 4, region by region
 

@@ -14,16 +14,14 @@ use rules::{Lent, Region};
 use table_words::zero_between;
 
 // Whether a region's a lies from e-P+2 to e.
+#[tactic(auto, using(laws::proofs::Tests::tests, rules::proofs::Limits::page_size), unfolding(rules::specs::Audit::top_fits))]
 fn top_fits(table: &[u32], j: Region, n: u32) -> bool
     requires { (length table.now ≡ 256) × (j.0 < 64) × (4 ≤ n) × (n ≤ 8) }
     ensures { result ≡ top_fits n table.now j.0 }
 {
     let end = end_of(table, j);
     let top = top_of(table, j);
-    if address_behind(top, page_words(n)).0 < address_behind(end, 2).0 {
-        return false;
-    }
-    top.0 <= end.0
+    address_behind(end, 2).0 <= address_behind(top, page_words(n)).0 && top.0 <= end.0
 }
 
 // Rule 4: the chain's last page starts at e-P, a lies from e-P+2 to e.
@@ -40,35 +38,34 @@ pub fn rule4(admitted: Admitted<'_>) -> bool
     let regions = c.regions as usize;
     let size = page_words(n);
     let pages = page_count(heap.len(), n) as u32;
-    let mut fine = true;
-    'regions: for j in 0..regions {
-        let region = region_numbered(j);
-        if !top_fits(table, region, n) {
-            fine = false;
-            break 'regions;
+    'regions: {
+        for j in 0..regions {
+            let region = region_numbered(j);
+            if !top_fits(table, region, n) {
+                break 'regions false;
+            }
+            let end = end_of(table, region);
+            let mut link = first_link(table, region, n);
+            'pages: for _ in 0..pages {
+                if link == 0 {
+                    break 'pages;
+                }
+                if pages < link {
+                    break 'pages;
+                }
+                let base = link_address(link, n);
+                let i = base.0;
+                link = heap[i];
+                if 0 < link {
+                    continue 'pages;
+                }
+                if end.0 != address_behind(base, size).0 {
+                    break 'regions false;
+                }
+            }
         }
-        let end = end_of(table, region);
-        let mut link = first_link(table, region, n);
-        'pages: for _ in 0..pages {
-            if link == 0 {
-                break 'pages;
-            }
-            if pages < link {
-                break 'pages;
-            }
-            let base = link_address(link, n);
-            let i = base.0;
-            link = heap[i];
-            if 0 < link {
-                continue 'pages;
-            }
-            if end.0 != address_behind(base, size).0 {
-                fine = false;
-                break 'regions;
-            }
-        }
+        true
     }
-    fine
 }
 
 // Rule 9: a free page is all zero but its link.
@@ -84,7 +81,6 @@ pub fn rule9(admitted: Admitted<'_>) -> bool
     let first = c.first;
     let size = page_words(n);
     let pages = page_count(heap.len(), n) as u32;
-    let mut fine = true;
     let mut link = first;
     'pages: for _ in 0..pages {
         if link == 0 {
@@ -95,11 +91,10 @@ pub fn rule9(admitted: Admitted<'_>) -> bool
         }
         let base = link_address(link, n);
         if !zero_between(heap, address_behind(base, 1), address_behind(base, size)) {
-            fine = false;
-            break 'pages;
+            return false;
         }
         let i = base.0;
         link = heap[i];
     }
-    fine
+    true
 }

@@ -15,16 +15,12 @@ use rows::status_of;
 use rules::{Address, Lent};
 
 // Whether the words from one address up to another are 0.
+#[tactic(auto, using(crate::proofs::Between::between_none, crate::proofs::Between::between_lent))]
 pub fn zero_between(words: &[u32], from: Address, to: Address) -> bool
     requires { to.0 ≤ length words.now }
     ensures { result ≡ zeros (slice from.0 to.0 words.now) }
 {
-    if to.0 <= from.0 {
-        return true;
-    }
-    let start = from.0;
-    let end = to.0;
-    all_zero(&words[start..end])
+    to.0 <= from.0 || all_zero(&words[from.0..to.0])
 }
 
 // Whether each region's b is 0.
@@ -36,6 +32,7 @@ fn idle(table: &[u32], regions: usize) -> bool
 }
 
 // Rule 2: R at most 64, table words past 4R are 0, each b is 0.
+#[tactic(auto, using(laws::proofs::Tests::tests, laws::proofs::Parts::zeros_rest), unfolding(rules::specs::Audit::rule2))]
 pub fn rule2(admitted: Admitted<'_>) -> bool
     ensures { result ≡ rule2_of (store admitted.entry.lent) }
 {

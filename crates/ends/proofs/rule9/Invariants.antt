@@ -8,4 +8,4 @@ use Rattle.rules.specs.Audit.{clean}
 use Rattle.ends.proofs.rule9.Given as goal
 
 abbrev pub invariant-pages : goal.invariant-pages
-invariant-pages l = ((all (clean l.n l.heap) (chain (l.pages - l.counter) l.n l.heap l.link) && true) ≡ (all (clean l.n l.heap) (chain l.pages l.n l.heap l.first) && true)) × (l.fine ≡ true)
+invariant-pages l = (all (clean l.n l.heap) (chain (l.pages - l.counter) l.n l.heap l.link) && true) ≡ (all (clean l.n l.heap) (chain l.pages l.n l.heap l.first) && true)

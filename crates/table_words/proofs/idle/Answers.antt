@@ -6,7 +6,7 @@ use lib.Dec.{eqb}
 use Rattle.std.proofs.lemmas.Iterator.{YieldsList-from_range}
 use Rattle.std.proofs.lemmas.Iterator.Search.{all_from_yields_List}
 use Rattle.rules.specs.Memory.{status_of}
-use Rattle.table_words.proofs.Two.{run_all}
+use Rattle.table_words.proofs.Runs.{run_all}
 use Rattle.table_words.proofs.idle.Goals as goal
 
 pub returns : goal.returns
