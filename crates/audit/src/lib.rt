@@ -2,7 +2,7 @@
 
 #![tactic(auto)]
 
-ghost use Rattle.std.specs.Prelude.{◌≡◌};
+ghost use Rattle.std.specs.Prelude.{◌≡◌, ◌<◌, MatchOption};
 ghost use Rattle.rules.specs.Audit.{broken_rule};
 ghost use Rattle.rules.specs.Calls.{audit as audit_of};
 ghost use Rattle.rules.specs.Memory.{store};
@@ -16,47 +16,47 @@ use limits::{Admitted, admit};
 use rules::{Control, Lent, Refusal, Refused};
 use table_words::rule2;
 
-// The first broken rule, 0 where all hold.
-fn broken_rule(admitted: Admitted<'_>) -> u32
-    ensures { result ≡ broken_rule (store admitted.entry.lent) }
+// The first broken rule.
+fn broken_rule(admitted: Admitted<'_>) -> Option<u32>
+    ensures { let first = broken_rule (store admitted.entry.lent) in
+        MatchOption result (first ≡ 0) (λ rule. (rule ≡ first) × (0 < rule)) }
 {
     if !rule2(admitted) {
-        return 2;
+        return Some(2);
     }
     if !rule3(admitted) {
-        return 3;
+        return Some(3);
     }
     if !rule4(admitted) {
-        return 4;
+        return Some(4);
     }
     if !rule5(admitted) {
-        return 5;
+        return Some(5);
     }
     if !rule6(admitted) {
-        return 6;
+        return Some(6);
     }
     if !rule7(admitted) {
-        return 7;
+        return Some(7);
     }
     if !rule8(admitted) {
-        return 8;
+        return Some(8);
     }
     if !rule9(admitted) {
-        return 9;
+        return Some(9);
     }
-    0
+    None
 }
 
 // Whether all rules hold, and which is the first that does not.
 pub fn audit(lent: Lent<'_>) -> Result<Control, Refused>
     ensures { result ≡ audit_of (store lent.entry) }
 {
-    let rule = broken_rule(admit(lent)?);
-    if 0 < rule {
-        return Err(Refused {
+    match broken_rule(admit(lent)?) {
+        Some(rule) => Err(Refused {
             why: Refusal::Broken(rule),
             control: lent.control,
-        });
+        }),
+        None => Ok(lent.control),
     }
-    Ok(lent.control)
 }

@@ -1,5 +1,5 @@
--- Rule 8 by its parts: the constants from their first word to their last, a field by its remainder, and the two tests. Each part is one of the
--- tests that rule 8 joins.
+-- Rule 8 by its parts: the constants from their first word to their last, and a field by its remainder. Each part is one of the tests that
+-- rule 8 joins.
 use Prim.Native.Nat.{ℕ, ◌/◌, ◌%◌}
 use mathlib.Core.Path.{◌≡◌}
 use mathlib.Core.Bool.{Bool, true, false, ◌&&◌, and-true}
@@ -7,10 +7,8 @@ use mathlib.Core.List.{List}
 use lib.ListN.{length}
 use lib.Seq.{take-length}
 use Rattle.laws.specs.Lists.{all}
-use Rattle.rules.specs.declared.Control.{Control}
-use Rattle.rules.specs.Memory.{lent}
 use Rattle.rules.specs.Words.{vals_in, const_vals, fields_pass, good_const}
-use Rattle.rules.specs.Audit.{filled, const_field, rule8}
+use Rattle.rules.specs.Audit.{filled, const_field}
 use Rattle.rules.proofs.Pointers.{heap_word, const_word, number_word}
 use Rattle.contents.proofs.Turns.{Zeros}
 
@@ -36,12 +34,3 @@ module _ (k : List ℕ) (w : ℕ) where
   pub field_number : (w % 4 ≡ 0 → ⊥) → (w % 4 ≡ 2 → ⊥) → const_field k w ≡ true
   unfolding const_field
   field_number a b = rw (const_field, number_word w a b)
-
-module _ (h t r k : List ℕ) (c : Control) where
-  pub eight_off : filled 0 k ≡ false → rule8 (lent h t r k c) ≡ false
-  unfolding rule8
-  eight_off e = rw e
-
-  pub eight_at : filled 0 k ≡ true → rule8 (lent h t r k c) ≡ all (fields_pass (const_field k)) (const_vals k)
-  unfolding rule8
-  eight_at e = rw e

@@ -33,17 +33,16 @@ fn consts_filled(consts: &[u32]) -> bool
 }
 
 // Whether a constant's field is a number or a good constant pointer.
+#[tactic(auto, using(crate::proofs::Constants::field_heap, crate::proofs::Constants::field_const, crate::proofs::Constants::field_number))]
 fn const_field(consts: &[u32], w: u32) -> bool
     requires { length consts.now ≤ 65535 }
     ensures { result ≡ const_field consts.now w }
 {
-    if w % 4 == 0 {
-        return false;
+    match w % 4 {
+        0 => false,
+        2 => good_const(consts, pointer_address(w)),
+        _ => true,
     }
-    if w % 4 == 2 {
-        return good_const(consts, pointer_address(w));
-    }
-    true
 }
 
 // Whether each field of each constant record is a number or a good constant pointer.
@@ -52,38 +51,36 @@ fn const_fields(consts: &[u32]) -> bool
     ensures { result ≡ all (fields_pass (const_field consts.now)) (const_vals consts.now) }
 {
     let end = address_numbered(consts.len());
-    let mut fine = true;
     let mut at = address_numbered(0);
-    'values: while at.0 < end.0 {
-        let i = at.0;
-        let head = consts[i];
-        if !fits(head, end.0 - (at.0 + 1)) {
-            break 'values;
-        }
-        let next = address_behind(at, 1 + (head / 8) as usize);
-        if !is_record(head) {
-            at = next;
-            continue 'values;
-        }
-        let first = address_behind(at, 1);
-        for w in &consts[first.0..next.0] {
-            if !const_field(consts, *w) {
-                fine = false;
+    'records: {
+        'values: while at.0 < end.0 {
+            let i = at.0;
+            let head = consts[i];
+            if !fits(head, end.0 - (at.0 + 1)) {
                 break 'values;
             }
+            let next = address_behind(at, 1 + (head / 8) as usize);
+            if !is_record(head) {
+                at = next;
+                continue 'values;
+            }
+            let first = address_behind(at, 1);
+            for w in &consts[first.0..next.0] {
+                if !const_field(consts, *w) {
+                    break 'records false;
+                }
+            }
+            at = next;
         }
-        at = next;
+        true
     }
-    fine
 }
 
 // Rule 8: constants are values back to back, then zeros, and their fields are numbers or good constant pointers.
+#[tactic(auto, using(laws::proofs::Tests::tests), unfolding(rules::specs::Audit::rule8))]
 pub fn rule8(admitted: Admitted<'_>) -> bool
     ensures { result ≡ rule8_of (store admitted.entry.lent) }
 {
     let Lent { consts, .. } = admitted.lent;
-    if !consts_filled(consts) {
-        return false;
-    }
-    const_fields(consts)
+    consts_filled(consts) && const_fields(consts)
 }

@@ -28,43 +28,42 @@ pub fn rule5(admitted: Admitted<'_>) -> bool
     let regions = c.regions as usize;
     let size = page_words(n);
     let pages = page_count(heap.len(), n) as u32;
-    let mut fine = true;
-    'regions: for j in 0..regions {
-        let region = region_numbered(j);
-        let top = top_of(table, region);
-        let mut link = first_link(table, region, n);
-        'pages: for _ in 0..pages {
-            if link == 0 {
-                break 'pages;
-            }
-            if pages < link {
-                break 'pages;
-            }
-            let base = link_address(link, n);
-            let end = address_behind(base, size);
-            let mut at = address_behind(base, 2);
-            'values: while at.0 < end.0 {
-                let i = at.0;
-                let head = heap[i];
-                if !fits(head, end.0 - (at.0 + 1)) {
-                    break 'values;
+    'regions: {
+        for j in 0..regions {
+            let region = region_numbered(j);
+            let top = top_of(table, region);
+            let mut link = first_link(table, region, n);
+            'pages: for _ in 0..pages {
+                if link == 0 {
+                    break 'pages;
                 }
-                at = address_behind(at, 1 + (head / 8) as usize);
-            }
-            if !zero_between(heap, at, end) {
-                fine = false;
-                break 'regions;
-            }
-            let i = base.0;
-            link = heap[i];
-            if 0 < link {
-                continue 'pages;
-            }
-            if at.0 != top.0 {
-                fine = false;
-                break 'regions;
+                if pages < link {
+                    break 'pages;
+                }
+                let base = link_address(link, n);
+                let end = address_behind(base, size);
+                let mut at = address_behind(base, 2);
+                'values: while at.0 < end.0 {
+                    let i = at.0;
+                    let head = heap[i];
+                    if !fits(head, end.0 - (at.0 + 1)) {
+                        break 'values;
+                    }
+                    at = address_behind(at, 1 + (head / 8) as usize);
+                }
+                if !zero_between(heap, at, end) {
+                    break 'regions false;
+                }
+                let i = base.0;
+                link = heap[i];
+                if 0 < link {
+                    continue 'pages;
+                }
+                if at.0 != top.0 {
+                    break 'regions false;
+                }
             }
         }
+        true
     }
-    fine
 }

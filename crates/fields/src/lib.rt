@@ -32,10 +32,7 @@ fn points_into(heap: &[u32], n: u32, j: Region, w: u32) -> bool
     }
     let base = page_address(address_page(a, n), n);
     let origin = heap[base.0 + 1];
-    if origin == 0 {
-        return false;
-    }
-    origin_region(origin).0 == j.0
+    origin != 0 && origin_region(origin).0 == j.0
 }
 
 // Whether each of the words passes the test.
@@ -65,44 +62,44 @@ fn records_pass<F: Fn(u32) -> bool>(admitted: Admitted<'_>, below: usize, test: 
     let n = control.n;
     let size = page_words(n);
     let pages = page_count(heap.len(), n) as u32;
-    let mut fine = true;
-    'regions: for j in 0..below {
-        let mut link = first_link(table, region_numbered(j), n);
-        'pages: for _ in 0..pages {
-            if link == 0 {
-                break 'pages;
-            }
-            if pages < link {
-                break 'pages;
-            }
-            let base = link_address(link, n);
-            let end = address_behind(base, size);
-            let mut at = address_behind(base, 2);
-            'values: while at.0 < end.0 {
-                let i = at.0;
-                let head = heap[i];
-                if !fits(head, end.0 - (at.0 + 1)) {
-                    break 'values;
+    'regions: {
+        for j in 0..below {
+            let mut link = first_link(table, region_numbered(j), n);
+            'pages: for _ in 0..pages {
+                if link == 0 {
+                    break 'pages;
                 }
-                let next = address_behind(at, 1 + (head / 8) as usize);
-                if !is_record(head) {
-                    at = next;
-                    continue 'values;
+                if pages < link {
+                    break 'pages;
                 }
-                let first = address_behind(at, 1);
-                for w in &heap[first.0..next.0] {
-                    if !test(*w) {
-                        fine = false;
-                        break 'regions;
+                let base = link_address(link, n);
+                let end = address_behind(base, size);
+                let mut at = address_behind(base, 2);
+                'values: while at.0 < end.0 {
+                    let i = at.0;
+                    let head = heap[i];
+                    if !fits(head, end.0 - (at.0 + 1)) {
+                        break 'values;
                     }
+                    let next = address_behind(at, 1 + (head / 8) as usize);
+                    if !is_record(head) {
+                        at = next;
+                        continue 'values;
+                    }
+                    let first = address_behind(at, 1);
+                    for w in &heap[first.0..next.0] {
+                        if !test(*w) {
+                            break 'regions false;
+                        }
+                    }
+                    at = next;
                 }
-                at = next;
+                let i = base.0;
+                link = heap[i];
             }
-            let i = base.0;
-            link = heap[i];
         }
+        true
     }
-    fine
 }
 
 // Rule 6: each field of each record in the heap is a number or a good pointer.

@@ -22,7 +22,7 @@ use Rattle.contents.proofs.rule5.Goals.{else-values-test, then-values-test+then-
 pub pages-init : goal.pages-init
 pages-init c =
     let q : c.page_count-pages.result - 0 ≡ c.page_count-pages.result = omega arith in
-    rw q (sym (regions_go _ _ _ _ c.args.admitted.lent.table.now _ c.regions.j c.first_link-link.result c.page_count-pages.ensures (cc) (omega arith)) ∙ c.regions.invariant.0, c.regions.invariant.1)
+    rw q (sym (regions_go _ _ _ _ c.args.admitted.lent.table.now _ c.loop-j.j c.first_link-link.result c.page_count-pages.ensures (cc) (omega arith)) ∙ c.loop-j.invariant)
 
 next : (c : After-link_address-base) → Next c.args.admitted.lent.control.n c.args.admitted.lent.heap.now (c.page_count-pages.result - c.pages.counter) c.pages.link c.link_address-base.result.0
 next c = next_page_lem _ _ _ c.page_count-pages.ensures _ _ _ c.link_address-base.ensures (omega arith) (λ z. omega arith) (omega arith)
@@ -42,7 +42,7 @@ inside c =
     omega (arith, page, c.page_words-size.ensures)
 
 pub values-init : goal.values-init
-values-init c = sym (five_page (next (goal.at.values-init c).After-link_address-base) c.args.admitted.lent.table.now c.regions.j c.top_of-top.result.0 _ (cc) c.page_words-size.ensures _ _ _ c.address_behind-at.ensures c.address_behind-end.ensures) ∙ c.pages.invariant.0
+values-init c = sym (five_page (next (goal.at.values-init c).After-link_address-base) c.args.admitted.lent.table.now c.loop-j.j c.top_of-top.result.0 _ (cc) c.page_words-size.ensures _ _ _ c.address_behind-at.ensures c.address_behind-end.ensures) ∙ c.pages.invariant
 
 pub values-preserved : goal.values-preserved
 values-preserved c = sym (rest_go _ _ _ _ _ _ (omega arith) (inside (goal.at.values-preserved c).After-address_behind-end) _ (told_true c.fits.ensures c.if-not-fits.false) (omega arith) _ c.address_behind-at-in-values.ensures) ∙ c.values.invariant
@@ -56,7 +56,7 @@ ended c end =
     ]
 
 passed : (c : Left-values)
-    → Passed c.args.admitted.lent.heap.now c.values.at.0 c.address_behind-end.result.0 (get_or c.args.admitted.lent.heap.now c.link_address-base.result.0 0) c.top_of-top.result.0 (all (page_filled c.args.admitted.lent.control.n c.args.admitted.lent.heap.now c.args.admitted.lent.table.now c.regions.j) (chain (c.page_count-pages.result - c.pages.counter - 1) c.args.admitted.lent.control.n c.args.admitted.lent.heap.now (get_or c.args.admitted.lent.heap.now c.link_address-base.result.0 0)) && all_from (λ i. all (page_filled c.args.admitted.lent.control.n c.args.admitted.lent.heap.now c.args.admitted.lent.table.now i) (region_pages c.args.admitted.lent.control.n c.args.admitted.lent.heap.now c.args.admitted.lent.table.now i)) (c.args.admitted.lent.control.regions - c.regions.j - 1) (c.regions.j + 1)) (all_from (λ i. all (page_filled c.args.admitted.lent.control.n c.args.admitted.lent.heap.now c.args.admitted.lent.table.now i) (region_pages c.args.admitted.lent.control.n c.args.admitted.lent.heap.now c.args.admitted.lent.table.now i)) c.args.admitted.lent.control.regions 0)
+    → Passed c.args.admitted.lent.heap.now c.values.at.0 c.address_behind-end.result.0 (get_or c.args.admitted.lent.heap.now c.link_address-base.result.0 0) c.top_of-top.result.0 (all (page_filled c.args.admitted.lent.control.n c.args.admitted.lent.heap.now c.args.admitted.lent.table.now c.loop-j.j) (chain (c.page_count-pages.result - c.pages.counter - 1) c.args.admitted.lent.control.n c.args.admitted.lent.heap.now (get_or c.args.admitted.lent.heap.now c.link_address-base.result.0 0)) && all_from (λ i. all (page_filled c.args.admitted.lent.control.n c.args.admitted.lent.heap.now c.args.admitted.lent.table.now i) (region_pages c.args.admitted.lent.control.n c.args.admitted.lent.heap.now c.args.admitted.lent.table.now i)) (c.args.admitted.lent.control.regions - c.loop-j.j - 1) (c.loop-j.j + 1)) (all_from (λ i. all (page_filled c.args.admitted.lent.control.n c.args.admitted.lent.heap.now c.args.admitted.lent.table.now i) (region_pages c.args.admitted.lent.control.n c.args.admitted.lent.heap.now c.args.admitted.lent.table.now i)) c.args.admitted.lent.control.regions 0)
 passed c =
     let page : Inside (2 ^ c.args.admitted.lent.control.n) c.link_address-base.result.0 (length c.args.admitted.lent.heap.now) = page_here _ _ _ _ _ c.args.admitted.fits.paged c.page_count-pages.ensures c.link_address-base.ensures (λ z. omega arith) (omega arith) in
     record { left = sym (rest_over _ _ _ _ _ _ (ended c (omega (arith, page, c.page_words-size.ensures)))) ∙ c.values.invariant }
@@ -64,21 +64,21 @@ passed c =
 pub pages-preserved-then-link-gt0 : goal.pages-preserved-then-link-gt0
 pages-preserved-then-link-gt0 c =
     let q : c.page_count-pages.result - (c.pages.counter + 1) ≡ c.page_count-pages.result - c.pages.counter - 1 = omega arith in
-    rw q (page_on (passed (goal.at.pages-preserved-then-link-gt0 c).Left-values) (told_true c.zero_between.ensures c.if-not-zero_between.false) (omega arith), c.pages.invariant.1)
+    rw q (page_on (passed (goal.at.pages-preserved-then-link-gt0 c).Left-values) (told_true c.zero_between.ensures c.if-not-zero_between.false) (omega arith))
 
 pub pages-preserved : goal.pages-preserved
 pages-preserved c =
     let q : c.page_count-pages.result - (c.pages.counter + 1) ≡ c.page_count-pages.result - c.pages.counter - 1 = omega arith in
-    rw q (page_at (passed (goal.at.pages-preserved c).Left-values) (told_true c.zero_between.ensures c.if-not-zero_between.false) (omega arith) (omega arith), c.pages.invariant.1)
+    rw q (page_at (passed (goal.at.pages-preserved c).Left-values) (told_true c.zero_between.ensures c.if-not-zero_between.false) (omega arith) (omega arith))
 
-pub regions-preserved : goal.regions-preserved
-regions-preserved c =
-    let q : c.args.admitted.lent.control.regions - (c.regions.j + 1) ≡ c.args.admitted.lent.control.regions - c.regions.j - 1 = omega arith in
-    rw q (sym (pages_over _ _ (over (goal.at.regions-preserved c).Left-pages)) ∙ c.pages.invariant.0, c.pages.invariant.1)
+pub loop-j-preserved : goal.loop-j-preserved
+loop-j-preserved c =
+    let q : c.args.admitted.lent.control.regions - (c.loop-j.j + 1) ≡ c.args.admitted.lent.control.regions - c.loop-j.j - 1 = omega arith in
+    rw q (sym (pages_over _ _ (over (goal.at.loop-j-preserved c).Left-pages)) ∙ c.pages.invariant)
 
-pub returns-after-regions : goal.returns-after-regions
+pub returns-after-loop-j : goal.returns-after-loop-j
 unfolding rule5
-returns-after-regions c = c.regions.invariant.1 ∙ sym (from_end _ _ _ (omega arith)) ∙ c.regions.invariant.0
+returns-after-loop-j c = sym (from_end _ _ _ (omega arith)) ∙ c.loop-j.invariant
 
 pub returns-then-not-zero_between : goal.returns-then-not-zero_between
 unfolding rule5

@@ -1,6 +1,6 @@
 -- `contents::rule5` meets its contract: at each level what is left to test, with what the outer levels have left, is the whole rule.
 use mathlib.Core.Path.{◌≡◌}
-use mathlib.Core.Bool.{true, ◌&&◌}
+use mathlib.Core.Bool.{◌&&◌}
 use Prim.Native.Nat.{◌+◌, ◌-◌}
 use lib.ListN.{get_or}
 use Rattle.laws.specs.Lists.{all, all_from}
@@ -16,7 +16,7 @@ abbrev pub decreases-values : goal.decreases-values
 decreases-values l = l.end.0 - l.at.0
 
 abbrev pub invariant-pages : goal.invariant-pages
-invariant-pages l = ((all (page_filled l.n l.heap l.table l.j) (chain (l.pages - l.counter) l.n l.heap l.link) && all_from (λ i. all (page_filled l.n l.heap l.table i) (region_pages l.n l.heap l.table i)) (l.regions - l.j - 1) (l.j + 1)) ≡ all_from (λ i. all (page_filled l.n l.heap l.table i) (region_pages l.n l.heap l.table i)) l.regions 0) × (l.fine ≡ true)
+invariant-pages l = (all (page_filled l.n l.heap l.table l.j) (chain (l.pages - l.counter) l.n l.heap l.link) && all_from (λ i. all (page_filled l.n l.heap l.table i) (region_pages l.n l.heap l.table i)) (l.regions - l.j - 1) (l.j + 1)) ≡ all_from (λ i. all (page_filled l.n l.heap l.table i) (region_pages l.n l.heap l.table i)) l.regions 0
 
-abbrev pub invariant-regions : goal.invariant-regions
-invariant-regions l = (all_from (λ i. all (page_filled l.n l.heap l.table i) (region_pages l.n l.heap l.table i)) (l.regions - l.j) l.j ≡ all_from (λ i. all (page_filled l.n l.heap l.table i) (region_pages l.n l.heap l.table i)) l.regions 0) × (l.fine ≡ true)
+abbrev pub invariant-loop-j : goal.invariant-loop-j
+invariant-loop-j l = all_from (λ i. all (page_filled l.n l.heap l.table i) (region_pages l.n l.heap l.table i)) (l.regions - l.j) l.j ≡ all_from (λ i. all (page_filled l.n l.heap l.table i) (region_pages l.n l.heap l.table i)) l.regions 0

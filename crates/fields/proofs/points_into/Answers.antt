@@ -1,11 +1,11 @@
 -- `fields::points_into` meets its contract: each way in which the code decides is what the definition decides.
 use mathlib.Core.Path.{◌≡◌, refl, sym, ap, ◌∙◌}
-use mathlib.Core.Bool.{Bool}
+use mathlib.Core.Bool.{Bool, not}
 use Prim.Native.Nat.{◌*◌, ◌^◌}
 use native.Mathlib.Omega.{arith}
 use native.Mathlib.Nat.{div-le_self}
+use lib.Dec.{eqb}
 use lib.ListN.{length}
-use Rattle.laws.proofs.Turned.{eqb_turned}
 use Rattle.rules.proofs.Limits.{Inside, in_page}
 use Rattle.fields.proofs.Turns.{into_not, into_out, into_none, into_at}
 use Rattle.fields.proofs.points_into.Goals as goal
@@ -39,8 +39,8 @@ offset_bounds-heap-base c = omega (arith, here (goal.at.offset_bounds-heap-base 
 pub bounds-heap-base : goal.bounds-heap-base
 bounds-heap-base c = omega (arith, here (goal.at.bounds-heap-base c).After-page_address-base)
 
-pub returns-then-origin-eq0 : goal.returns-then-origin-eq0
-returns-then-origin-eq0 c = sym (into_none _ _ _ _ _ c.if-w-ne0.false c.pointer_address-a.ensures _ _ c.address_page.ensures c.page_address-base.ensures c.if-origin-eq0.true)
+pub returns-then-origin-ne0 : goal.returns-then-origin-ne0
+returns-then-origin-ne0 c = let q = into_at c.args.n c.args.heap.now c.args.j.0 c.args.w _ c.if-w-ne0.false c.pointer_address-a.ensures _ _ c.address_page.ensures c.page_address-base.ensures _ c.if-origin-ne0.true c.origin_region.ensures in search by-test
 
-pub returns : goal.returns
-returns c = let q = into_at c.args.n c.args.heap.now c.args.j.0 c.args.w _ c.if-w-ne0.false c.pointer_address-a.ensures _ _ c.address_page.ensures c.page_address-base.ensures _ c.if-origin-eq0.false c.origin_region.ensures in search (by-test, eqb_turned)
+pub returns-else-origin-ne0 : goal.returns-else-origin-ne0
+returns-else-origin-ne0 c = ap (λ x. not (eqb x 0)) c.if-origin-ne0.false ∙ sym (into_none _ _ _ _ _ c.if-w-ne0.false c.pointer_address-a.ensures _ _ c.address_page.ensures c.page_address-base.ensures c.if-origin-ne0.false)

@@ -21,7 +21,7 @@ use Rattle.fields.proofs.records_pass.Goals.{Left-values, else-values-test, then
 pub pages-init : goal.pages-init
 pages-init g c =
     let q : c.page_count-pages.result - 0 ≡ c.page_count-pages.result = omega arith in
-    rw q (sym (regions_go _ _ _ _ c.args.admitted.lent.table.now _ c.regions.j c.first_link-link.result c.page_count-pages.ensures (cc) (omega arith)) ∙ c.regions.invariant.0, c.regions.invariant.1)
+    rw q (sym (regions_go _ _ _ _ c.args.admitted.lent.table.now _ c.loop-j.j c.first_link-link.result c.page_count-pages.ensures (cc) (omega arith)) ∙ c.loop-j.invariant)
 
 next : (g : Bound) (c : After-link_address-base g) → Next c.args.admitted.lent.control.n c.args.admitted.lent.heap.now (c.page_count-pages.result - c.pages.counter) c.pages.link c.link_address-base.result.0
 next g c = next_page_lem _ _ _ c.page_count-pages.ensures _ _ _ c.link_address-base.ensures (omega arith) c.if-link-eq0.false c.if-pages-link.false
@@ -45,10 +45,10 @@ within : (g : Bound) (c : After-address_behind-next g) → c.address_behind-end.
 within g c end = let f = (fit_of _ _ (told_true c.fits.ensures c.if-not-fits.false)).1 in omega (arith, end)
 
 pub values-init : goal.values-init
-values-init g c = (sym (page_records (next g (goal.at.values-init g c).After-link_address-base) _ _ c.page_words-size.ensures _ _ _ c.address_behind-at.ensures c.address_behind-end.ensures) ∙ c.pages.invariant.0, c.pages.invariant.1)
+values-init g c = sym (page_records (next g (goal.at.values-init g c).After-link_address-base) _ _ c.page_words-size.ensures _ _ _ c.address_behind-at.ensures c.address_behind-end.ensures) ∙ c.pages.invariant
 
 pub values-preserved-then-not-is_record : goal.values-preserved-then-not-is_record
-values-preserved-then-not-is_record g c = (sym (raw_go _ _ _ _ _ c.values-test.true (inside g (goal.at.values-preserved-then-not-is_record g c).After-address_behind-end) (told_true c.fits.ensures c.if-not-fits.false) _ c.address_behind-next.ensures (told_false c.is_record.ensures c.if-not-is_record.true)) ∙ c.values.invariant.0, c.values.invariant.1)
+values-preserved-then-not-is_record g c = sym (raw_go _ _ _ _ _ c.values-test.true (inside g (goal.at.values-preserved-then-not-is_record g c).After-address_behind-end) (told_true c.fits.ensures c.if-not-fits.false) _ c.address_behind-next.ensures (told_false c.is_record.ensures c.if-not-is_record.true)) ∙ c.values.invariant
 
 pub slice_bounds-w-items-end : goal.slice_bounds-w-items-end
 slice_bounds-w-items-end g c = omega (arith, within g (goal.at.slice_bounds-w-items-end g c).After-address_behind-next (inside g (goal.at.slice_bounds-w-items-end g c).After-address_behind-end))
@@ -56,13 +56,13 @@ slice_bounds-w-items-end g c = omega (arith, within g (goal.at.slice_bounds-w-it
 pub loop-w-init : goal.loop-w-init
 loop-w-init g c =
     let record_ = record_go _ _ _ _ _ c.values-test.true (inside g (goal.at.loop-w-init g c).After-address_behind-end) (told_true c.fits.ensures c.if-not-fits.false) _ c.address_behind-next.ensures (told_true c.is_record.ensures c.if-not-is_record.false) _ c.address_behind-first.ensures in
-    (sym (record_ ∙ part_all _ _ c.address_behind-first.result.0 c.address_behind-next.result.0 _ (omega arith)) ∙ c.values.invariant.0, c.values.invariant.1)
+    sym (record_ ∙ part_all _ _ c.address_behind-first.result.0 c.address_behind-next.result.0 _ (omega arith)) ∙ c.values.invariant
 
 pub loop-w-preserved : goal.loop-w-preserved
-loop-w-preserved g c = (sym (fields_go _ _ _ _ _ c.loop-w-test.true (le_refl _) (sym (c.requires.1.1.1 _ _ c.test.ensures) ∙ c.if-not-test.false)) ∙ c.loop-w.invariant.0, c.loop-w.invariant.1)
+loop-w-preserved g c = sym (fields_go _ _ _ _ _ c.loop-w-test.true (le_refl _) (sym (c.requires.1.1.1 _ _ c.test.ensures) ∙ c.if-not-test.false)) ∙ c.loop-w.invariant
 
 pub values-preserved : goal.values-preserved
-values-preserved g c = (sym (fields_end _ _ _ _ _ c.loop-w-test.false) ∙ c.loop-w.invariant.0, c.loop-w.invariant.1)
+values-preserved g c = sym (fields_end _ _ _ _ _ c.loop-w-test.false) ∙ c.loop-w.invariant
 
 -- no value stands where the loop stopped
 ended : (g : Bound) (c : Left-values g) → c.address_behind-end.result.0 ≤ length c.args.admitted.lent.heap.now → vals_in c.args.admitted.lent.heap.now c.values.at.0 c.address_behind-end.result.0 ≡ []
@@ -76,15 +76,15 @@ pub pages-preserved : goal.pages-preserved
 pages-preserved g c =
     let q : c.page_count-pages.result - (c.pages.counter + 1) ≡ c.page_count-pages.result - c.pages.counter - 1 = omega arith in
     let none = ended g (goal.at.pages-preserved g c).Left-values (inside g (goal.at.pages-preserved g c).After-address_behind-end) in
-    rw q (sym (values_over _ _ _ _ _ none) ∙ c.values.invariant.0, c.values.invariant.1)
+    rw q (sym (values_over _ _ _ _ _ none) ∙ c.values.invariant)
 
-pub regions-preserved : goal.regions-preserved
-regions-preserved g c =
-    let q : c.args.below - (c.regions.j + 1) ≡ c.args.below - c.regions.j - 1 = omega arith in
-    rw q (sym (pages_over _ _ (over g (goal.at.regions-preserved g c).Left-pages)) ∙ c.pages.invariant.0, c.pages.invariant.1)
+pub loop-j-preserved : goal.loop-j-preserved
+loop-j-preserved g c =
+    let q : c.args.below - (c.loop-j.j + 1) ≡ c.args.below - c.loop-j.j - 1 = omega arith in
+    rw q (sym (pages_over _ _ (over g (goal.at.loop-j-preserved g c).Left-pages)) ∙ c.pages.invariant)
 
-pub returns-after-regions : goal.returns-after-regions
-returns-after-regions g c = c.regions.invariant.1 ∙ sym (from_end _ _ _ (omega arith)) ∙ c.regions.invariant.0
+pub returns-after-loop-j : goal.returns-after-loop-j
+returns-after-loop-j g c = sym (from_end _ _ _ (omega arith)) ∙ c.loop-j.invariant
 
 pub returns-then-not-test : goal.returns-then-not-test
-returns-then-not-test g c = sym (fields_stop _ _ _ _ _ c.loop-w-test.true (le_refl _) (sym (c.requires.1.1.1 _ _ c.test.ensures) ∙ c.if-not-test.true)) ∙ c.loop-w.invariant.0
+returns-then-not-test g c = sym (fields_stop _ _ _ _ _ c.loop-w-test.true (le_refl _) (sym (c.requires.1.1.1 _ _ c.test.ensures) ∙ c.if-not-test.true)) ∙ c.loop-w.invariant
