@@ -9,7 +9,7 @@ ghost use Rattle.rules.specs.Words.{good_in};
 ghost use Rattle.rules.specs.Refusals.{Paged, outcome};
 ghost use Rattle.rules.specs.Calls.{row_fits, header_for, words_fit, allocate as allocate_of};
 
-use conversions::{address_before, address_behind};
+use conversions::address_behind;
 use limits::first_tests;
 use pages::page_words;
 use placing::put_value;
@@ -18,6 +18,7 @@ use rules::{Control, Kind, Refusal, Refused, Region};
 use values::{Memory, good_word};
 
 // Whether region j's e and a are fit for an allocation: e is a multiple of P from P to NP, a lies from e-P+2 to e.
+#[tactic(auto, using(laws::proofs::Tests::tests), unfolding(rules::specs::Calls::row_fits, rules::specs::Audit::top_fits))]
 fn row_fits(heap: &[u32], table: &[u32], j: Region, n: u32) -> bool
     requires { (length table.now ≡ 256) × (j.0 < 64) × (4 ≤ n) × (n ≤ 8) }
     ensures { result ≡ row_fits n heap.now table.now j.0 }
@@ -25,20 +26,11 @@ fn row_fits(heap: &[u32], table: &[u32], j: Region, n: u32) -> bool
     let p = page_words(n);
     let e = end_of(table, j);
     let a = top_of(table, j);
-    if e.0 % p != 0 {
-        return false;
-    }
-    if e.0 < p {
-        return false;
-    }
-    if heap.len() < e.0 {
-        return false;
-    }
-    let body = address_behind(address_before(e, p), 2);
-    if a.0 < body.0 {
-        return false;
-    }
-    a.0 <= e.0
+    e.0 % p == 0
+        && p <= e.0
+        && e.0 <= heap.len()
+        && address_behind(e, 2).0 <= address_behind(a, p).0
+        && a.0 <= e.0
 }
 
 // Whether each word is a number or a good pointer.

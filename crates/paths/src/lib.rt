@@ -17,16 +17,16 @@ fn walk_from(memory: Memory<'_>, w: u32, path: &[u32]) -> Result<u32, Refusal>
     ensures { let m = memory.entry in walked result ≡ walk_from (look_of m.c.n m.c.regions m.heap.now m.consts.now) w path.now }
 {
     if w % 2 == 1 {
-        if path.len() == 0 {
+        if path.is_empty() {
             return Ok(w);
         }
         return Err(Refusal::NoFields);
     }
     let met = look(memory, w);
-    if met.len() == 0 {
+    if met.is_empty() {
         return Err(Refusal::NotGood);
     }
-    if path.len() == 0 {
+    if path.is_empty() {
         return Ok(w);
     }
     if !is_record(met[0]) {

@@ -44,10 +44,8 @@ fn write_words(bytes: &mut [u8], at: usize, words: &[u32])
     requires { at + 8 * length words.now ≤ length bytes.old }
     ensures { bytes.new ≡ sets bytes.old at (hex_words words.now) }
 {
-    let mut i = at;
-    for w in words {
-        write_digits(bytes, i, *w, 8);
-        i += 8;
+    for (i, w) in words.iter().enumerate() {
+        write_digits(bytes, at + 8 * i, *w, 8);
     }
 }
 

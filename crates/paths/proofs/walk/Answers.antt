@@ -1,9 +1,8 @@
 -- `paths::walk` meets its contract: the first tests, the root's number, and then the walk from the root's word.
-use mathlib.Core.Path.{◌≡◌, ap, ◌∙◌}
 use borrow.Author.Tests.{le-leb, lt-leb}
 use Rattle.std.specs.Prelude.{Err}
 use Rattle.std.proofs.lemmas.Result.{err_from_is_err_and}
-use Rattle.rules.specs.Calls.{walk, walk_says}
+use Rattle.rules.specs.Calls.{walk}
 use Rattle.rules.specs.Memory.{store}
 use Rattle.limits.proofs.First.{refused_first, admitted_first}
 use Rattle.paths.proofs.walk.Goals as goal

@@ -6,6 +6,5 @@ use lib.Seq.{sets}
 use Rattle.rules.specs.Image.{hex_words}
 use Rattle.writing.proofs.write_words.Given as goal
 
-abbrev pub invariant-loop-w : goal.invariant-loop-w
-invariant-loop-w l =
-    (sets l.bytes l.i (hex_words (drop l.w-index l.words)) ≡ sets l.initial.bytes l.at (hex_words l.words)) × (l.i ≡ l.at + 8 * l.w-index)
+abbrev pub invariant-loop-i : goal.invariant-loop-i
+invariant-loop-i l = sets l.bytes (l.at + 8 * l.i) (hex_words (drop l.i l.words)) ≡ sets l.initial.bytes l.at (hex_words l.words)
