@@ -1,16 +1,17 @@
 // Lines of a reader, whose bytes come in chunks.
-ghost use Rattle.std.specs.Prelude.{◌≡◌, ◌≤◌, length, max, IfOk, IfSome};
+ghost use Rattle.std.specs.Prelude.{◌≡◌, ◌≤◌, length, max, false, IfOk, IfSome};
 
 use std::io;
 use std::io::Read;
 
-// A reader, and the last chunk of it: the bytes from `from` to `end` are still to come.
+// A reader, and the last chunk of it: the bytes from `from` to `end` are still to come. Once the input is over nothing more is read.
 #[derive(Drop)]
 pub struct Lines<'a, R> {
     source: &'a mut R,
     chunk: &'a mut [u8],
     from: usize,
     end: usize,
+    is_over: bool,
     ghost inside: { end ≤ length chunk.now },
 }
 
@@ -20,12 +21,14 @@ impl<'a, R: Read> Lines<'a, R> {
         ensures chunk { result.chunk.now ≡ chunk.old }
         ensures from { result.from ≡ 0 }
         ensures end { result.end ≡ 0 }
+        ensures over { result.is_over ≡ false }
     {
         Lines {
             source,
             chunk,
             from: 0,
             end: 0,
+            is_over: false,
         }
     }
 
@@ -34,12 +37,16 @@ impl<'a, R: Read> Lines<'a, R> {
         ensures line { IfOk result (λ told. IfSome told (λ text. length text.now ≤ max (length line.old) 1)) }
         ensures chunk { length self.new.chunk.now ≡ length self.old.chunk.now }
     {
+        if self.is_over {
+            return Ok(None);
+        }
         let mut used = 0;
         for _ in 0..u64::MAX {
             if self.end <= self.from {
                 self.from = 0;
                 self.end = self.source.read(self.chunk)?;
                 if self.end == 0 {
+                    self.is_over = true;
                     break;
                 }
             }
