@@ -1,4 +1,5 @@
-// The collection at work: taking pages, moving values. Each function does what its definition in motion says, whatever the heap holds.
+// The collection at work: taking pages, moving values. Each function does what its definition in motion says, whatever the heap holds. What takes a desk
+// at two places is laid into both: called, it would have the desk in memory, and read heap and notes from there again after each word that it writes.
 
 #![tactic(auto)]
 
@@ -19,6 +20,7 @@ use rules::{Address, Region};
 // ---- Pages.
 
 // The first free page taken, if there is one: the link to it.
+#[inline(always)]
 #[tactic(auto, unfolding(motion::specs::Run::take_at, motion::specs::Run::take_on))]
 pub fn take_page(desk: &mut Desk<'_>) -> Result<usize, NoPage>
     ensures taken { after (result_unwrap_or result 0) (laid desk.new) ≡ take_free desk.old.n (laid desk.old) }
@@ -59,6 +61,7 @@ fn join_page(desk: &mut Desk<'_>, j: Region) -> Result<(), NoPage>
 // ---- Moving values.
 
 // The m words at a, at region j's a, which is b; the forward to them; the region is woken.
+#[inline(always)]
 #[tactic(auto, unfolding(motion::specs::Run::move_to))]
 fn move_to(desk: &mut Desk<'_>, a: Address, m: usize, j: Region, b: Address)
     requires { (a.0 < 4294967296) × (m ≤ 4294967296) × (j.0 < 4294967296) × (b.0 < 4294967296) }
@@ -86,6 +89,7 @@ fn move_further(desk: &mut Desk<'_>, a: Address, l: usize, j: Region) -> Result<
 }
 
 // The value at a moved, if it is not yet: to its region's a if it fits before e, else into a page more.
+#[inline(always)]
 #[tactic(auto, unfolding(motion::specs::Run::move_of, motion::specs::Run::move_on, motion::specs::Run::room))]
 pub fn move_value(desk: &mut Desk<'_>, a: Address) -> Result<(), NoPage>
     requires { a.0 < 4294967296 }
