@@ -1,5 +1,5 @@
 // Lines of a reader, whose bytes come in chunks.
-ghost use Rattle.std.specs.Prelude.{◌≡◌, ◌≤◌, length, max, false, IfOk, IfSome};
+ghost use Rattle.std.specs.Prelude.{◌≡◌, ◌≤◌, ◌<◌, ◌-◌, length, take, drop, slice_index, max, false, IfOk, IfSome};
 
 use std::io;
 use std::io::Read;
@@ -32,10 +32,20 @@ impl<'a, R: Read> Lines<'a, R> {
         }
     }
 
-    // The next line without its newline, in a lent part, and nothing at the input's end.
+    // The bytes of the chunk that are still to come.
+    fn to_come(&self) -> &[u8]
+        requires { self.now.from ≤ self.now.end }
+        ensures { result.now ≡ take (self.now.end - self.now.from) (drop self.now.from self.now.chunk.now) }
+    {
+        &self.chunk[self.from..self.end]
+    }
+
+    // The next line without its newline, in a lent part, and nothing at the input's end. What is left of the chunk begins behind a newline.
     pub fn next_line<'l>(&mut self, line: &'l mut [u8]) -> io::Result<Option<&'l [u8]>>
         ensures line { IfOk result (λ told. IfSome told (λ text. length text.now ≤ max (length line.old) 1)) }
         ensures chunk { length self.new.chunk.now ≡ length self.old.chunk.now }
+        ensures behind { IfOk result (λ told. IfSome told (λ _. let l = self.new in
+            l.from < l.end → (0 < l.from) × (slice_index l.chunk.now (l.from - 1) ≡ 10))) }
     {
         if self.is_over {
             return Ok(None);
@@ -43,28 +53,35 @@ impl<'a, R: Read> Lines<'a, R> {
         let mut used = 0;
         for _ in 0..u64::MAX {
             if self.end <= self.from {
+                let end = self.source.read(self.chunk)?;
                 self.from = 0;
-                self.end = self.source.read(self.chunk)?;
-                if self.end == 0 {
+                self.end = end;
+                if end == 0 {
                     self.is_over = true;
                     break;
                 }
             }
-            let bytes = &self.chunk[self.from..self.end];
-            let newline = bytes.iter().position(|b| *b == b'\n');
-            let n = newline.unwrap_or(bytes.len());
-            used = keep(&bytes[..n], line, used);
-            self.from += n;
-            if newline.is_some() {
-                self.from += 1;
+            let bytes = self.to_come();
+            if let Some(n) = newline_in(bytes) {
+                used = keep(&bytes[..n], line, used);
+                self.from += n + 1;
                 return Ok(Some(closed(line, used)));
             }
+            used = keep(bytes, line, used);
+            self.from = self.end;
         }
         if used == 0 {
             return Ok(None);
         }
         Ok(Some(closed(line, used)))
     }
+}
+
+// Where the first newline stands, if there is one.
+fn newline_in(bytes: &[u8]) -> Option<usize>
+    ensures { IfSome result (λ i. (i < length bytes.now) × (slice_index bytes.now i ≡ 10)) }
+{
+    bytes.iter().position(|b| *b == b'\n')
 }
 
 // Puts bytes after those that a line has, as many as it has room for; how many it has then.
