@@ -40,13 +40,13 @@ pub const NO_RECORD: Control = Control {
     count: 0,
 };
 
-// What the calls are lent, and the record that stands. A part that a call only reads is lent to it as one that may be written.
+// What the calls are lent, and the record that stands. A part that one call writes and another only reads is lent to both as one that may be written.
 #[derive(Drop)]
 pub struct Parts<'h, 't, 'r, 'c> {
     pub heap: &'h mut [u32],
     pub table: &'t mut [u32],
     pub roots: &'r mut [u32],
-    pub consts: &'c mut [u32],
+    pub consts: &'c [u32],
     pub control: Control,
 }
 
@@ -114,8 +114,7 @@ impl Parts<'_, '_, '_, '_> {
     fn open(&mut self, n: u32) -> Result<Given, Refusal>
         ensures { lengths self.new ≡ lengths self.old }
     {
-        let consts = &mut *self.consts;
-        let answer = set_up(self.heap, self.table, self.roots, consts, n);
+        let answer = set_up(self.heap, self.table, self.roots, self.consts, n);
         self.opened(answer)
     }
 
@@ -125,8 +124,8 @@ impl Parts<'_, '_, '_, '_> {
     {
         for _ in 0..regions {
             let c = self.control;
-            let (roots, consts) = (&mut *self.roots, &mut *self.consts);
-            let answer = push(self.heap, self.table, roots, consts, c);
+            let roots = &mut *self.roots;
+            let answer = push(self.heap, self.table, roots, self.consts, c);
             self.done(answer)?;
         }
         Ok(Given::Done)
@@ -138,7 +137,7 @@ impl Parts<'_, '_, '_, '_> {
     {
         let c = self.control;
         let j = region_numbered(j as usize);
-        let (roots, consts) = (&mut *self.roots, &mut *self.consts);
+        let (roots, consts) = (&mut *self.roots, self.consts);
         let answer = allocate(self.heap, self.table, roots, consts, c, j, kind, words);
         self.kept(answer.map(|(w, control)| (Given::Word(w), control)))
     }
@@ -148,7 +147,7 @@ impl Parts<'_, '_, '_, '_> {
         ensures { lengths self.new ≡ lengths self.old }
     {
         let c = self.control;
-        let (table, roots, consts) = (&mut *self.table, &mut *self.roots, &mut *self.consts);
+        let (table, roots, consts) = (&mut *self.table, &mut *self.roots, self.consts);
         let field = field as usize;
         let answer = assign(self.heap, table, roots, consts, c, target, field, w);
         self.done(answer)
@@ -159,7 +158,7 @@ impl Parts<'_, '_, '_, '_> {
         ensures { lengths self.new ≡ lengths self.old }
     {
         let c = self.control;
-        let (heap, table, consts) = (&mut *self.heap, &mut *self.table, &mut *self.consts);
+        let (heap, table, consts) = (&mut *self.heap, &mut *self.table, self.consts);
         let answer = set_root(heap, table, self.roots, consts, c, root as usize, w);
         self.done(answer)
     }

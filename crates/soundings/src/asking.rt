@@ -17,8 +17,7 @@ use std::io::Write;
 // The heap that is collected.
 fn collects(parts: &mut Parts<'_, '_, '_, '_>) {
     let c = parts.control;
-    let consts = &mut *parts.consts;
-    let answer = collect(parts.heap, parts.table, parts.roots, consts, c);
+    let answer = collect(parts.heap, parts.table, parts.roots, parts.consts, c);
     let _ = parts.done(answer);
 }
 

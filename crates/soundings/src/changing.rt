@@ -10,8 +10,8 @@ use telling::say::{Answer, Given};
 
 fn pops(parts: &mut Parts<'_, '_, '_, '_>) -> Result<Given, Refusal> {
     let c = parts.control;
-    let (roots, consts) = (&mut *parts.roots, &mut *parts.consts);
-    let answer = pop(parts.heap, parts.table, roots, consts, c);
+    let roots = &mut *parts.roots;
+    let answer = pop(parts.heap, parts.table, roots, parts.consts, c);
     parts.done(answer)
 }
 

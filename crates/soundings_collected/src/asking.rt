@@ -23,15 +23,20 @@ pub fn reads(question: &str) -> bool {
     matches!(question, "read" | "parts" | "names" | "write" | "moved")
 }
 
-fn read(parts: &mut Parts<'_, '_, '_, '_>, text: &[u8]) -> Result<Given, Refusal> {
-    let answer = read_image(text, parts.heap, parts.table, parts.roots, parts.consts);
+// The constants that the text is read into are those of the parts from then on.
+fn read<'c>(
+    parts: &mut Parts<'_, '_, '_, 'c>,
+    consts: &'c mut [u32],
+    text: &[u8],
+) -> Result<Given, Refusal> {
+    let answer = read_image(text, parts.heap, parts.table, parts.roots, consts);
+    parts.consts = consts;
     parts.opened(answer)
 }
 
 fn collected(parts: &mut Parts<'_, '_, '_, '_>) -> Result<Given, Refusal> {
     let c = parts.control;
-    let consts = &mut *parts.consts;
-    let answer = collect(parts.heap, parts.table, parts.roots, consts, c);
+    let answer = collect(parts.heap, parts.table, parts.roots, parts.consts, c);
     parts.done(answer)
 }
 
@@ -84,14 +89,15 @@ pub fn asks_heap(
 }
 
 // The heap is read, and the question asked. A write is lent so many bytes, and after a collection begins on a line of its own.
-pub fn asks_image(
+pub fn asks_image<'c>(
     out: &mut impl Write,
-    parts: &mut Parts<'_, '_, '_, '_>,
+    parts: &mut Parts<'_, '_, '_, 'c>,
+    consts: &'c mut [u32],
     text: &[u8],
     question: &str,
     room: u32,
 ) -> io::Result<()> {
-    let answer = Answer(read(parts, text));
+    let answer = Answer(read(parts, consts, text));
     match question {
         "read" => writeln!(out, "{answer}"),
         "parts" => {

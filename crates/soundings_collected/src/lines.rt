@@ -29,6 +29,7 @@ fn sounding(out: &mut impl Write, image: &[u8; 256], line: Line<'_>) -> io::Resu
     let mut table = [7; 256];
     let mut roots = [7; 4];
     let mut consts = [9, row[3]];
+    let mut read = consts;
     let mut parts = Parts {
         heap: first_words(&mut heap, row[0]),
         table: &mut table,
@@ -42,7 +43,8 @@ fn sounding(out: &mut impl Write, image: &[u8; 256], line: Line<'_>) -> io::Resu
     }
     let text = changed(image, row[5], line.recipe.as_bytes().first());
     let text = text.get(..row[4] as usize).unwrap_or(&text);
-    asks_image(out, &mut parts, text, line.question, row[3])
+    let read = first_words(&mut read, row[2]);
+    asks_image(out, &mut parts, read, text, line.question, row[3])
 }
 
 // A text of lines. The image's text is for the lines that ask about one.
