@@ -61,6 +61,7 @@ fn finish(
 }
 
 // The collection of a heap that has passed its tests: all living values copied and all else given back, or, where a page lacks, everything as it was.
+#[tactic(auto, using(crate::proofs::Ended::lacks, crate::proofs::Ended::ends), unfolding(motion::specs::Whole::working_collect, motion::specs::Whole::ended, motion::specs::Leaves::begun_notes))]
 pub fn copy_living(
     heap: &mut [u32],
     table: &mut [u32],

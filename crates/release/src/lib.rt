@@ -17,6 +17,7 @@ use rules::{Control, Lent, Refusal, Refused};
 
 // The top region's pages are free again, and its table words are 0. Refused while a root, or a field of a record in another region, points
 // into it.
+#[tactic(auto, using(crate::proofs::Popped::pop_early, crate::proofs::Popped::pop_broken, crate::proofs::Popped::passed_free, crate::proofs::Popped::pop_none, crate::proofs::Popped::pop_held, crate::proofs::Popped::pop_done))]
 pub fn pop(
     heap: &mut [u32],
     table: &mut [u32],

@@ -62,6 +62,7 @@ fn region_used(heap: &[u32], table: &[u32], n: u32, j: Region) -> u32
 }
 
 // The used words of region j, dead values too.
+#[tactic(auto, using(crate::proofs::Asked::used_broken, crate::proofs::Asked::used_within, crate::proofs::Asked::used_no_region, crate::proofs::Asked::used_counted))]
 pub fn used_words(lent: Lent<'_>, j: Region) -> Result<(u32, Control), Refused>
     ensures { result ≡ used_words (store lent.entry) j.0 }
 {
