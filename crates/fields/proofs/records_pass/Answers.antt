@@ -16,7 +16,7 @@ use Rattle.rules.proofs.Nests.{pages_over, regions_go}
 use Rattle.fields.proofs.Turns.{page_records}
 use Rattle.fields.proofs.records_pass.Given.{Over as Bound}
 use Rattle.fields.proofs.records_pass.Goals as goal
-use Rattle.fields.proofs.records_pass.Goals.{Left-values, else-values-test, then-values-test+then-not-fits, After-address_behind-end, After-address_behind-next, After-link_address-base, Left-pages, else-pages-test, then-pages-test+else-link-eq0+then-pages-link, then-pages-test+then-link-eq0}
+use Rattle.fields.proofs.records_pass.Goals.{Left-values, else-values-test, then-values-test+then-not-fits, After-address_behind-end, After-address_behind-next, After-address_behind-first, After-link_address-base, Left-pages, else-pages-test, then-pages-test+else-link-eq0+then-pages-link, then-pages-test+then-link-eq0}
 
 pub pages-init : goal.pages-init
 pages-init g c =
@@ -53,9 +53,13 @@ values-preserved-then-not-is_record g c = sym (raw_go _ _ _ _ _ c.values-test.tr
 pub slice_bounds-w-items-end : goal.slice_bounds-w-items-end
 slice_bounds-w-items-end g c = omega (arith, within g (goal.at.slice_bounds-w-items-end g c).After-address_behind-next (inside g (goal.at.slice_bounds-w-items-end g c).After-address_behind-end))
 
+-- the code's first field is the word behind the header
+first : (g : Bound) (c : After-address_behind-first g) → c.address_behind-first.result.0 ≡ c.values.at.0 + 1
+first g c = omega arith
+
 pub loop-w-init : goal.loop-w-init
 loop-w-init g c =
-    let record_ = record_go _ _ _ _ _ c.values-test.true (inside g (goal.at.loop-w-init g c).After-address_behind-end) (told_true c.fits.ensures c.if-not-fits.false) _ c.address_behind-next.ensures (told_true c.is_record.ensures c.if-not-is_record.false) _ c.address_behind-first.ensures in
+    let record_ = record_go _ _ _ _ _ c.values-test.true (inside g (goal.at.loop-w-init g c).After-address_behind-end) (told_true c.fits.ensures c.if-not-fits.false) _ c.address_behind-next.ensures (told_true c.is_record.ensures c.if-not-is_record.false) _ (first g (goal.at.loop-w-init g c).After-address_behind-first) in
     sym (record_ ∙ part_all _ _ c.address_behind-first.result.0 c.address_behind-next.result.0 _ (omega arith)) ∙ c.values.invariant
 
 pub loop-w-preserved : goal.loop-w-preserved
