@@ -91,7 +91,9 @@ pub struct Memory<'a> {
     pub ghost few: { length consts.now ≤ 65535 },
 }
 
-// Whether a word is a number or a good pointer.
+// Whether a word is a number or a good pointer. It is laid into its callers: the audit asks it of each root and each field, and called, it would have
+// the memory copied for each of them.
+#[inline(always)]
 pub fn good_word(memory: Memory<'_>, w: u32) -> bool
     ensures { let m = memory.entry in result ≡ good_in m.c.n m.c.regions m.heap.now m.consts.now w }
 {
